@@ -1,0 +1,11 @@
+use Rattle.vd_device.proofs.Flights.{put_flies, put_taken}
+use Rattle.vd_device.proofs.now.read_base.Goals as goal
+
+pub wait-requires-clause-mine : goal.wait-requires-clause-mine
+wait-requires-clause-mine g c = put_flies _ _ _ _ c.requires.free.1 c.submit_read-ticket.ensures.flight
+
+pub returns-in-Done-clause-flight : goal.returns-in-Done-clause-flight
+returns-in-Done-clause-flight g c = put_taken _ _ _ _ c.submit_read-ticket.ensures.flight c.in-Done.ensures.settles
+
+pub returns-in-Failed-clause-flight : goal.returns-in-Failed-clause-flight
+returns-in-Failed-clause-flight g c = put_taken _ _ _ _ c.submit_read-ticket.ensures.flight c.in-Failed.ensures.settles.2

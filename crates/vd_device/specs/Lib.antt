@@ -1,0 +1,4 @@
+pub mod Tickets
+pub mod Disks
+pub mod Calls
+pub mod Now
