@@ -1,0 +1,2 @@
+pub mod QuietLaws
+pub mod BackgroundLaws

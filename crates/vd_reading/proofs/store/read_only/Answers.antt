@@ -1,0 +1,18 @@
+use Rattle.std.proofs.Common.{length, [], ap, ◌∙◌}
+use Rattle.vd_device.specs.Now.{read_entries}
+use Rattle.vd_reading.specs.Quiet.{sectors_from}
+use Rattle.vd_reading.proofs.BackgroundLaws.{held_part}
+use Rattle.vd_reading.proofs.QuietLaws.{only_reads, read_idle, on_ok}
+use Rattle.vd_reading.proofs.store.read_only.Goals as goal
+
+pub returns-clause-quiet : goal.returns-clause-quiet
+returns-clause-quiet g c =
+    only_reads (read_entries (g.S.Store.last c.read_now.new.store) c.args.first (length c.args.out.now) c.read_now.new.out c.read_now.result) (read_idle _ _ _ _ _) c.requires.ready.rest (c.read_now.ensures.flight [] c.requires.ready.idle_is)
+    c.read_now.ensures.sectors c.read_now.ensures.depth c.read_now.ensures.calm.0
+    c.read_now.ensures.told_before c.read_now.ensures.told c.read_now.ensures.recorded_before c.read_now.ensures.recorded
+
+pub returns-clause-read : goal.returns-clause-read
+returns-clause-read g c =
+    on_ok c.read_now.result
+    (λ at told. held_part c.args.first c.read_now.new.out _ (at told) ∙ ap (sectors_from (g.S.Store.disk c.read_now.new.store).held c.args.first) c.read_now.auto.out)
+    c.read_now.ensures.read

@@ -1,0 +1,50 @@
+//! Reads of the background: the base in the tracked part of the disk, zeros from there on.
+
+ghost use Rattle.std.specs.Prelude.{◌≡◌, ◌-◌, ◌<◌, ◌≤◌, [], length, min, replicate, OnOk, IfErr};
+ghost use Rattle.vd_reading.specs.Quiet.{IsFault};
+ghost use Rattle.vd_reading.specs.Background.{background_run, zero_sector};
+
+use vd_device::{Base, read_base};
+use vd_law::entry::Sector;
+
+/// How many of `count` sectors from `first` on lie below both the base's end and `tracked`.
+fn sectors_of_base(sectors: u64, tracked: u64, first: u64, count: usize) -> usize
+    ensures { result ≡ min (min sectors tracked - first) count }
+{
+    sectors.min(tracked).saturating_sub(first).min(count as u64) as usize
+}
+
+fn clear(out: &mut [Sector])
+    ensures { out.new ≡ replicate (length out.old) zero_sector }
+{
+    out.fill(Sector::filled(0));
+}
+
+/// Fills `out`, of at most 2,048 sectors, with the background from sector `first` of the disk on, by at most one read of
+/// the base. The error is the failed ticket's number.
+pub fn read_background<B: Base>(
+    base: &mut B,
+    tracked: u64,
+    first: u64,
+    out: &mut [Sector],
+) -> Result<(), u64>
+    requires idle { B.flies base.old [] }
+    requires most { length out.old ≤ 2048 }
+    ensures idle { B.flies base.new [] }
+    ensures sectors { B.sectors base.new ≡ B.sectors base.old }
+    ensures calm { B.faults base.old ≤ B.faults base.new }
+    ensures fault { IfErr result (λ number. IsFault number (B.last base.new) (B.faults base.old) (B.faults base.new)) }
+    ensures told_before { B.tells base.new → B.tells base.old }
+    ensures content { B.tells base.new → B.content base.new ≡ B.content base.old }
+    ensures size { length out.new ≡ length out.old }
+    ensures read { OnOk result (B.tells base.new → out.new ≡ background_run (B.content base.new) tracked first (length out.old)) }
+{
+    let _depth = base.depth();
+    let count = sectors_of_base(base.sectors(), tracked, first, out.len());
+    let (front, rest) = out.split_at_mut(count);
+    clear(rest);
+    if count > 0 {
+        read_base(base, first, front)?;
+    }
+    Ok(())
+}

@@ -1,0 +1,41 @@
+//! Calls on a store that is at rest, which leave what it holds as it is.
+
+ghost use Rattle.std.specs.Prelude.{◌≡◌, [], length, OnOk, IfErr};
+ghost use Rattle.vd_device.specs.Tickets.{IsRange};
+ghost use Rattle.vd_reading.specs.Quiet.{sectors_from, IsReady, OnlyReads, IsFault};
+
+use vd_device::{Store, flush_now, read_now};
+use vd_law::entry::Sector;
+
+/// The number of sectors of a store with nothing in flight, which is ready then: no write is open in its log.
+pub fn sectors_at_rest<S: Store>(store: &S) -> u64
+    requires idle { S.flies store.now [] }
+    ensures value { result ≡ S.sectors store.now }
+    ensures ready { IsReady (S.flies store.now []) (S.depth store.now) (S.tells store.now) (S.disk store.now) }
+    ensures held { S.tells store.now → length (S.disk store.now).held ≡ result }
+{
+    let _depth = store.depth();
+    let _flying = store.in_flight();
+    store.sectors()
+}
+
+/// Makes durable what was written before. Nothing that is held changes. The error is the failed ticket's number.
+pub fn flush_only<S: Store>(store: &mut S) -> Result<(), u64>
+    requires ready { IsReady (S.flies store.old []) (S.depth store.old) (S.tells store.old) (S.disk store.old) }
+    ensures fault { IfErr result (λ number. IsFault number (S.last store.new) (S.faults store.old) (S.faults store.new)) }
+    ensures quiet { OnlyReads (S.flies store.new []) (S.sectors store.old) (S.sectors store.new) (S.depth store.old) (S.depth store.new) (S.faults store.old) (S.faults store.new) (S.tells store.old) (S.tells store.new) (S.records store.old) (S.records store.new) (S.disk store.old) (S.disk store.new) }
+{
+    flush_now(store)
+}
+
+/// Reads the sectors from `first` on into `out`, at most 2,048. Nothing that is held changes. The error is the failed ticket's number.
+pub fn read_only<S: Store>(store: &mut S, first: u64, out: &mut [Sector]) -> Result<(), u64>
+    requires ready { IsReady (S.flies store.old []) (S.depth store.old) (S.tells store.old) (S.disk store.old) }
+    requires range { IsRange (S.sectors store.old) first (length out.old) }
+    ensures fault { IfErr result (λ number. IsFault number (S.last store.new) (S.faults store.old) (S.faults store.new)) }
+    ensures quiet { OnlyReads (S.flies store.new []) (S.sectors store.old) (S.sectors store.new) (S.depth store.old) (S.depth store.new) (S.faults store.old) (S.faults store.new) (S.tells store.old) (S.tells store.new) (S.records store.old) (S.records store.new) (S.disk store.old) (S.disk store.new) }
+    ensures size { length out.new ≡ length out.old }
+    ensures read { OnOk result (S.tells store.new → out.new ≡ sectors_from (S.disk store.new).held first (length out.old)) }
+{
+    read_now(store, first, out)
+}
