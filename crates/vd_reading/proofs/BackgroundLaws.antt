@@ -35,34 +35,34 @@ slice_get_run f a n i h =
 
 in_place : (first : ℕ) (content : List Sector) (i : ℕ) (v : Sector) → slice_get content i ≡ Some v → sector_in first content (first + i) ≡ Some v
 in_place first content i v h = elim (leb_tells first (first + i)) [
-    | inl inside ↦ ap (λ (b : Bool). if b then slice_get content (first + i - first) else None) inside.0 ∙ ap (slice_get content) (omega arith) ∙ h
-    | inr before ↦ absurd (omega arith)
-  ]
+  | inl inside ↦ ap (λ (b : Bool). if b then slice_get content (first + i - first) else None) inside.0 ∙ ap (slice_get content) (omega arith) ∙ h
+  | inr before ↦ absurd (omega arith)
+]
 
 below : (content : List Sector) (tracked s : ℕ) (v : Sector) → s < tracked → slice_get content s ≡ Some v → background content tracked s ≡ v
 below content tracked s v h at = elim (leb_tells (suc s) tracked) [
-    | inl yes' ↦ ap (λ (b : Bool). if b then base_at content s else zero_sector) yes'.0 ∙ ap (λ (o : Option Sector). unwrap_or o zero_sector) at
-    | inr no' ↦ absurd (omega arith)
-  ]
+  | inl yes' ↦ ap (λ (b : Bool). if b then base_at content s else zero_sector) yes'.0 ∙ ap (λ (o : Option Sector). unwrap_or o zero_sector) at
+  | inr no' ↦ absurd (omega arith)
+]
 
 above : (content : List Sector) (tracked s : ℕ) → min (length content) tracked ≤ s → background content tracked s ≡ zero_sector
 above content tracked s h = elim (leb_tells (suc s) tracked) [
-    | inl yes' ↦ ap (λ (b : Bool). if b then base_at content s else zero_sector) yes'.0 ∙ ap (λ (o : Option Sector). unwrap_or o zero_sector) (slice_get_past content s (omega arith))
-    | inr no' ↦ ap (λ (b : Bool). if b then base_at content s else zero_sector) no'.0
-  ]
+  | inl yes' ↦ ap (λ (b : Bool). if b then base_at content s else zero_sector) yes'.0 ∙ ap (λ (o : Option Sector). unwrap_or o zero_sector) (slice_get_past content s (omega arith))
+  | inr no' ↦ ap (λ (b : Bool). if b then base_at content s else zero_sector) no'.0
+]
 
 -- sector `first + i` of the background, by the two parts
 part : (content front : List Sector) (tracked first n i : ℕ) → length front ≡ min (min (length content) tracked - first) n → (0 < length front → IsHeld first front content) → i < n
     → slice_get (front ++ replicate (n - length front) zero_sector) i ≡ Some (background content tracked (first + i))
 part content front tracked first n i size held h = elim (leb_tells (suc i) (length front)) [
-    | inl here ↦ (let near : i < length front = omega arith in
-        let v = get_or front i zero_sector in
-        let at : slice_get front i ≡ Some v = slice_get-get_or front i zero_sector near in
-        slice_get_front front _ i near ∙ at ∙ ap Some (sym (below content tracked (first + i) v (omega arith) (held (omega arith) (first + i) v (in_place first front i v at)))))
-    | inr past ↦ (let far : length front ≤ i = omega arith in
-        slice_get_back front _ i far ∙ slice_get_replicate (n - length front) zero_sector (i - length front) (omega arith)
-        ∙ ap Some (sym (above content tracked (first + i) (omega arith))))
-  ]
+  | inl here ↦ (let near : i < length front = omega arith in
+      let v = get_or front i zero_sector in
+      let at : slice_get front i ≡ Some v = slice_get-get_or front i zero_sector near in
+      slice_get_front front _ i near ∙ at ∙ ap Some (sym (below content tracked (first + i) v (omega arith) (held (omega arith) (first + i) v (in_place first front i v at)))))
+  | inr past ↦ (let far : length front ≤ i = omega arith in
+      slice_get_back front _ i far ∙ slice_get_replicate (n - length front) zero_sector (i - length front) (omega arith)
+      ∙ ap Some (sym (above content tracked (first + i) (omega arith))))
+]
 
 -- what was read of the base, and zeros from there on
 pub two_parts : (content front : List Sector) (tracked first n : ℕ) → length front ≡ min (min (length content) tracked - first) n → (0 < length front → IsHeld first front content)

@@ -64,9 +64,9 @@ no_write_take (suc n) (e ∷ es) none = (none.0, no_write_take n es none.1)
 
 pub recorded_after : (es : List Entry) (before after : ℕ) (old new : Disk) → AllByRecursion IsIdle es → RecordsSome es before after old new → AddsNoWrite old new
 recorded_after es before after old new idle r = elim r.goes_on [
-    | inl runs ↦ record { start = r.start; more = es; none = no_write es idle; log = runs.2 }
-    | inr stops ↦ record { start = r.start; more = take stops.1 es; none = no_write_take stops.1 es (no_write es idle); log = stops.2 }
-  ]
+  | inl runs ↦ record { start = r.start; more = es; none = no_write es idle; log = runs.2 }
+  | inr stops ↦ record { start = r.start; more = take stops.1 es; none = no_write_take stops.1 es (no_write es idle); log = stops.2 }
+]
 
 pub read_idle : (number first count : ℕ) (out : List Sector) (result : Result ⊤ ℕ) → AllByRecursion IsIdle (read_entries number first count out result)
 read_idle number first count out (Ok done) = (tt, (tt, tt))
@@ -88,7 +88,7 @@ only_reads es {before = before} {after = after} {old = old} {new = new} only_idl
   calm = calm;
   told_before = told_before;
   held = λ t. held_after es old new only_idle (told t) (rest (told_before t));
-  rest = λ t. rest_after es old new only_idle (told t).log (rest (told_before t));
+  rest = λ r t. rest_after es old new only_idle (told t).log (r (told_before t));
   recorded_before = recorded_before;
   recorded = λ r. recorded_after es before after old new only_idle (recorded r);
 }
@@ -115,21 +115,21 @@ reads_twice {a = a} {b = b} {c = c} x y = record {
   calm = (let p = x.calm in let q = y.calm in omega arith);
   told_before = λ t. x.told_before (y.told_before t);
   held = λ t. y.held t ∙ x.held (y.told_before t);
-  rest = y.rest;
+  rest = λ r. y.rest (x.rest r);
   recorded_before = λ r. x.recorded_before (y.recorded_before r);
   recorded = λ r. adds_twice a b c (x.recorded (y.recorded_before r)) (y.recorded r);
 }
 
--- a store that is ready, and does nothing, only reads
-pub reads_nothing : {idle : Type 0} {sectors depth faults : ℕ} {tells records : Type 0} {d : Disk} → IsReady idle depth tells d → OnlyReads idle sectors sectors depth depth faults faults tells tells records records d d
-reads_nothing ready = record {
-  idle = ready.idle_is;
+-- a store that does nothing only reads
+pub reads_nothing : {idle : Type 0} {sectors depth faults : ℕ} {tells records : Type 0} {d : Disk} → idle → OnlyReads idle sectors sectors depth depth faults faults tells tells records records d d
+reads_nothing idle = record {
+  idle = idle;
   sectors_same = refl;
   depth_same = refl;
   calm = omega arith;
   told_before = λ t. t;
   held = λ t. refl;
-  rest = ready.rest;
+  rest = λ r. r;
   recorded_before = λ r. r;
   recorded = λ r. record { start = refl; more = []; none = tt; log = sym (append-nil _) };
 }
@@ -137,7 +137,7 @@ reads_nothing ready = record {
 -- it is ready after such calls
 pub ready_again : {idle idle' : Type 0} {sectors sectors' depth depth' faults faults' : ℕ} {tells tells' records records' : Type 0} {old new : Disk} → IsReady idle depth tells old
     → OnlyReads idle' sectors sectors' depth depth' faults faults' tells tells' records records' old new → IsReady idle' depth' tells' new
-ready_again ready reads = record { idle_is = reads.idle; deep = (let e = reads.depth_same in let d = ready.deep in omega arith); rest = reads.rest }
+ready_again ready reads = record { idle_is = reads.idle; deep = (let e = reads.depth_same in let d = ready.deep in omega arith); rest = reads.rest ready.rest }
 
 pub on_ok : {T E : Type 0} {P Q : Type 0} (r : Result T E) → (P → Q) → OnOk r P → OnOk r Q
 on_ok (Ok t) f p = f p

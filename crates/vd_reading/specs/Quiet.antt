@@ -33,7 +33,7 @@ pub record IsReady (idle : Type 0) (depth : ℕ) (tells : Type 0) (d : Disk) : T
   pub rest : tells → IsAtRest d
 
 -- What calls leave that only read: the store is as large as it was, with nothing in flight, and no count has fallen. Where
--- it tells its contents it told them before, none has changed and no write is open; where its log is told no write was begun.
+-- it tells its contents it told them before, none has changed, and no write is open if none was; where its log is told no write was begun.
 pub record OnlyReads (idle' : Type 0) (sectors sectors' depth depth' faults faults' : ℕ) (tells tells' records records' : Type 0) (old new : Disk) : Type 0 where
   pub idle : idle'
   pub sectors_same : sectors' ≡ sectors
@@ -41,7 +41,7 @@ pub record OnlyReads (idle' : Type 0) (sectors sectors' depth depth' faults faul
   pub calm : faults ≤ faults'
   pub told_before : tells' → tells
   pub held : tells' → new.held ≡ old.held
-  pub rest : tells' → IsAtRest new
+  pub rest : (tells → IsAtRest old) → tells' → IsAtRest new
   pub recorded_before : records' → records
   pub recorded : records' → AddsNoWrite old new
 
@@ -49,3 +49,11 @@ pub record OnlyReads (idle' : Type 0) (sectors sectors' depth depth' faults faul
 pub record IsFault (number last faults faults' : ℕ) : Type 0 where
   pub ticket : number ≡ last
   pub rose : Rose faults faults'
+
+-- What calls on a base leave: nothing in flight, and what it told it tells still, the same.
+pub record OnlyReadsBase (idle' : Type 0) (sectors sectors' faults faults' : ℕ) (tells tells' : Type 0) (content content' : List Sector) : Type 0 where
+  pub idle : idle'
+  pub sectors_same : sectors' ≡ sectors
+  pub calm : faults ≤ faults'
+  pub told_before : tells' → tells
+  pub content_same : tells' → content' ≡ content

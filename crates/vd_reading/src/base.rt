@@ -1,7 +1,7 @@
 //! Reads of the background: the base in the tracked part of the disk, zeros from there on.
 
 ghost use Rattle.std.specs.Prelude.{◌≡◌, ◌-◌, ◌<◌, ◌≤◌, [], length, min, replicate, OnOk, IfErr};
-ghost use Rattle.vd_reading.specs.Quiet.{IsFault};
+ghost use Rattle.vd_reading.specs.Quiet.{OnlyReadsBase, IsFault};
 ghost use Rattle.vd_reading.specs.Background.{background_run, zero_sector};
 
 use vd_device::{Base, read_base};
@@ -30,12 +30,8 @@ pub fn read_background<B: Base>(
 ) -> Result<(), u64>
     requires idle { B.flies base.old [] }
     requires most { length out.old ≤ 2048 }
-    ensures idle { B.flies base.new [] }
-    ensures sectors { B.sectors base.new ≡ B.sectors base.old }
-    ensures calm { B.faults base.old ≤ B.faults base.new }
+    ensures quiet { OnlyReadsBase (B.flies base.new []) (B.sectors base.old) (B.sectors base.new) (B.faults base.old) (B.faults base.new) (B.tells base.old) (B.tells base.new) (B.content base.old) (B.content base.new) }
     ensures fault { IfErr result (λ number. IsFault number (B.last base.new) (B.faults base.old) (B.faults base.new)) }
-    ensures told_before { B.tells base.new → B.tells base.old }
-    ensures content { B.tells base.new → B.content base.new ≡ B.content base.old }
     ensures size { length out.new ≡ length out.old }
     ensures read { OnOk result (B.tells base.new → out.new ≡ background_run (B.content base.new) tracked first (length out.old)) }
 {

@@ -1,7 +1,8 @@
 //! Calls on a store that is at rest, which leave what it holds as it is.
 
-ghost use Rattle.std.specs.Prelude.{◌≡◌, [], length, OnOk, IfErr};
+ghost use Rattle.std.specs.Prelude.{◌≡◌, ◌++◌, [], length, OnOk, IfErr};
 ghost use Rattle.vd_device.specs.Tickets.{IsRange};
+ghost use Rattle.vd_device.specs.Now.{flush_entries};
 ghost use Rattle.vd_reading.specs.Quiet.{sectors_from, IsReady, OnlyReads, IsFault};
 
 use vd_device::{Store, flush_now, read_now};
@@ -24,6 +25,7 @@ pub fn flush_only<S: Store>(store: &mut S) -> Result<(), u64>
     requires ready { IsReady (S.flies store.old []) (S.depth store.old) (S.tells store.old) (S.disk store.old) }
     ensures fault { IfErr result (λ number. IsFault number (S.last store.new) (S.faults store.old) (S.faults store.new)) }
     ensures quiet { OnlyReads (S.flies store.new []) (S.sectors store.old) (S.sectors store.new) (S.depth store.old) (S.depth store.new) (S.faults store.old) (S.faults store.new) (S.tells store.old) (S.tells store.new) (S.records store.old) (S.records store.new) (S.disk store.old) (S.disk store.new) }
+    ensures flushed { S.tells store.new → (S.disk store.new).log ≡ (S.disk store.old).log ++ flush_entries (S.last store.new) result }
 {
     flush_now(store)
 }

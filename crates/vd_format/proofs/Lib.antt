@@ -1,0 +1,10 @@
+pub mod Bytes
+pub mod Rules
+pub mod Headers
+pub mod Bits
+pub mod Entries
+pub mod Facts
+pub mod Records
+pub mod Slots
+pub mod Pages
+pub mod Writing

@@ -1,0 +1,5 @@
+pub mod Numbers
+pub mod Layouts
+pub mod Headers
+pub mod Entries
+pub mod Records
