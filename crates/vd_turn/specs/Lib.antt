@@ -1,0 +1,5 @@
+pub mod Values
+pub mod Lists
+pub mod Board
+pub mod Holding
+pub mod Passes
