@@ -1,0 +1,10 @@
+pub mod BitLaws
+pub mod RowLaws
+pub mod RowSearch
+pub mod RowFills
+pub mod Splices
+pub mod SetLaws
+pub mod SummaryLaws
+pub mod MarkedLaws
+pub mod LowestLaws
+pub mod Chunks

@@ -1,0 +1,4 @@
+use Rattle.vd_bits.proofs.marked.Marked.+new.Given as goal
+
+abbrev pub decreases-new : goal.decreases-new
+decreases-new l = l.pages

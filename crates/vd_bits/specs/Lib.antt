@@ -1,0 +1,7 @@
+pub mod Masks
+pub mod Marks
+pub mod Rows
+pub mod Blocks
+pub mod Summaries
+pub mod Levels
+pub mod BitFields

@@ -1,0 +1,147 @@
+//! A set of numbers below a bound: marked pages, the chunks that a flush must log, free storage chunks.
+//!
+//! Above the flags of the numbers stand the flags of their words of 64, up to a level of at most 64 flags. So a
+//! search for the lowest member goes up and down these levels, one word on each: at most five words for a set of
+//! numbers below 16,777,216 in four levels, and never the words between.
+
+ghost use Rattle.std.specs.Prelude.{◌≡◌, ℕ, ◌<◌, false, true, Some, length, replicate, IfOk, IfSome, IsNone, ◌↔◌, slice_set, slice_get};
+ghost use Rattle.vd_bits.specs.Marks.{IsLowest, NoneFrom, count_true};
+
+use crate::flags::Flags;
+use std::alloc::Global;
+use std::marker::Model;
+use vd_law::entry::NoMemory;
+
+/// The members of a set, which clauses see as a truth value for each number below the bound.
+#[cycle(marked)]
+#[derive(Drop)]
+pub struct Marked {
+    flags: Flags,
+    count: u64,
+    above: Above,
+}
+
+/// The words that have a member, where there is more than one word.
+#[cycle(marked)]
+#[derive(Drop)]
+enum Above {
+    Nothing,
+    Words(Box<Marked>),
+}
+
+impl Model for Marked {
+    ghost use Rattle.std.specs.Prelude.{List, Bool, length};
+
+    ghost Value = { List Bool };
+
+    ghost use Rattle.vd_bits.specs.Summaries.{IsCounted};
+
+    ghost view = { λ set. set.flags };
+
+    ghost invariant = { IsCounted };
+
+    ghost size = { length };
+
+    ghost use Rattle.vd_bits.specs.Levels.{above_is_shorter};
+
+    ghost size_decreases = { λ set h. above_is_shorter set.flags set.above h.covered };
+}
+
+impl Marked {
+    /// No number below `pages` is marked.
+    pub fn new(alloc: Global, pages: u64) -> Result<Marked, NoMemory>
+        ensures { IfOk result (λ marked. marked ≡ replicate pages false) }
+    {
+        let flags = Flags::new(alloc, pages)?;
+        let above = if pages <= 64 {
+            Above::Nothing
+        } else {
+            let words = Marked::new(alloc, pages.div_ceil(64))?;
+            let Ok(words) = Box::new(alloc, words) else {
+                return Err(NoMemory);
+            };
+            Above::Words(words)
+        };
+        Ok(Marked {
+            flags,
+            count: 0,
+            above,
+        })
+    }
+
+    /// Marks all numbers.
+    pub fn mark_all(&mut self)
+        ensures { self.new ≡ replicate (length self.old) true }
+    {
+        self.flags.raise();
+        self.count = self.flags.len();
+        if let Above::Words(words) = &mut self.above {
+            words.mark_all();
+        }
+    }
+
+    pub fn mark(&mut self, page: u64)
+        requires { page < length self.old }
+        ensures { self.new ≡ slice_set self.old page true }
+    {
+        if self.flags.get(page) {
+            return;
+        }
+        self.flags.put(page, true);
+        self.count += 1;
+        if let Above::Words(words) = &mut self.above {
+            words.mark(page / 64);
+        }
+    }
+
+    pub fn unmark(&mut self, page: u64)
+        requires { page < length self.old }
+        ensures { self.new ≡ slice_set self.old page false }
+    {
+        if !self.flags.get(page) {
+            return;
+        }
+        self.flags.put(page, false);
+        self.count -= 1;
+        let word = page / 64;
+        if self.flags.lowest_from(word * 64).is_some() {
+            return;
+        }
+        if let Above::Words(words) = &mut self.above {
+            words.unmark(word);
+        }
+    }
+
+    /// The lowest marked number.
+    pub fn first(&self) -> Option<u64>
+        ensures lowest { IfSome result (IsLowest self.now 0) }
+        ensures none { IsNone result ↔ NoneFrom self.now 0 }
+    {
+        self.first_from(0)
+    }
+
+    /// The lowest marked number from `from` on.
+    ///
+    /// A flush goes over the chunks that it must log by this call alone, each time from one past the last chunk that
+    /// it had: in rising order, 24 to a record, at a cost of its chunks.
+    pub fn first_from(&self, from: u64) -> Option<u64>
+        ensures lowest { IfSome result (IsLowest self.now from) }
+        ensures none { IsNone result ↔ NoneFrom self.now from }
+    {
+        if let Some(page) = self.flags.lowest_from(from) {
+            return Some(page);
+        }
+        let Above::Words(words) = &self.above else {
+            return None;
+        };
+        let word = words.first_from(from / 64 + 1)?;
+        self.flags.lowest_from(word * 64)
+    }
+
+    /// How many numbers are marked.
+    pub fn count(&self) -> u64
+        ensures { result ≡ count_true self.now }
+    {
+        self.count
+    }
+}
