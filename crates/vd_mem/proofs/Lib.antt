@@ -1,0 +1,16 @@
+pub mod Flights
+pub mod Sectors
+pub mod Opens
+pub mod Flying
+pub mod Honest
+pub mod Choosing
+pub mod Submits
+pub mod Ending
+pub mod Views
+pub mod Bases
+pub mod Tracing
+pub mod Beginning
+pub mod Counting
+pub mod Laying
+pub mod Choice
+pub mod Fuses

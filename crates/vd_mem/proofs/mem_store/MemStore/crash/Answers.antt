@@ -1,0 +1,38 @@
+use Rattle.std.proofs.Common.{◌≡◌, ℕ, ◌≤◌, ◌<◌, List, Some, length, refl, sym, ap, ◌∙◌, subst, arith}
+use Rattle.std.specs.Prelude.{slice_get}
+use Rattle.vd_law.specs.declared.entry.Sector.{Sector}
+use Rattle.vd_law.specs.Contents.{may}
+use Rattle.vd_device.specs.Disks.{Disk}
+use Rattle.vd_mem.specs.declared.versions.Versions.{Versions}
+use Rattle.vd_mem.specs.Choices.{asked, contents_at, IsChosen}
+use Rattle.vd_mem.specs.Versions.{counts_in}
+use Rattle.vd_mem.specs.Memory.{disk_of}
+use Rattle.vd_mem.specs.StoreFields.{memory_of}
+use Rattle.vd_mem.proofs.Choice.{asked-same, counted-fit, counts-same, target, after-target, image-chosen, chosen-each, chosen-allowed}
+use Rattle.vd_mem.proofs.mem_store.MemStore.crash.Goals as goal
+
+pub choose_all-requires : goal.choose_all-requires
+choose_all-requires g c = record {
+  firm = counted-fit (disk_of (memory_of c.self.inside)) c.count.new.all.items (c.count.ensures.size ∙ c.self.invariant.scratch) c.count.ensures.written c.count.ensures.firm c.self.invariant.sound.short;
+}
+
+pub returns-clause-image : goal.returns-clause-image
+returns-clause-image g c =
+    let d = disk_of (memory_of c.self.inside) in let all = c.count.new.all.items in let size = c.count.ensures.size ∙ c.self.invariant.scratch in
+    let goal_of : ℕ → ℕ = target d all size c.count.ensures.written c.count.ensures.firm g.C.Chooser.choice c.args.chooser.now in
+    rw (sym c.self.view_is)
+    (image-chosen d all size c.count.ensures.written c.count.ensures.firm g.C.Chooser.choice c.args.chooser.now c.lay_all.new.image.items c.lay_all.ensures.image_size
+    (c.lay_all.ensures.image goal_of
+    (chosen-each g.C.Chooser.choice c.args.chooser.now all c.choose_all.new.all.items goal_of c.choose_all.ensures.size c.choose_all.ensures.each
+    (after-target d all size c.count.ensures.written c.count.ensures.firm g.C.Chooser.choice c.args.chooser.now))))
+
+pub returns-clause-asked : goal.returns-clause-asked
+returns-clause-asked g c =
+    let d = disk_of (memory_of c.self.inside) in let all = c.count.new.all.items in let size = c.count.ensures.size ∙ c.self.invariant.scratch in
+    rw (sym c.self.view_is) (c.choose_all.ensures.chooser
+    ∙ ap (asked g.C.Chooser.choice c.args.chooser.now (counts_in all)) size
+    ∙ asked-same g.C.Chooser.choice c.args.chooser.now (counts_in all) (contents_at d) (length c.self.inside.start.items)
+    (counts-same d all size c.count.ensures.written c.count.ensures.firm (length c.self.inside.start.items) (omega arith)))
+
+pub returns-clause-allowed : goal.returns-clause-allowed
+returns-clause-allowed g c = chosen-allowed g.C.Chooser.choice c.args.chooser.now (disk_of c.args.self) c.lay_all.new.image.items (returns-clause-image g c)

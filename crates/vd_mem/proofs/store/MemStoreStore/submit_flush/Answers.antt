@@ -1,0 +1,54 @@
+use Rattle.std.proofs.Common.{◌≡◌, ℕ, ◌^◌, ◌<◌, List, [], ◌∷◌, length, refl, sym, ◌∙◌, ap, subst}
+use Rattle.vd_law.specs.declared.entry.Sector.{Sector}
+use Rattle.vd_law.specs.declared.entry.CallId.{CallId}
+use Rattle.vd_law.specs.Entries.{Flush, Entry, Ask}
+use Rattle.vd_device.specs.Tickets.{Puts, ticket_id}
+use Rattle.vd_device.specs.Calls.{asked_flush}
+use Rattle.vd_device.specs.Disks.{Adds}
+use Rattle.vd_mem.specs.Tapes.{taped}
+use Rattle.vd_mem.specs.Memory.{Memory, Runs, disk_of, submitted}
+use Rattle.vd_mem.specs.Flying.{Flies}
+use Rattle.vd_mem.specs.Sound.{IsSound}
+use Rattle.vd_mem.specs.Traced.{IsTraced}
+use Rattle.vd_mem.specs.StoreFields.{memory_of}
+use Rattle.vd_mem.proofs.Submits.{IsSubmit, submit-puts, submit-adds, submit-sound}
+use Rattle.vd_mem.proofs.Tracing.{submit-traced}
+use Rattle.vd_mem.proofs.Views.{memory, memory-submitted, flush-submit}
+use Rattle.vd_mem.proofs.store.MemStoreStore.submit_flush.Goals as goal
+
+abbrev before : goal.After-new → Memory
+before c = memory_of c.self.inside
+
+abbrev after : goal.After-new → Memory
+after c = memory c.self.inside.start.items c.self.inside.held.items c.add.new.self c.submit-number.new.self
+
+abbrev entry : goal.After-new → Entry
+entry c = asked_flush c.new.result
+
+entry-is : (c : goal.After-new) → Ask c.call_of-id.result Flush ≡ entry c
+entry-is c = ap (λ (id : CallId). Ask id Flush) (c.call_of-id.ensures ∙ ap (λ (n : ℕ). record { pass = 0; call = n }) (sym c.new.ensures.number))
+
+on_tape : (c : goal.After-new) → c.add.new.self ≡ taped (entry c) c.len-place.result c.self.inside.tape
+on_tape c = c.add.ensures.after ∙ ap (λ (e : Entry). taped e c.len-place.result c.self.inside.tape) (entry-is c)
+
+is : (c : goal.After-new) → after c ≡ submitted (entry c) (before c)
+is c = memory-submitted c.self.inside.start.items c.self.inside.held.items c.self.inside.tape c.add.new.self c.self.inside.tickets c.submit-number.new.self (entry c) c.len-place.result (on_tape c) c.submit-number.ensures.after
+
+submit : (c : goal.After-new) → IsSubmit (before c) c.new.result (entry c)
+submit c = flush-submit (before c) c.new.result (c.new.ensures.number ∙ c.submit-number.ensures.number) c.new.ensures.kind c.new.ensures.first c.new.ensures.count (c.new.ensures.mark ∙ c.len-place.ensures)
+
+pub invariant_of-self : goal.invariant_of-self
+invariant_of-self c = record {
+  sound = subst IsSound (sym (is c)) (submit-sound (before c) c.new.result (entry c) (submit c) c.self.invariant.sound (subst (λ (m : Memory). length m.log.entries < 2 ^ 63) (is c) c.add.ensures.short));
+  traced = subst (IsTraced (length c.self.inside.start.items)) (sym (on_tape c ∙ ap (λ (k : ℕ). taped (entry c) k c.self.inside.tape) (sym c.new.ensures.mark)))
+      (submit-traced (before c) c.new.result (entry c) c.self.inside.tape (submit c) refl c.self.invariant.traced);
+  scratch = c.self.invariant.scratch;
+}
+
+pub returns-clause-flight : goal.returns-clause-flight
+returns-clause-flight c =
+    rw (sym c.self.view_is) (subst (λ (m : Memory). Puts c.new.result (Flies (before c)) (Flies m)) (sym (is c)) (submit-puts (before c) c.new.result (entry c) (submit c) c.self.invariant.sound))
+
+pub returns-clause-told : goal.returns-clause-told
+returns-clause-told c =
+    rw (sym c.self.view_is) (subst (λ (m : Memory). Runs m → Adds (entry c) (disk_of (before c)) (disk_of m)) (sym (is c)) (submit-adds (before c) c.new.result (entry c) (submit c) c.self.invariant.sound))

@@ -1,0 +1,14 @@
+-- What the fields of a base in memory stand for.
+use Rattle.vd_mem.specs.declared.mem_base.MemBase.TheInside.{Inside}
+use Rattle.vd_mem.specs.BaseMemory.{BaseMemory}
+
+abbrev pub base_of : Inside → BaseMemory
+base_of b = record {
+  content = b.content.items;
+  rules = b.tickets.rules;
+  last = b.tickets.last;
+  flying = b.tickets.flying;
+  ended = b.tickets.ended;
+  faults = b.tickets.faults;
+  late = b.tickets.late;
+}

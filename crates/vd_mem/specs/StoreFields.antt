@@ -1,0 +1,27 @@
+-- What the fields of a store in memory stand for, and what holds of them.
+use Rattle.std.specs.Prelude.{◌≡◌, length}
+use Rattle.vd_mem.specs.declared.mem_store.MemStore.TheInside.{Inside}
+use Rattle.vd_mem.specs.Memory.{Memory}
+use Rattle.vd_mem.specs.Sound.{IsSound}
+use Rattle.vd_mem.specs.Traced.{IsTraced}
+
+abbrev pub memory_of : Inside → Memory
+memory_of m = record {
+  start = m.start.items;
+  held = m.held.items;
+  log = m.tape.log;
+  fuse = m.tape.fuse;
+  over = m.tape.over;
+  rules = m.tickets.rules;
+  last = m.tickets.last;
+  flying = m.tickets.flying;
+  ended = m.tickets.ended;
+  faults = m.tickets.faults;
+  late = m.tickets.late;
+}
+
+pub record IsStore (m : Inside) : Type 0 where
+  pub sound : IsSound (memory_of m)
+  pub traced : IsTraced (length m.start.items) m.tape
+  -- the room for a crash was reserved
+  pub scratch : length m.versions.items ≡ length m.start.items

@@ -1,0 +1,180 @@
+//! A store that stops after so many events.
+
+ghost use Rattle.std.specs.Prelude.{◌≡◌, Some, None, ◌≢◌, ◌+◌, ◌-◌, ◌<◌, ◌≤◌, ℕ, List, [], ◌∷◌, length};
+ghost use Rattle.vd_device.specs.declared.ticket.Ticket.{Ticket as AnyTicket};
+ghost use Rattle.vd_device.specs.declared.ticket.Kind.TheVariants.{Read, Write, Flush};
+ghost use Rattle.vd_device.specs.Tickets.{IsRange, HasPlace, IsFree, IsInFlight, Puts, IsTicket, reads};
+ghost use Rattle.vd_device.specs.Disks.{Adds, AreWrites, IsRunning, Records};
+ghost use Rattle.vd_device.specs.Calls.{IsCalm, Settles, Tells, IsCaused, next_number, asked_read, asked_flush, issued, settled_of, settle_entries};
+ghost use Rattle.vd_mem.specs.Tapes.{events_of};
+ghost use Rattle.vd_mem.specs.Memory.{Runs, disk_of, submitted, waited, wait_answer, polled_once, settle_answer, is_late};
+ghost use Rattle.vd_mem.specs.Flying.{Flies};
+
+use crate::mem_store::MemStore;
+use vd_device::{Settled, Store, Ticket, Waited};
+use vd_law::entry::Sector;
+
+/// Passes calls to a store until its log has so many events. The next submit, settle or wait stops the store.
+#[derive(Drop)]
+pub struct Fuse {
+    pub inner: MemStore,
+}
+
+impl Fuse {
+    pub fn new(inner: MemStore, events: u64) -> Fuse
+        ensures { result.inner ≡ record inner { fuse = Some events } }
+    {
+        Fuse {
+            inner: inner.with_fuse(Some(events)),
+        }
+    }
+
+    /// The store as it stands, with no fuse.
+    pub fn into_inner(self) -> MemStore
+        ensures { result ≡ record self.inner { fuse = None } }
+    {
+        let Fuse { inner } = self;
+        inner.with_fuse(None)
+    }
+}
+
+impl Store for Fuse {
+    ghost use Rattle.std.specs.Prelude.{length};
+    ghost use Rattle.vd_mem.specs.Tapes.{events_of};
+    ghost use Rattle.vd_mem.specs.Memory.{Runs, disk_of};
+    ghost use Rattle.vd_mem.specs.Flying.{Flies};
+
+    ghost tells = { λ f. Runs f.inner };
+
+    ghost records = { λ f. Unit {0} };
+
+    ghost disk = { λ f. disk_of f.inner };
+
+    ghost flies = { λ f. Flies f.inner };
+
+    ghost sectors = { λ f. length f.inner.start };
+
+    ghost depth = { λ f. 128 };
+
+    ghost faults = { λ f. f.inner.faults };
+
+    ghost late = { λ f. f.inner.late };
+
+    ghost events = { λ f. events_of f.inner.log f.inner.over };
+
+    ghost last = { λ f. f.inner.last };
+
+    fn sectors(&self) -> u64 {
+        self.inner.sectors()
+    }
+
+    fn depth(&self) -> u64 {
+        self.inner.depth()
+    }
+
+    fn faults(&self) -> u64 {
+        self.inner.faults()
+    }
+
+    fn late(&self) -> u64 {
+        self.inner.late()
+    }
+
+    fn in_flight(&self) -> u64 {
+        self.inner.in_flight()
+    }
+
+    fn events(&self) -> u64 {
+        self.inner.events()
+    }
+
+    fn submit_write(&mut self, first: u64, content: &[Sector]) -> Ticket
+        requires range { IsRange (length self.old.inner.start) first (length content.now) }
+        requires free { IsFree (Flies self.old.inner) 128 first (length content.now) }
+        ensures ticket { IsTicket result Write first (length content.now) }
+        ensures number { result.number ≡ next_number self.old.inner.last }
+        ensures last { self.new.inner.last ≡ result.number }
+        ensures flight { Puts result (Flies self.old.inner) (Flies self.new.inner) }
+        ensures calm { IsCalm self.old.inner.faults self.new.inner.faults self.old.inner.late self.new.inner.late }
+        ensures events { events_of self.old.inner.log self.old.inner.over ≤ events_of self.new.inner.log self.new.inner.over }
+        ensures sectors { length self.new.inner.start ≡ length self.old.inner.start }
+        ensures told_before { Runs self.new.inner → Runs self.old.inner }
+        ensures told { Runs self.new.inner → Adds (issued result content.now) (disk_of self.old.inner) (disk_of self.new.inner) }
+        ensures new_number { Runs self.new.inner → self.old.inner.last < result.number }
+        ensures recorded { Records (issued result content.now ∷ []) (events_of self.old.inner.log self.old.inner.over) (events_of self.new.inner.log self.new.inner.over) (disk_of self.old.inner) (disk_of self.new.inner) }
+        ensures after { self.new.inner ≡ submitted (issued result content.now) self.old.inner }
+    {
+        self.inner.submit_write(first, content)
+    }
+
+    fn submit_read(&mut self, first: u64, count: u64) -> Ticket
+        requires range { IsRange (length self.old.inner.start) first count }
+        requires free { IsFree (Flies self.old.inner) 128 first count }
+        ensures ticket { IsTicket result Read first count }
+        ensures number { result.number ≡ next_number self.old.inner.last }
+        ensures last { self.new.inner.last ≡ result.number }
+        ensures flight { Puts result (Flies self.old.inner) (Flies self.new.inner) }
+        ensures calm { IsCalm self.old.inner.faults self.new.inner.faults self.old.inner.late self.new.inner.late }
+        ensures events { events_of self.old.inner.log self.old.inner.over ≤ events_of self.new.inner.log self.new.inner.over }
+        ensures sectors { length self.new.inner.start ≡ length self.old.inner.start }
+        ensures told_before { Runs self.new.inner → Runs self.old.inner }
+        ensures told { Runs self.new.inner → Adds (asked_read result) (disk_of self.old.inner) (disk_of self.new.inner) }
+        ensures new_number { Runs self.new.inner → self.old.inner.last < result.number }
+        ensures recorded { Records (asked_read result ∷ []) (events_of self.old.inner.log self.old.inner.over) (events_of self.new.inner.log self.new.inner.over) (disk_of self.old.inner) (disk_of self.new.inner) }
+        ensures after { self.new.inner ≡ submitted (asked_read result) self.old.inner }
+    {
+        self.inner.submit_read(first, count)
+    }
+
+    fn submit_flush(&mut self) -> Ticket
+        requires place { HasPlace (Flies self.old.inner) 128 }
+        ensures kind { result.kind ≡ Flush }
+        ensures number { result.number ≡ next_number self.old.inner.last }
+        ensures last { self.new.inner.last ≡ result.number }
+        ensures flight { Puts result (Flies self.old.inner) (Flies self.new.inner) }
+        ensures calm { IsCalm self.old.inner.faults self.new.inner.faults self.old.inner.late self.new.inner.late }
+        ensures events { events_of self.old.inner.log self.old.inner.over ≤ events_of self.new.inner.log self.new.inner.over }
+        ensures sectors { length self.new.inner.start ≡ length self.old.inner.start }
+        ensures told_before { Runs self.new.inner → Runs self.old.inner }
+        ensures told { Runs self.new.inner → Adds (asked_flush result) (disk_of self.old.inner) (disk_of self.new.inner) }
+        ensures new_number { Runs self.new.inner → self.old.inner.last < result.number }
+        ensures recorded { Records (asked_flush result ∷ []) (events_of self.old.inner.log self.old.inner.over) (events_of self.new.inner.log self.new.inner.over) (disk_of self.old.inner) (disk_of self.new.inner) }
+        ensures after { self.new.inner ≡ submitted (asked_flush result) self.old.inner }
+    {
+        self.inner.submit_flush()
+    }
+
+    fn settle(&mut self, ticket: Ticket, out: &mut [Sector]) -> Settled
+        requires mine { IsInFlight (Flies self.old.inner) ticket }
+        requires room { length out.old ≡ reads ticket }
+        ensures settles { Settles result ticket out.old out.new (Flies self.old.inner) (Flies self.new.inner) }
+        ensures cause { IsCaused result self.old.inner.faults self.new.inner.faults self.old.inner.late self.new.inner.late }
+        ensures last { self.new.inner.last ≡ self.old.inner.last }
+        ensures events { events_of self.old.inner.log self.old.inner.over ≤ events_of self.new.inner.log self.new.inner.over }
+        ensures sectors { length self.new.inner.start ≡ length self.old.inner.start }
+        ensures told_before { Runs self.new.inner → Runs self.old.inner }
+        ensures told { Runs self.new.inner → Tells result ticket out.new (disk_of self.old.inner) (disk_of self.new.inner) }
+        ensures recorded { Records (settle_entries result ticket out.new) (events_of self.old.inner.log self.old.inner.over) (events_of self.new.inner.log self.new.inner.over) (disk_of self.old.inner) (disk_of self.new.inner) }
+        ensures answer { result ≡ settle_answer self.old.inner ticket }
+        ensures after { self.new.inner ≡ polled_once ticket self.old.inner }
+    {
+        self.inner.settle(ticket, out)
+    }
+
+    fn wait(&mut self, ticket: Ticket, out: &mut [Sector]) -> Waited
+        requires mine { IsInFlight (Flies self.old.inner) ticket }
+        requires room { length out.old ≡ reads ticket }
+        ensures settles { Settles (settled_of result) ticket out.old out.new (Flies self.old.inner) (Flies self.new.inner) }
+        ensures cause { IsCaused (settled_of result) self.old.inner.faults self.new.inner.faults self.old.inner.late self.new.inner.late }
+        ensures last { self.new.inner.last ≡ self.old.inner.last }
+        ensures events { events_of self.old.inner.log self.old.inner.over ≤ events_of self.new.inner.log self.new.inner.over }
+        ensures sectors { length self.new.inner.start ≡ length self.old.inner.start }
+        ensures told_before { Runs self.new.inner → Runs self.old.inner }
+        ensures told { Runs self.new.inner → Tells (settled_of result) ticket out.new (disk_of self.old.inner) (disk_of self.new.inner) }
+        ensures recorded { Records (settle_entries (settled_of result) ticket out.new) (events_of self.old.inner.log self.old.inner.over) (events_of self.new.inner.log self.new.inner.over) (disk_of self.old.inner) (disk_of self.new.inner) }
+        ensures answer { settled_of result ≡ wait_answer self.old.inner ticket }
+        ensures after { self.new.inner ≡ waited ticket self.old.inner }
+    {
+        self.inner.wait(ticket, out)
+    }
+}

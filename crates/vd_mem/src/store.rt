@@ -1,0 +1,194 @@
+//! The calls of a store in memory.
+
+ghost use Rattle.std.specs.Prelude.{◌≡◌, ◌≢◌, ◌+◌, ◌-◌, ◌<◌, ◌≤◌, ℕ, List, [], ◌∷◌, length};
+ghost use Rattle.vd_device.specs.declared.ticket.Ticket.{Ticket as AnyTicket};
+ghost use Rattle.vd_device.specs.declared.ticket.Kind.TheVariants.{Read, Write, Flush};
+ghost use Rattle.vd_device.specs.Tickets.{IsRange, HasPlace, IsFree, IsInFlight, Puts, IsTicket, reads};
+ghost use Rattle.vd_device.specs.Disks.{Adds, AreWrites, IsRunning, Records};
+ghost use Rattle.vd_device.specs.Calls.{IsCalm, Settles, Tells, IsCaused, next_number, asked_read, asked_flush, issued, settled_of, settle_entries};
+ghost use Rattle.vd_mem.specs.Tapes.{events_of};
+ghost use Rattle.vd_mem.specs.Memory.{Runs, disk_of, submitted, waited, wait_answer, polled_once, settle_answer, is_late};
+ghost use Rattle.vd_mem.specs.Flying.{Flies};
+
+use crate::ends::{answer, call_of, end, settled};
+use crate::mem_store::MemStore;
+use crate::tickets::DEPTH;
+use vd_device::{Kind, Settled, Store, Ticket, Waited};
+use vd_law::entry::{Event, Request, Sector};
+
+impl MemStore {
+    /// Whether a poll of the ticket comes too early: a rule holds it, each that does with a poll left.
+    fn is_late(&self, ticket: &Ticket) -> bool
+        ensures { result ≡ is_late self.now ticket.now }
+    {
+        self.tape.runs_on()
+            && self.tickets.rules.hold(ticket)
+            && !self.tickets.rules.hold_spent(ticket)
+    }
+}
+
+impl Store for MemStore {
+    ghost use Rattle.std.specs.Prelude.{length};
+    ghost use Rattle.vd_mem.specs.Tapes.{events_of};
+    ghost use Rattle.vd_mem.specs.Memory.{Runs, disk_of};
+    ghost use Rattle.vd_mem.specs.Flying.{Flies};
+
+    ghost tells = { Runs };
+
+    ghost records = { λ m. Unit {0} };
+
+    ghost disk = { disk_of };
+
+    ghost flies = { Flies };
+
+    ghost sectors = { λ m. length m.start };
+
+    ghost depth = { λ m. 128 };
+
+    ghost faults = { λ m. m.faults };
+
+    ghost late = { λ m. m.late };
+
+    ghost events = { λ m. events_of m.log m.over };
+
+    ghost last = { λ m. m.last };
+
+    fn sectors(&self) -> u64 {
+        self.start.len() as u64
+    }
+
+    fn depth(&self) -> u64 {
+        DEPTH
+    }
+
+    fn faults(&self) -> u64 {
+        self.tickets.faults
+    }
+
+    fn late(&self) -> u64 {
+        self.tickets.late
+    }
+
+    fn in_flight(&self) -> u64 {
+        self.tickets.flying
+    }
+
+    fn events(&self) -> u64 {
+        self.tape.events()
+    }
+
+    fn submit_write(&mut self, first: u64, content: &[Sector]) -> Ticket
+        requires range { IsRange (length self.old.start) first (length content.now) }
+        requires free { IsFree (Flies self.old) 128 first (length content.now) }
+        ensures ticket { IsTicket result Write first (length content.now) }
+        ensures number { result.number ≡ next_number self.old.last }
+        ensures last { self.new.last ≡ result.number }
+        ensures flight { Puts result (Flies self.old) (Flies self.new) }
+        ensures calm { IsCalm self.old.faults self.new.faults self.old.late self.new.late }
+        ensures events { events_of self.old.log self.old.over ≤ events_of self.new.log self.new.over }
+        ensures sectors { length self.new.start ≡ length self.old.start }
+        ensures told_before { Runs self.new → Runs self.old }
+        ensures told { Runs self.new → Adds (issued result content.now) (disk_of self.old) (disk_of self.new) }
+        ensures new_number { Runs self.new → self.old.last < result.number }
+        ensures recorded { Records (issued result content.now ∷ []) (events_of self.old.log self.old.over) (events_of self.new.log self.new.over) (disk_of self.old) (disk_of self.new) }
+        // the store's new state, whole
+        ensures after { self.new ≡ submitted (issued result content.now) self.old }
+    {
+        let number = self.tickets.submit();
+        let id = call_of(number);
+        let place = self.tape.len();
+        self.tape.add(Event::Issue { id, first, content }, place);
+        Ticket::new(number, Kind::Write, first, content.len() as u64, place)
+    }
+
+    fn submit_read(&mut self, first: u64, count: u64) -> Ticket
+        requires range { IsRange (length self.old.start) first count }
+        requires free { IsFree (Flies self.old) 128 first count }
+        ensures ticket { IsTicket result Read first count }
+        ensures number { result.number ≡ next_number self.old.last }
+        ensures last { self.new.last ≡ result.number }
+        ensures flight { Puts result (Flies self.old) (Flies self.new) }
+        ensures calm { IsCalm self.old.faults self.new.faults self.old.late self.new.late }
+        ensures events { events_of self.old.log self.old.over ≤ events_of self.new.log self.new.over }
+        ensures sectors { length self.new.start ≡ length self.old.start }
+        ensures told_before { Runs self.new → Runs self.old }
+        ensures told { Runs self.new → Adds (asked_read result) (disk_of self.old) (disk_of self.new) }
+        ensures new_number { Runs self.new → self.old.last < result.number }
+        ensures recorded { Records (asked_read result ∷ []) (events_of self.old.log self.old.over) (events_of self.new.log self.new.over) (disk_of self.old) (disk_of self.new) }
+        ensures after { self.new ≡ submitted (asked_read result) self.old }
+    {
+        let number = self.tickets.submit();
+        let id = call_of(number);
+        let place = self.tape.len();
+        let request = Request::Read { first, count };
+        self.tape.add(Event::Ask { id, request }, place);
+        Ticket::new(number, Kind::Read, first, count, place)
+    }
+
+    fn submit_flush(&mut self) -> Ticket
+        requires place { HasPlace (Flies self.old) 128 }
+        ensures kind { result.kind ≡ Flush }
+        ensures number { result.number ≡ next_number self.old.last }
+        ensures last { self.new.last ≡ result.number }
+        ensures flight { Puts result (Flies self.old) (Flies self.new) }
+        ensures calm { IsCalm self.old.faults self.new.faults self.old.late self.new.late }
+        ensures events { events_of self.old.log self.old.over ≤ events_of self.new.log self.new.over }
+        ensures sectors { length self.new.start ≡ length self.old.start }
+        ensures told_before { Runs self.new → Runs self.old }
+        ensures told { Runs self.new → Adds (asked_flush result) (disk_of self.old) (disk_of self.new) }
+        ensures new_number { Runs self.new → self.old.last < result.number }
+        ensures recorded { Records (asked_flush result ∷ []) (events_of self.old.log self.old.over) (events_of self.new.log self.new.over) (disk_of self.old) (disk_of self.new) }
+        ensures after { self.new ≡ submitted (asked_flush result) self.old }
+    {
+        let number = self.tickets.submit();
+        let id = call_of(number);
+        let place = self.tape.len();
+        let request = Request::Flush;
+        self.tape.add(Event::Ask { id, request }, place);
+        Ticket::new(number, Kind::Flush, 0, 0, place)
+    }
+
+    fn settle(&mut self, ticket: Ticket, out: &mut [Sector]) -> Settled
+        requires mine { IsInFlight (Flies self.old) ticket }
+        requires room { length out.old ≡ reads ticket }
+        ensures settles { Settles result ticket out.old out.new (Flies self.old) (Flies self.new) }
+        ensures cause { IsCaused result self.old.faults self.new.faults self.old.late self.new.late }
+        ensures last { self.new.last ≡ self.old.last }
+        ensures events { events_of self.old.log self.old.over ≤ events_of self.new.log self.new.over }
+        ensures sectors { length self.new.start ≡ length self.old.start }
+        ensures told_before { Runs self.new → Runs self.old }
+        ensures told { Runs self.new → Tells result ticket out.new (disk_of self.old) (disk_of self.new) }
+        ensures recorded { Records (settle_entries result ticket out.new) (events_of self.old.log self.old.over) (events_of self.new.log self.new.over) (disk_of self.old) (disk_of self.new) }
+        // which answer, and the store's new state, whole
+        ensures answer { result ≡ settle_answer self.old ticket }
+        ensures after { self.new ≡ polled_once ticket self.old }
+    {
+        if self.is_late(&ticket) {
+            self.tickets.poll(&ticket);
+            return Settled::NotYet(ticket);
+        }
+        settled(self.wait(ticket, out))
+    }
+
+    fn wait(&mut self, ticket: Ticket, out: &mut [Sector]) -> Waited
+        requires mine { IsInFlight (Flies self.old) ticket }
+        requires room { length out.old ≡ reads ticket }
+        ensures settles { Settles (settled_of result) ticket out.old out.new (Flies self.old) (Flies self.new) }
+        ensures cause { IsCaused (settled_of result) self.old.faults self.new.faults self.old.late self.new.late }
+        ensures last { self.new.last ≡ self.old.last }
+        ensures events { events_of self.old.log self.old.over ≤ events_of self.new.log self.new.over }
+        ensures sectors { length self.new.start ≡ length self.old.start }
+        ensures told_before { Runs self.new → Runs self.old }
+        ensures told { Runs self.new → Tells (settled_of result) ticket out.new (disk_of self.old) (disk_of self.new) }
+        ensures recorded { Records (settle_entries (settled_of result) ticket out.new) (events_of self.old.log self.old.over) (events_of self.new.log self.new.over) (disk_of self.old) (disk_of self.new) }
+        // which answer, and the store's new state, whole
+        ensures answer { settled_of result ≡ wait_answer self.old ticket }
+        ensures after { self.new ≡ waited ticket self.old }
+    {
+        let ending = self.tickets.ended.saturating_add(1);
+        let fault = self.tickets.rules.fault(ending, self.tape.log(), &ticket);
+        let done = end(&mut self.held, &mut self.tape, &ticket, fault, out);
+        self.tickets.end(&ticket, done);
+        answer(done, ticket.spend())
+    }
+}
