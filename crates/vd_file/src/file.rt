@@ -1,0 +1,152 @@
+//! A file of sectors.
+
+ghost use Rattle.std.specs.Prelude.{◌≡◌, ◌≤◌, ◌<◌, ◌^◌, length, vec_len, OnErr, IfOk, Some};
+
+use std::fs::{File, OpenOptions};
+use std::os::unix::fs::FileExt;
+use std::rt::Files;
+use std::{fs, io};
+use vd_law::entry::Sector;
+
+const SECTOR: u64 = 512;
+
+/// The most sectors that one read takes.
+const MOST: usize = 2048;
+
+/// Why there is no device.
+#[derive(Clone, Copy, Debug, PartialEq, Eq, Drop)]
+pub enum NotOpened {
+    /// The file could not be opened or made.
+    NoFile,
+    NoMemory,
+}
+
+/// An open file of sectors. What is read is gathered in the room before it is given, so that a read that fails midway
+/// gives nothing.
+#[derive(Drop)]
+pub struct SectorFile {
+    file: File,
+    sectors: u64,
+    room: Vec<[u8; 512]>,
+    ghost few: { sectors < 2 ^ 55 },
+    ghost enough: { vec_len room ≡ 2048 },
+}
+
+impl SectorFile {
+    /// Opens the file to be read and written, or to be read alone where it may not be written.
+    pub fn open<R: Files<File = File> + AllocGlobal>(
+        rt: &R,
+        path: &str,
+    ) -> Result<SectorFile, NotOpened> {
+        let room = room_in(rt)?;
+        let both = OpenOptions::new().read(true).write(true).open(rt, path);
+        let file = both
+            .or_else(|_| File::open(rt, path))
+            .map_err(|_| NotOpened::NoFile)?;
+        SectorFile::over(file, room)
+    }
+
+    pub fn open_to_read<R: Files<File = File> + AllocGlobal>(
+        rt: &R,
+        path: &str,
+    ) -> Result<SectorFile, NotOpened> {
+        let room = room_in(rt)?;
+        let file = File::open(rt, path).map_err(|_| NotOpened::NoFile)?;
+        SectorFile::over(file, room)
+    }
+
+    /// Makes a file of so many sectors, where none is yet.
+    pub fn make<R: Files<File = File> + AllocGlobal>(
+        rt: &R,
+        path: &str,
+        sectors: u64,
+    ) -> Result<SectorFile, NotOpened>
+        ensures { IfOk result (λ f. f.sectors ≡ sectors) }
+    {
+        let room = room_in(rt)?;
+        if sectors >= 1 << 54 {
+            return Err(NotOpened::NoFile);
+        }
+        let file = File::create_new(rt, path).map_err(|_| NotOpened::NoFile)?;
+        if file.set_len(sectors * SECTOR).is_err() {
+            let _ = fs::remove_file(rt, path);
+            return Err(NotOpened::NoFile);
+        }
+        Ok(SectorFile {
+            file,
+            sectors,
+            room,
+        })
+    }
+
+    fn over(file: File, room: Vec<[u8; 512]>) -> Result<SectorFile, NotOpened>
+        requires { vec_len room ≡ 2048 }
+    {
+        let length = file.metadata().map_err(|_| NotOpened::NoFile)?.len();
+        Ok(SectorFile {
+            file,
+            sectors: length / SECTOR,
+            room,
+        })
+    }
+
+    pub fn sectors(&self) -> u64
+        ensures { result ≡ self.now.sectors }
+    {
+        self.sectors
+    }
+
+    pub fn read(&mut self, first: u64, out: &mut [Sector]) -> io::Result<()>
+        requires place { first < 2 ^ 55 }
+        requires few { length out.old ≤ 2048 }
+        ensures unread { OnErr result (out.new ≡ out.old) }
+        ensures sectors { self.new.sectors ≡ self.old.sectors }
+    {
+        gather(&self.file, first * SECTOR, self.room.as_mut_slice(), out)
+    }
+
+    pub fn write(&mut self, first: u64, content: &[Sector]) -> io::Result<()>
+        requires place { first < 2 ^ 55 }
+        requires few { length content.now ≤ 2048 }
+        ensures sectors { self.new.sectors ≡ self.old.sectors }
+    {
+        scatter(
+            &self.file,
+            first * SECTOR,
+            self.room.as_mut_slice(),
+            content,
+        )
+    }
+
+    pub fn sync(&self) -> io::Result<()> {
+        self.file.sync_data()
+    }
+}
+
+fn room_in<R: AllocGlobal>(rt: &R) -> Result<Vec<[u8; 512]>, NotOpened>
+    ensures { IfOk result (λ v. vec_len v ≡ 2048) }
+{
+    Vec::from_elem(rt.alloc(), [0; 512], MOST).map_err(|_| NotOpened::NoMemory)
+}
+
+fn gather(file: &File, at: u64, room: &mut [[u8; 512]], out: &mut [Sector]) -> io::Result<()>
+    requires { length out.old ≤ length room.old }
+    ensures unread { OnErr result (out.new ≡ out.old) }
+{
+    let room = &mut room[..out.len()];
+    file.read_exact_at(room.as_flattened_mut(), at)?;
+    for (sector, bytes) in out.iter_mut().zip(room.iter()) {
+        sector.bytes = *bytes;
+    }
+    Ok(())
+}
+
+fn scatter(file: &File, at: u64, room: &mut [[u8; 512]], content: &[Sector]) -> io::Result<()>
+    requires { length content.now ≤ length room.old }
+{
+    let room = &mut room[..content.len()];
+    for (bytes, sector) in room.iter_mut().zip(content) {
+        *bytes = sector.bytes;
+    }
+    file.write_all_at(room.as_flattened(), at)
+}
