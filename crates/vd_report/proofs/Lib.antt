@@ -1,0 +1,6 @@
+pub mod Counting
+pub mod Guests
+pub mod Pieces
+pub mod Ranges
+pub mod Same
+pub mod Telling
