@@ -1,0 +1,15 @@
+pub mod History
+pub mod Contents
+pub mod Recovered
+pub mod Moments
+pub mod Growth
+pub mod Metadata
+pub mod Steps
+pub mod Writes
+pub mod Ends
+pub mod Opened
+pub mod Pieces
+pub mod Histories
+pub mod CrashSafe
+pub mod New
+pub mod Bits

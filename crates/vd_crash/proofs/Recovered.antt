@@ -1,0 +1,220 @@
+-- Where the facts hold, each image that a crash may leave now is safe.
+use Rattle.std.proofs.lemmas.Bool.{cases_lt}
+use Rattle.std.proofs.Common.{if◌then◌else◌, ap, ◌+◌, ℕ, ◌≡◌, ◌<◌, ◌≤◌, inl, inr, List, Some, Option, Bool, true, false, arith, refl, sym, subst, ◌∙◌, Ok}
+use Rattle.vd_image.specs.Log.{Sector, Entry, Ask, Done, Flush, IsSure, NoneSureFrom, May, IsImage}
+use Rattle.vd_image.specs.Image.{Header, Mapping, Fact, IsCurrent, Counts, Maps, Gives, IsLocalBy, background, unmapped, IsSound, DiskHas}
+use Rattle.vd_crash.specs.Safe.{NumberedEntry, events, Opening, IsSafeNow}
+use Rattle.vd_crash.specs.Facts.{Index, Memory, AreAnswered, IsSettled, Left, IsRight, IsNamed, IsInPage, IsInSlots, IsLocalLeft, IsHeaderLeft, IsMetadata, IsTable, CrashFacts, IsKept, IsFresh, IsFlushedSince, IsDoneBefore, Origin}
+use Rattle.vd_image.proofs.Logs.{sure_by}
+use Rattle.vd_crash.proofs.History.{numbered_at, guest_writes_of}
+use Rattle.vd_crash.proofs.Contents.{settled_allowed}
+
+-- the generation of a record that counts is the kept one
+pub counted_now : (o : Opening) (left : Left) (settled : ℕ → Type 0) (x : Index) (image : ℕ → Sector) (generation slot place : ℕ) (fact : Fact)
+    → IsMetadata o left settled x → ((s : ℕ) → left s (image s)) → x.generation ≤ generation
+    → (h : Counts o.format o.layout image generation slot place fact) → (generation ≡ x.generation) × IsCurrent h.item x.generation
+counted_now o left settled x image generation slot place fact metadata is_left order counts =
+    let older = metadata.no_newer_record slot (image (o.layout.slot_at slot)) counts.item counts.within (is_left (o.layout.slot_at slot)) counts.reads in
+    (omega (arith, older, counts.current.1), (counts.current.0, omega (arith, older, counts.current.1)))
+
+-- a chunk that a slot names is named in the image
+pub named_counts : (o : Opening) (left : Left) (image : ℕ → Sector) (generation cursor from c : ℕ) → ((s : ℕ) → left s (image s)) → (h : IsNamed o left generation cursor from c)
+    → (place : ℕ) × (fact : Fact) × Counts o.format o.layout image generation h.slot place fact × (fact.chunk ≡ c)
+named_counts o left image generation cursor from c is_left h =
+    let n = h.names (image (o.layout.slot_at h.slot)) (is_left (o.layout.slot_at h.slot)) in
+    (n.place, n.fact, record { item = n.item; within = h.within; reads = n.reads; current = n.current; stands = n.stands }, n.is)
+
+-- the mapping of a chunk is right in each image, whichever decides
+pub mapped : (o : Opening) (left : Left) (settled : ℕ → Type 0) (x : Index) (image : ℕ → Sector) (header : Header) (c : ℕ) (m : Mapping)
+    → IsMetadata o left settled x → ((s : ℕ) → left s (image s)) → o.format.header_of (image o.layout.header_at) ≡ Ok header → x.generation ≤ header.generation
+    → Maps o.format o.layout image header.generation c m → IsRight o settled x.table c m
+mapped o left settled x image header c m metadata is_left reads order (inl h) =
+    let kept = metadata.records h.slot (image (o.layout.slot_at h.slot)) h.counts.item h.counts.within (is_left (o.layout.slot_at h.slot)) h.counts.reads in
+    let now = counted_now o left settled x image header.generation h.slot h.place h.fact metadata is_left order h.counts in
+    elim ((kept now.1).right h.place h.fact h.counts.stands) [
+      | inl right ↦ subst (λ (y : Mapping). IsRight o settled x.table c y) h.mapping (subst (λ (d : ℕ). IsRight o settled x.table d h.fact.mapping) h.names right)
+      | inr named ↦
+          let n = named_counts o left image x.generation x.cursor (h.slot + 1) h.fact.chunk is_left named in
+          let there : Counts o.format o.layout image header.generation named.slot n.0 n.1 = subst (λ (g : ℕ). Counts o.format o.layout image g named.slot n.0 n.1) (sym now.0) n.2 in
+          absurd (h.last named.slot n.0 n.1 there (n.3 ∙ h.names) (inl (let l = named.since in omega arith)))
+    ]
+mapped o left settled x image header c m metadata is_left reads order (inr h) =
+    let page = metadata.pages c (image (o.layout.map_at c)) h.1 (is_left (o.layout.map_at c)) in
+    let same : page.mapping ≡ m = cc (page.reads, h.2) in
+    elim page.right [
+      | inl right ↦ subst (λ (y : Mapping). IsRight o settled x.table c y) same right
+      | inr named ↦
+          let n = named_counts o left image x.generation x.cursor 0 c is_left named.1 in
+          let now : header.generation ≡ x.generation = metadata.header_sure named.0 (image o.layout.header_at) header (is_left o.layout.header_at) reads in
+          let there : Counts o.format o.layout image header.generation named.1.slot n.0 n.1 = subst (λ (g : ℕ). Counts o.format o.layout image g named.1.slot n.0 n.1) (sym now) n.2 in
+          absurd (h.0 named.1.slot n.0 n.1 there n.3)
+    ]
+
+pub gives_table : (o : Opening) (left : Left) (settled : ℕ → Type 0) (x : Index) (image : ℕ → Sector) (header : Header) (c p : ℕ)
+    → IsMetadata o left settled x → ((s : ℕ) → left s (image s)) → o.format.header_of (image o.layout.header_at) ≡ Ok header → x.generation ≤ header.generation
+    → Gives o.format o.layout image header.generation c p → x.table c ≡ Some p
+gives_table o left settled x image header c p metadata is_left reads order h = (mapped o left settled x image header c h.0 metadata is_left reads order h.1).storage_agrees p h.2
+
+-- where no fact names the chunk, a block of its page is in the mapping
+pub page_has : (o : Opening) (left : Left) (image : ℕ → Sector) (b : ℕ) (m : Mapping) → ((s : ℕ) → left s (image s)) → IsInPage o left b
+    → o.format.mapping_of (image (o.layout.map_at (o.layout.chunk_of b))) (o.layout.chunk_of b) ≡ Some m → m.has b ≡ true
+page_has o left image b m is_left page reads =
+    let h = page.page (image (o.layout.map_at (o.layout.chunk_of b))) (is_left (o.layout.map_at (o.layout.chunk_of b))) in
+    let same : h.mapping ≡ m = cc (h.reads, reads) in
+    subst (λ (y : Mapping). y.has b ≡ true) same h.has
+
+-- the chunk of a block that is local by a slot is named there
+pub slot_names : (o : Opening) (left : Left) (image : ℕ → Sector) (generation cursor b : ℕ) → ((s : ℕ) → left s (image s)) → (h : IsInSlots o left generation cursor b)
+    → (place : ℕ) × (fact : Fact) × Counts o.format o.layout image generation h.slot place fact × (fact.chunk ≡ o.layout.chunk_of b)
+slot_names o left image generation cursor b is_left h =
+    let n = h.names (image (o.layout.slot_at h.slot)) (is_left (o.layout.slot_at h.slot)) in
+    (n.place, n.fact, record { item = n.item; within = h.within; reads = n.reads; current = n.current; stands = n.stands }, n.is)
+
+-- a block that is local in each image of the kept generation is in the mapping that decides
+pub kept_has : (o : Opening) (left : Left) (image : ℕ → Sector) (generation cursor b : ℕ) (m : Mapping) → ((s : ℕ) → left s (image s))
+    → IsLocalLeft o left generation cursor b → Maps o.format o.layout image generation (o.layout.chunk_of b) m → m.has b ≡ true
+kept_has o left image generation cursor b m is_left (inl h) (inl last) =
+    subst (λ (y : Mapping). y.has b ≡ true) last.mapping (elim (cases_lt last.slot h.slot) [
+      | inl before ↦ (let n = slot_names o left image generation cursor b is_left h in absurd (last.last h.slot n.0 n.1 n.2 n.3 (inl before)))
+      | inr from ↦ h.later last.slot (image (o.layout.slot_at last.slot)) last.counts.item from last.counts.within (is_left (o.layout.slot_at last.slot)) last.counts.reads last.counts.current last.place last.fact last.counts.stands last.names
+    ])
+kept_has o left image generation cursor b m is_left (inl h) (inr none) = let n = slot_names o left image generation cursor b is_left h in absurd (none.0 h.slot n.0 n.1 n.2 n.3)
+kept_has o left image generation cursor b m is_left (inr h) (inl last) =
+    subst (λ (y : Mapping). y.has b ≡ true) last.mapping
+    (h.1 last.slot (image (o.layout.slot_at last.slot)) last.counts.item (omega arith) last.counts.within (is_left (o.layout.slot_at last.slot)) last.counts.reads last.counts.current last.place last.fact last.counts.stands last.names)
+kept_has o left image generation cursor b m is_left (inr h) (inr none) = page_has o left image b m is_left h.0 none.2
+
+-- a block of its page is in the mapping in each image of the next generation, of which no record is
+pub next_has : (o : Opening) (left : Left) (settled : ℕ → Type 0) (x : Index) (image : ℕ → Sector) (generation b : ℕ) (m : Mapping)
+    → IsMetadata o left settled x → ((s : ℕ) → left s (image s)) → x.generation < generation
+    → IsInPage o left b → Maps o.format o.layout image generation (o.layout.chunk_of b) m → m.has b ≡ true
+next_has o left settled x image generation b m metadata is_left order page (inl last) =
+    let now = counted_now o left settled x image generation last.slot last.place last.fact metadata is_left (omega arith) last.counts in
+    absurd (omega (arith, now.0))
+next_has o left settled x image generation b m metadata is_left order page (inr none) = page_has o left image b m is_left page none.2
+
+pub header_order : (o : Opening) (left : Left) (x : Index) (v : Sector) (h : IsHeaderLeft o left x v) → x.generation ≤ h.header.generation
+header_order o left x v h = elim h.generation [ inl e ↦ omega arith | inr e ↦ omega arith ]
+
+-- a stale block is in the mapping in each image
+pub stale_has : (o : Opening) (left : Left) (settled : ℕ → Type 0) (x : Index) (image : ℕ → Sector) (header : Header) (b : ℕ) (m : Mapping)
+    → IsMetadata o left settled x → ((s : ℕ) → left s (image s)) → o.format.header_of (image o.layout.header_at) ≡ Ok header → x.generation ≤ header.generation
+    → x.stale b ≡ true → Maps o.format o.layout image header.generation (o.layout.chunk_of b) m → m.has b ≡ true
+stale_has o left settled x image header b m metadata is_left reads order stale maps = elim (cases_lt x.generation header.generation) [
+  | inl more ↦ elim (metadata.stale_everywhere b stale).1 [
+    | inl page ↦ next_has o left settled x image header.generation b m metadata is_left more page maps
+    | inr sure ↦ absurd (let same = metadata.header_sure sure (image o.layout.header_at) header (is_left o.layout.header_at) reads in omega arith)
+  ]
+  | inr less ↦
+      let same : header.generation ≡ x.generation = omega (arith, order) in
+      kept_has o left image x.generation x.cursor b m is_left (metadata.stale_everywhere b stale).0 (subst (λ (g : ℕ). Maps o.format o.layout image g (o.layout.chunk_of b) m) same maps)
+]
+
+-- a block in a mapping that may be left is local by it
+pub local_by : (o : Opening) (settled : ℕ → Type 0) (table : ℕ → Option ℕ) (c b : ℕ) (m : Mapping) → IsRight o settled table c m → m.has b ≡ true → (p : ℕ) × IsLocalBy m b p
+local_by o settled table c b m right has = let s = right.grammar.has_storage b has in (s.0, (s.1, has))
+
+pub sound : (o : Opening) (left : Left) (settled : ℕ → Type 0) (x : Index) (image : ℕ → Sector)
+    → IsMetadata o left settled x → IsTable o.layout.storage x.table → ((s : ℕ) → left s (image s)) → IsSound o.format o.layout image
+sound o left settled x image metadata table is_left =
+    let h = metadata.header_known (image o.layout.header_at) (is_left o.layout.header_at) in
+    let order = header_order o left x (image o.layout.header_at) h in
+    record {
+      header = h.header;
+      reads = h.reads;
+      geometry = h.geometry;
+      consistent = record {
+        mappings = λ c within. let page = metadata.pages c (image (o.layout.map_at c)) within (is_left (o.layout.map_at c)) in (page.mapping, page.reads, page.grammar);
+        records = λ k within r reads current.
+            let older = metadata.no_newer_record k (image (o.layout.slot_at k)) r within (is_left (o.layout.slot_at k)) reads in
+            (metadata.records k (image (o.layout.slot_at k)) r within (is_left (o.layout.slot_at k)) reads (current.0, omega (arith, older, order, current.1))).grammar;
+        one_to_one = λ c d p first second.
+            table.one_to_one c d p (gives_table o left settled x image h.header c p metadata is_left h.reads order first) (gives_table o left settled x image h.header d p metadata is_left h.reads order second);
+      };
+      no_later = λ k r within reads. let older = metadata.no_newer_record k (image (o.layout.slot_at k)) r within (is_left (o.layout.slot_at k)) reads in omega (arith, older, order);
+    }
+
+-- a sector of a block that isn't stale has no sure guest write
+pub start_left : (o : Opening) (log : List Entry) (history : List NumberedEntry) (stale : ℕ → Bool) (s : ℕ)
+    → AreAnswered o log history stale → (stale (o.layout.block_of s) ≡ true → ⊥) → NoneSureFrom (events history) 0 s
+start_left o log history stale s answered not_stale = λ j v from w sure.
+    let g = guest_writes_of history j s v w in
+    let end = numbered_at history sure.done (Done sure.ends.id) sure.ends.done in
+    let ask = numbered_at history sure.asked (Ask sure.flushes.id Flush) sure.flushes.asked in
+    not_stale (answered.logged sure.asked ask.0 (o.layout.block_of s)
+    (record { event = Ask sure.flushes.id Flush; flushes = sure.flushes; numbered = ask.1 })
+    (record {
+      at = j;
+      end = sure.done;
+      number = g.0;
+      end_number = end.0;
+      sector = s;
+      value = v;
+      block = refl;
+      writes = g.1;
+      ends = record { event = Done sure.ends.id; ends = sure.ends; numbered = end.1 };
+      before = sure.before;
+    }))
+
+-- a local block with a flush since is settled
+pub kept_sure : (o : Opening) (log : List Entry) (history : List NumberedEntry) (table : ℕ → Option ℕ) (b born : ℕ) → IsFresh o log history table b born → IsFlushedSince log born → IsKept o log history table b (IsSure log)
+kept_sure o log history table b born h flushed = record {
+  storage = h.storage;
+  since = h.since;
+  given = h.given;
+  in_range = h.in_range;
+  stands = h.stands;
+  origin = origin h.origin;
+}
+  where
+    origin : Origin o log history b h.storage h.since (IsDoneBefore log born) → Origin o log history b h.storage h.since (IsSure log)
+    origin (inl k) = inl k
+    origin (inr k) = inr (k.0, k.1, k.2, sure_by log k.0 k.3.0 flushed.0 k.3.1 (let d = k.3.2 in omega (arith, flushed.2)) flushed.1)
+
+is_false : (x : Bool) → (x ≡ true → ⊥) → x ≡ false
+is_false true h = absurd (h refl)
+is_false false h = refl
+
+pub safe_now : (o : Opening) (log : List Entry) (history : List NumberedEntry) (m : Memory) → CrashFacts o log history m → IsSafeNow o log (events history)
+safe_now o log history m facts = λ image is_image. record {
+  sound = sound o (May o.before log) (IsSettled log m) m.index image facts.metadata facts.storage_one_to_one is_image;
+  allowed = λ s v within disk. disk_allowed image is_image s v within disk;
+}
+  where
+    stored : (image : ℕ → Sector) → IsImage o.before log image → (s p : ℕ) (v : Sector) (w : Mapping) → IsRight o (IsSettled log m) m.index.table (o.layout.chunk_of (o.layout.block_of s)) w
+        → IsLocalBy w (o.layout.block_of s) p → v ≡ image (o.layout.place p s) → May o.disk (events history) s v
+    stored image is_image s p v w right local value =
+        let settled = right.blocks_settled (o.layout.block_of s) local.1 in
+        let there : May o.before log (o.layout.place p s) v = subst (λ (x : Sector). May o.before log (o.layout.place p s) x) (sym value) (is_image (o.layout.place p s)) in
+        settled_allowed o log history m.index.stale m.index.table (o.layout.block_of s) p s v facts.numbers facts.opening facts.answered (kept_sure o log history m.index.table (o.layout.block_of s) (m.born (o.layout.block_of s)) (facts.contents_allowed (o.layout.block_of s) settled.0) settled.1) refl (right.storage_agrees p local.0) there
+
+    -- a sector whose block isn't local has the content at the start
+    is_start : (image : ℕ → Sector) → IsImage o.before log image → (s : ℕ) (header : Header) (w : Mapping) → s < o.layout.size → (kept : IsHeaderLeft o (May o.before log) m.index (image o.layout.header_at)) → header ≡ kept.header
+        → m.index.stale (o.layout.block_of s) ≡ false → Maps o.format o.layout image header.generation (o.layout.chunk_of (o.layout.block_of s)) w → (w.has (o.layout.block_of s) ≡ true → ⊥)
+        → background o.base o.zeros header.tracked s ≡ o.disk s
+    is_start image is_image s header w within kept same not_stale maps not_has = elim (kept.background s within not_stale) [
+      | inl e ↦ ap (λ (y : Header). background o.base o.zeros y.tracked s) same ∙ e
+      | inr next ↦
+          let generation : header.generation ≡ kept.header.generation = ap (λ (y : Header). y.generation) same in
+          absurd (not_has (next_has o (May o.before log) (IsSettled log m) m.index image header.generation (o.layout.block_of s) w facts.metadata is_image (omega (arith, next.0, generation)) next.2 maps))
+    ]
+
+    by_kind : (w : Mapping) (tracked s : ℕ) → w.zeros ≡ false → unmapped o.base o.zeros tracked w s ≡ background o.base o.zeros tracked s
+    by_kind w tracked s base = ap (λ (y : Bool). if y then o.zeros else background o.base o.zeros tracked s) base
+
+    disk_allowed : (image : ℕ → Sector) → IsImage o.before log image → (s : ℕ) (v : Sector) → s < o.layout.size → DiskHas o.format o.layout o.base o.zeros image s v → May o.disk (events history) s v
+    disk_allowed image is_image s v within disk =
+        let kept = facts.metadata.header_known (image o.layout.header_at) (is_image o.layout.header_at) in
+        let same : disk.header ≡ kept.header = cc (disk.reads, kept.reads) in
+        let order : m.index.generation ≤ disk.header.generation = subst (λ (y : Header). m.index.generation ≤ y.generation) (sym same) (header_order o (May o.before log) m.index (image o.layout.header_at) kept) in
+        let right = mapped o (May o.before log) (IsSettled log m) m.index image disk.header (o.layout.chunk_of (o.layout.block_of s)) disk.mapping facts.metadata is_image disk.reads order disk.maps in
+        elim disk.has [
+          | inl h ↦ stored image is_image s h.0 v disk.mapping right h.1 h.2
+          | inr h ↦
+              let not_has : disk.mapping.has (o.layout.block_of s) ≡ true → ⊥ = λ has. (let l = local_by o (IsSettled log m) m.index.table (o.layout.chunk_of (o.layout.block_of s)) (o.layout.block_of s) disk.mapping right has in h.0 l.0 l.1) in
+              let not_stale : m.index.stale (o.layout.block_of s) ≡ true → ⊥ = λ stale. not_has (stale_has o (May o.before log) (IsSettled log m) m.index image disk.header (o.layout.block_of s) disk.mapping facts.metadata is_image disk.reads order stale disk.maps) in
+              inl (record {
+                value = h.1 ∙ by_kind disk.mapping disk.header.tracked s right.grammar.kind ∙ is_start image is_image s disk.header disk.mapping within kept same (is_false (m.index.stale (o.layout.block_of s)) not_stale) disk.maps not_has;
+                newest = start_left o log history m.index.stale s facts.answered not_stale;
+              })
+        ]

@@ -1,0 +1,93 @@
+-- Each step keeps safety and all facts, and so does each run.
+use Rattle.std.proofs.Common.{ℕ, ◌≡◌, inl, inr, List, [], ◌∷◌, ◌++◌, Bool, true, arith, refl}
+use Rattle.vd_image.specs.Log.{Entry, Issue, Done}
+use Rattle.vd_crash.specs.Safe.{NumberedEntry, Opening, IsSafe}
+use Rattle.vd_crash.specs.Facts.{Memory, CrashFacts, Holds}
+use Rattle.vd_crash.specs.Opened.{IsAtOpening}
+use Rattle.vd_crash.specs.Words.{with_blocks}
+use Rattle.vd_flushes.specs.Moves.{World, world, Keeps, entry_now, IsStep, Tells, Notes, Takes, Writes_local, Writes_whole, Copies, Becomes_local, Gives_up, Ends_write, Adopts, Puts_record, Puts_page, Puts_header, Seals_records, Seals_recycle, Runs, Stays, Goes_on}
+use Rattle.vd_crash.proofs.Moments.{safe_event, safe_entry, last_safe}
+use Rattle.vd_crash.proofs.Steps.{quiet_event, quiet_entry}
+use Rattle.vd_crash.proofs.Writes.{issue_fresh, issue_whole, put_copy, facts_same}
+use Rattle.vd_crash.proofs.Ends.{born, given_up, write_done, storage_taken}
+use Rattle.vd_flushes.proofs.Flushes.{put_record, put_page, put_header, seal_records, seal_recycle}
+use Rattle.vd_crash.proofs.Opened.{holds_at_opening}
+
+after_event : (o : Opening) (log : List Entry) (history : List NumberedEntry) (m n : Memory) (e : Entry) → Keeps o (world log history m) → Holds o (log ++ e ∷ []) history n → Keeps o (world (log ++ e ∷ []) history n)
+after_event o log history m n e k h = record { safe = safe_event o log history n e k.safe h.facts; holds = h }
+
+after_entry : (o : Opening) (log : List Entry) (history : List NumberedEntry) (m n : Memory) (event : Entry) → Keeps o (world log history m) → Holds o log (history ++ entry_now log event ∷ []) n → Keeps o (world log (history ++ entry_now log event ∷ []) n)
+after_entry o log history m n event k h = record { safe = safe_entry o log history n (entry_now log event) k.safe (omega arith) h.facts; holds = h }
+
+after_both : (o : Opening) (log : List Entry) (history : List NumberedEntry) (m n : Memory) (event e : Entry) → Keeps o (world log history m) → CrashFacts o log (history ++ entry_now log event ∷ []) m
+    → Holds o (log ++ e ∷ []) (history ++ entry_now log event ∷ []) n → Keeps o (world (log ++ e ∷ []) (history ++ entry_now log event ∷ []) n)
+after_both o log history m n event e k facts h = record {
+  safe = safe_event o log (history ++ entry_now log event ∷ []) n e (safe_entry o log history m (entry_now log event) k.safe (omega arith) facts) h.facts;
+  holds = h;
+}
+
+same_logs : (o : Opening) (log : List Entry) (history : List NumberedEntry) (m n : Memory) → Keeps o (world log history m) → Holds o log history n → Keeps o (world log history n)
+same_logs o log history m n k h = record { safe = k.safe; holds = h }
+
+-- more blocks are owed
+pub adopted : (o : Opening) (log : List Entry) (history : List NumberedEntry) (m : Memory) (owed : ℕ → Bool) → Holds o log history m
+    → ((c : ℕ) → m.owed c ≡ true → owed c ≡ true) → ((c : ℕ) → owed c ≡ true → m.fresh c ≡ true) → Holds o log history (with_blocks m m.fresh m.born owed m.pending)
+adopted o log history m owed h more local = record {
+  apart = h.apart;
+  facts = facts_same o log history m owed m.pending h.facts;
+  blocks = record {
+    born = h.blocks.born;
+    stale_settled = h.blocks.stale_settled;
+    owed_local = local;
+    background_same = h.blocks.background_same;
+    issues_stored = h.blocks.issues_stored;
+    pending = h.blocks.pending;
+    idle = h.blocks.idle;
+    tried = λ b t. elim (h.blocks.tried b t) [ inl stale ↦ inl stale | inr is ↦ inr (more b is) ];
+    unlogged_untouched = λ b w. elim (h.blocks.unlogged_untouched b w) [ inl stale ↦ inl stale | inr is ↦ inr (more b is) ];
+  };
+}
+
+pub step_keeps : (o : Opening) (u v : World) → IsStep o u v → Keeps o u → Keeps o v
+step_keeps o u v (Tells log history m e quiet) k = after_event o log history m m e k (quiet_event o log history m e quiet k.holds)
+step_keeps o u v (Notes log history m event quiet no_done answers) k = after_entry o log history m m event k (quiet_entry o log history m (entry_now log event) refl quiet no_done answers k.holds)
+step_keeps o u v (Takes log history m table grows is_table) k =
+    same_logs o log history m (record { index = record { generation = m.index.generation; tracked = m.index.tracked; sure = m.index.sure; table = table; stale = m.index.stale; tried = m.index.tried; cursor = m.index.cursor }; fresh = m.fresh; born = m.born; owed = m.owed; pending = m.pending })
+    k (storage_taken o log history m table k.holds grows is_table)
+step_keeps o u v (Writes_local log history m id first content e b p fresh given same) k =
+    let h = issue_fresh o log history m id first content e b p k.holds fresh given same in
+    after_both o log history m m (Issue id first content) e k h.0 h.1
+step_keeps o u v (Writes_whole log history m pending id first content e b p not_fresh none in_range given put write) k =
+    let h = issue_whole o log history m pending id first content e b p k.holds not_fresh none in_range given put write in
+    after_both o log history m (with_blocks m m.fresh m.born m.owed pending) (Issue id first content) e k h.0 h.1
+step_keeps o u v (Copies log history m pending e b p not_fresh none in_range given put write) k =
+    after_event o log history m (with_blocks m m.fresh m.born m.owed pending) e k (put_copy o log history m pending e b p k.holds not_fresh none in_range given put write)
+step_keeps o u v (Becomes_local log history m fresh since pending b i d is ends put_fresh put_born put_pending) k =
+    same_logs o log history m (with_blocks m fresh since m.owed pending) k (born o log history m fresh since pending b i d k.holds is ends put_fresh put_born put_pending)
+step_keeps o u v (Gives_up log history m pending b put closed) k = same_logs o log history m (with_blocks m m.fresh m.born m.owed pending) k (given_up o log history m pending b k.holds put closed)
+step_keeps o u v (Ends_write log history m owed call b fresh mine more only logged) k =
+    after_entry o log history m (with_blocks m m.fresh m.born owed m.pending) (Done call) k (write_done o log history m owed call b k.holds fresh mine more only logged)
+step_keeps o u v (Adopts log history m owed more local) k = same_logs o log history m (with_blocks m m.fresh m.born owed m.pending) k (adopted o log history m owed k.holds more local)
+step_keeps o u v (Puts_record log history m snapshot call a n q e value r way flushes room only reads is) k =
+    let h = put_record o log history m snapshot call a n q e value r k.holds way flushes room only reads is in record { safe = safe_event o log history _ e k.safe h.facts; holds = h }
+step_keeps o u v (Puts_page log history m snapshot call a n q e value page way flushes room only is) k =
+    let h = put_page o log history m snapshot call a n q e value page k.holds way flushes room only is in record { safe = safe_event o log history _ e k.safe h.facts; holds = h }
+step_keeps o u v (Puts_header log history m snapshot call a n q e value tried way only wider wanted caught next) k =
+    let h = put_header o log history m snapshot call a n q e value tried k.holds way only wider wanted caught next in record { safe = safe_event o log history _ e k.safe h.facts; holds = h }
+step_keeps o u v (Seals_records log history m snapshot call a n q stale owed way flushes logged sure slots) k =
+    record { safe = k.safe; holds = (seal_records o log history m snapshot call a n q stale owed k.holds way flushes logged sure slots).0 }
+step_keeps o u v (Seals_recycle log history m snapshot call a n q stale owed none value next way flushes logged only reads generation next_background caught empty) k =
+    record { safe = k.safe; holds = (seal_recycle o log history m snapshot call a n q stale owed none value next k.holds way flushes logged only reads generation next_background caught empty).0 }
+
+pub run_keeps : (o : Opening) (u w : World) → Runs o u w → Keeps o u → Keeps o w
+run_keeps o u w (Stays x) k = k
+run_keeps o u w (Goes_on x y z run step) k = step_keeps o y z step (run_keeps o x y run k)
+
+pub opening_keeps : (o : Opening) (log : List Entry) (m : Memory) → IsAtOpening o log m → Keeps o (world log [] m)
+opening_keeps o log m h =
+    let holds = holds_at_opening o log m h in
+    record { holds = holds; safe = λ k opened within. last_safe o log [] m holds.facts k (let e = h.opened in omega arith) }
+
+-- every image at every moment of every run from an opening is safe
+pub every_run : (o : Opening) (log : List Entry) (m : Memory) (w : World) → IsAtOpening o log m → Runs o (world log [] m) w → IsSafe o w.log w.history
+every_run o log m w opening run = (run_keeps o (world log [] m) w run (opening_keeps o log m opening)).safe

@@ -1,0 +1,163 @@
+-- What the facts on a pass in flight give, and what other events leave of them and of a flush under way.
+use Rattle.std.proofs.Common.{ℕ, ◌≡◌, ◌<◌, ◌⊎◌, inl, inr, List, [], ◌∷◌, ◌++◌, length, Option, Bool, true, arith, ap, sym, subst, ◌∙◌}
+use Rattle.vd_image.specs.Log.{Sector, CallId, Entry, Flush, Ask, Issue, Done, Broke, Seen, Reply, At, Covers, IsIssueOf, Ends}
+use Rattle.vd_crash.specs.Safe.{NumberedEntry, events, Opening}
+use Rattle.vd_crash.specs.Facts.{Memory, Numbered, GuestWrites, IsSettled, Holds}
+use Rattle.vd_image.specs.Log.{IsOpen}
+use Rattle.vd_image.proofs.Logs.{at_one, at_push, at_end, at_below, at_pushed, ends_end}
+use Rattle.vd_crash.proofs.Growth.{events_push, length_events, guest_writes_pushed, guest_writes_below, guest_open_pushed, written_before_old}
+use Rattle.vd_crash.proofs.Steps.{with_blocks, settled_push}
+use Rattle.vd_flushes.specs.Flushing.{IsUnderWay, IsRecorded, IsWrittenPage, HasPage}
+use Rattle.vd_crash.proofs.Metadata.{right_page_more}
+use Rattle.vd_flushes.specs.Passes.{IsWriting}
+use Rattle.vd_image.specs.Log.{IsInFlight}
+use Rattle.vd_flushes.proofs.Flushes.{last_push}
+use Rattle.vd_crash.proofs.Ends.{write_done}
+
+pub issue_one : (e : Entry) (x y : CallId) → IsIssueOf e x → IsIssueOf e y → x ≡ y
+issue_one (Issue id first content) x y h k = sym h ∙ k
+issue_one (Ask id request) x y h k = absurd h
+issue_one (Done id) x y h k = absurd h
+issue_one (Broke id) x y h k = absurd h
+issue_one (Seen id first content) x y h k = absurd h
+issue_one (Reply id answer) x y h k = absurd h
+
+-- an event that isn't the call's end leaves its write in flight
+pub in_flight_push : (log : List Entry) (e : Entry) (i : ℕ) (call : CallId) → (Done call ≡ e → ⊥) → (Broke call ≡ e → ⊥) → IsInFlight log i call → IsInFlight (log ++ e ∷ []) i call
+in_flight_push log e i call no_done no_broke h = record {
+  event = h.event;
+  stands = at_push log e i h.event h.stands;
+  issues = h.issues;
+  running = λ m after found. go m after found;
+}
+  where
+    go : (m : ℕ) → i < m → At (log ++ e ∷ []) m (Done call) ⊎ At (log ++ e ∷ []) m (Broke call) → ⊥
+    go m after (inl a) = elim (at_pushed log e m (Done call) a) [ inl k ↦ h.running m after (inl k) | inr k ↦ no_done (sym k.1) ]
+    go m after (inr a) = elim (at_pushed log e m (Broke call) a) [ inl k ↦ h.running m after (inr k) | inr k ↦ no_broke (sym k.1) ]
+
+-- a write in flight of the longer log, whose event isn't its issue, was in flight in the shorter
+pub in_flight_pushed : (log : List Entry) (e : Entry) (i : ℕ) (call : CallId) → (IsIssueOf e call → ⊥) → IsInFlight (log ++ e ∷ []) i call → IsInFlight log i call
+in_flight_pushed log e i call no_issue h = elim (at_pushed log e i h.event h.stands) [
+  | inl k ↦ record { event = h.event; stands = k; issues = h.issues; running = λ m after found. h.running m after (grown m found) }
+  | inr k ↦ absurd (no_issue (subst (λ (y : Entry). IsIssueOf y call) (sym k.1) h.issues))
+]
+  where
+    grown : (m : ℕ) → At log m (Done call) ⊎ At log m (Broke call) → At (log ++ e ∷ []) m (Done call) ⊎ At (log ++ e ∷ []) m (Broke call)
+    grown m (inl a) = inl (at_push log e m (Done call) a)
+    grown m (inr a) = inr (at_push log e m (Broke call) a)
+
+pub open_in_flight : (log : List Entry) (i : ℕ) (h : IsOpen log i) → IsInFlight log i h.id
+open_in_flight log i h = record { event = h.event; stands = h.stands; issues = h.issues; running = h.open_still }
+
+pub in_flight_ends : (log : List Entry) (i : ℕ) (call : CallId) → IsInFlight log i call → Ends (log ++ Done call ∷ []) i (length log)
+in_flight_ends log i call h = ends_end log i (record { event = h.event; id = call; stands = h.stands; issues = h.issues; open_still = h.running })
+
+-- other events of the store leave a pass's write in flight, and so do other calls' entries
+pub writing_event : (o : Opening) (log : List Entry) (history : List NumberedEntry) (b : ℕ) (call ticket : CallId) (j n : ℕ) (e : Entry) → (Done ticket ≡ e → ⊥) → (Broke ticket ≡ e → ⊥)
+    → IsWriting o log history b call ticket j n → IsWriting o (log ++ e ∷ []) history b call ticket j n
+writing_event o log history b call ticket j n e no_done no_broke h = record {
+  event = h.event;
+  stands = h.stands;
+  block = h.block;
+  guest = h.guest;
+  only = h.only;
+  store = in_flight_push log e n ticket no_done no_broke h.store;
+}
+
+pub writing_entry : (o : Opening) (log : List Entry) (history : List NumberedEntry) (b : ℕ) (call ticket : CallId) (j n : ℕ) (x : NumberedEntry) → (Done call ≡ x.event → ⊥) → (Broke call ≡ x.event → ⊥) → (IsIssueOf x.event call → ⊥)
+    → IsWriting o log history b call ticket j n → IsWriting o log (history ++ x ∷ []) b call ticket j n
+writing_entry o log history b call ticket j n x no_done no_broke no_issue h = record {
+  event = h.event;
+  block = h.block;
+  store = h.store;
+  stands = at_push history x j (record { event = h.event; number = n }) h.stands;
+  guest = subst (λ (l : List Entry). IsInFlight l j call) (sym (events_push history x)) (in_flight_push (events history) x.event j call no_done no_broke h.guest);
+  only = λ k other. h.only k (in_flight_pushed (events history) x.event k call no_issue (subst (λ (l : List Entry). IsInFlight l k call) (events_push history x) other));
+}
+
+-- The store's Done of a pass's write, and then the guest's: the block is local (it was, or became so in between).
+pub writing_done : (o : Opening) (log : List Entry) (history : List NumberedEntry) (m : Memory) (owed : ℕ → Bool) (b : ℕ) (call ticket : CallId) (j n : ℕ)
+    → IsWriting o log history b call ticket j n
+    → Holds o (log ++ Done ticket ∷ []) history m → m.fresh b ≡ true
+    → ((c : ℕ) → m.owed c ≡ true → owed c ≡ true) → ((c : ℕ) → owed c ≡ true → (m.owed c ≡ true) ⊎ (c ≡ b)) → (m.index.stale b ≡ true) ⊎ (owed b ≡ true)
+    → Holds o (log ++ Done ticket ∷ []) (history ++ record { event = Done call; number = length (log ++ Done ticket ∷ []) } ∷ []) (with_blocks m m.fresh m.born owed m.pending)
+writing_done o log history m owed b call ticket j n w h fresh more only logged =
+    write_done o (log ++ Done ticket ∷ []) history m owed call b h fresh mine more only logged
+  where
+    mine : (k i s : ℕ) (v : Sector) → GuestWrites history k i s v → (is_open : IsOpen (events history) k) → is_open.id ≡ call → (o.layout.block_of s ≡ b) × ((d : ℕ) × Ends (log ++ Done ticket ∷ []) i d)
+    mine k i s v g is_open same =
+        let k_is : k ≡ j = w.only k (subst (λ (y : CallId). IsInFlight (events history) k y) same (open_in_flight (events history) k is_open)) in
+        let entry : record { event = g.event; number = i } ≡ record { event = w.event; number = n } = at_one history j (record { event = g.event; number = i }) (record { event = w.event; number = n }) (subst (λ (y : ℕ). Numbered history y i g.event) k_is g.stands) w.stands in
+        let event : g.event ≡ w.event = ap (λ (y : NumberedEntry). y.event) entry in
+        let number : i ≡ n = ap (λ (y : NumberedEntry). y.number) entry in (
+          w.block s v (subst (λ (y : Entry). Covers y s v) event g.covers),
+          (length log, subst (λ (y : ℕ). Ends (log ++ Done ticket ∷ []) y (length log)) (sym number) (in_flight_ends log n ticket w.store)),
+        )
+
+-- After the Broke of a pass's write no guest write to its block is open, where each open one is the call's.
+pub writing_broke : (o : Opening) (log : List Entry) (history : List NumberedEntry) (b : ℕ) (call : CallId) (number : ℕ)
+    → ((k i s : ℕ) (v : Sector) → o.layout.block_of s ≡ b → GuestWrites history k i s v → (is_open : IsOpen (events history) k) → is_open.id ≡ call)
+    → (k i s : ℕ) (v : Sector) → o.layout.block_of s ≡ b → GuestWrites (history ++ record { event = Broke call; number = number } ∷ []) k i s v → IsOpen (events (history ++ record { event = Broke call; number = number } ∷ [])) k → ⊥
+writing_broke o log history b call number mine k i s v block w is_open =
+    elim (guest_writes_pushed history (record { event = Broke call; number = number }) k i s v w) [
+      | inl old ↦
+          let below = guest_writes_below history k i s v old in
+          let was = guest_open_pushed history (record { event = Broke call; number = number }) k below is_open in
+          let id_was : was.id ≡ call = mine k i s v block old was in
+          let there : At (events history ++ Broke call ∷ []) k is_open.event = subst (λ (l : List Entry). At l k is_open.event) (events_push history (record { event = Broke call; number = number })) is_open.stands in
+          let here : At (events history ++ Broke call ∷ []) k was.event = at_push (events history) (Broke call) k was.event was.stands in
+          let same : is_open.event ≡ was.event = at_one (events history ++ Broke call ∷ []) k is_open.event was.event there here in
+          let id_is : is_open.id ≡ call = issue_one was.event is_open.id call (subst (λ (y : Entry). IsIssueOf y is_open.id) same is_open.issues) (subst (λ (y : CallId). IsIssueOf was.event y) id_was was.issues) in
+          let end : At (events (history ++ record { event = Broke call; number = number } ∷ [])) (length (events history)) (Broke call) =
+          subst (λ (l : List Entry). At l (length (events history)) (Broke call)) (sym (events_push history (record { event = Broke call; number = number }))) (at_end (events history) (Broke call)) in
+          is_open.open_still (length (events history)) (let l = length_events history in omega arith) (inr (subst (λ (y : CallId). At (events (history ++ record { event = Broke call; number = number } ∷ [])) (length (events history)) (Broke y)) (sym id_is) end))
+      | inr new ↦ new.2
+    ]
+
+-- a flush under way, after an entry
+pub under_way_entry : (o : Opening) (log : List Entry) (history : List NumberedEntry) (m : Memory) (snapshot : ℕ → Bool) (call : CallId) (a n q : ℕ) (x : NumberedEntry)
+    → IsUnderWay o log history m snapshot call a n q → IsUnderWay o log (history ++ x ∷ []) m snapshot call a n q
+under_way_entry o log history m snapshot call a n q x h = record {
+  asked = at_push history x a (record { event = Ask call Flush; number = n }) h.asked;
+  order = h.order;
+  owed = h.owed;
+  owed_done = h.owed_done;
+  tried = h.tried;
+  covered = λ b w. h.covered b (written_before_old o history x a b (let l = at_below history a (record { event = Ask call Flush; number = n }) h.asked in omega arith) w);
+}
+
+-- a flush under way, after a change of memory by another pass: more is owed, and what was local was so since the same moment
+pub under_way_blocks : (o : Opening) (log : List Entry) (history : List NumberedEntry) (m : Memory) (snapshot : ℕ → Bool) (call : CallId) (a n q : ℕ) (fresh : ℕ → Bool) (born : ℕ → ℕ) (owed : ℕ → Bool) (pending : ℕ → Option ℕ)
+    → ((b : ℕ) → m.owed b ≡ true → owed b ≡ true) → ((b : ℕ) → m.owed b ≡ true → born b ≡ m.born b)
+    → IsUnderWay o log history m snapshot call a n q → IsUnderWay o log history (with_blocks m fresh born owed pending) snapshot call a n q
+under_way_blocks o log history m snapshot call a n q fresh born owed pending more same h = record {
+  asked = h.asked;
+  order = h.order;
+  covered = h.covered;
+  tried = h.tried;
+  owed = λ b snap. more b (h.owed b snap);
+  owed_done = λ b snap. let k = same b (h.owed b snap) in let l = h.owed_done b snap in omega arith;
+}
+
+-- what was put stays the last of its sector while other sectors are written
+pub recorded_push : (o : Opening) (log : List Entry) (m : Memory) (e : Entry) (first by b : ℕ) → ((k : ℕ) (u : Sector) → k < m.index.cursor → k < o.layout.slots → Covers e (o.layout.slot_at k) u → ⊥)
+    → IsRecorded o log m first by b → IsRecorded o (log ++ e ∷ []) m first by b
+recorded_push o log m e first by b other h = record {
+  slot = h.slot;
+  value = h.value;
+  since = h.since;
+  below = h.below;
+  within = h.within;
+  names = h.names;
+  last = last_push log e (o.layout.slot_at h.slot) h.value by (λ u covers. other h.slot u h.below h.within covers) h.last;
+}
+
+pub written_more : (o : Opening) (settled more : ℕ → Type 0) (m : Memory) (snapshot : ℕ → Bool) (c : ℕ) (v : Sector) → ((b : ℕ) → settled b → more b) → IsWrittenPage o settled m snapshot c v → IsWrittenPage o more m snapshot c v
+written_more o settled more m snapshot c v better h = record { right = right_page_more o settled more m.index.table m.index.table c v better (λ d p given. given) h.right; has = h.has }
+
+pub page_push : (o : Opening) (log : List Entry) (m : Memory) (snapshot : ℕ → Bool) (e : Entry) (by c : ℕ) → ((u : Sector) → Covers e (o.layout.map_at c) u → ⊥) → HasPage o log m snapshot by c → HasPage o (log ++ e ∷ []) m snapshot by c
+page_push o log m snapshot e by c other h = record {
+  value = h.value;
+  last = last_push log e (o.layout.map_at c) h.value by other h.last;
+  written = written_more o (IsSettled log m) (IsSettled (log ++ e ∷ []) m) m snapshot c h.value (settled_push log m e) h.written;
+}

@@ -1,0 +1,14 @@
+pub mod Logs
+pub mod NthWrites
+pub mod OpenWrites
+pub mod AsksBefore
+pub mod Exact
+pub mod CrashImages
+pub mod Layouts
+pub mod Deciding
+pub mod Refusals
+pub mod Decoders
+pub mod Records
+pub mod Telling
+pub mod Openings
+pub mod Made

@@ -1,0 +1,10 @@
+pub mod Core
+pub mod PassSteps
+pub mod IssueSteps
+pub mod EndSteps
+pub mod FlushSteps
+pub mod MarkSteps
+pub mod Primitives
+pub mod Keeping
+pub mod Retrack
+pub mod Using
