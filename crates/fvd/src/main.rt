@@ -1,0 +1,96 @@
+//! The program: its words come from the command line, a trace from standard input, and its text goes to standard output.
+#![tactic(auto)]
+
+ghost use Rattle.std.specs.Prelude.{[], IfOk};
+ghost use Rattle.vd_file.specs.Standing.{AreFlying};
+
+use std::process::ExitCode;
+use std::{env, io};
+use vd_device::{Base, Store};
+use vd_file::{FileBase, FileStore, NotOpened};
+use vd_io::Failed;
+use vd_io::sink::Sink;
+use vd_io::std_sink::StdSink;
+use vd_io::std_source::StdSource;
+use vd_report::line::{Line, put_line};
+use vd_top::still;
+
+/// The status where a file can't be opened, and where there is no memory for the words or the devices.
+const NO_FILE: u8 = 5;
+
+const NO_MEMORY: u8 = 7;
+
+/// Why there are no devices to work on.
+#[derive(Clone, Copy, Drop)]
+enum Unready {
+    /// The word of this number names a file that can't be opened.
+    NoFile(u8),
+    NoMemory,
+}
+
+fn reason_of(refused: NotOpened, word: u8) -> Unready {
+    match refused {
+        NotOpened::NoFile => Unready::NoFile(word),
+        NotOpened::NoMemory => Unready::NoMemory,
+    }
+}
+
+/// The store and the base of the second and the third word, where the command has a store and a base and both words are
+/// there; else devices of no sectors.
+fn devices_of(rt: &HostRuntime, words: &[String]) -> Result<(FileStore, FileBase), Unready>
+    ensures { IfOk result (λ devices. AreFlying devices.0 [] × AreFlying devices.1 []) }
+{
+    match words {
+        [command, store, base, ..] if command.as_str() == "show" => {
+            let store = FileStore::at(rt, store.as_str(), None).map_err(|e| reason_of(e, 2))?;
+            let base = FileBase::at(rt, base.as_str()).map_err(|e| reason_of(e, 3))?;
+            Ok((store, base))
+        }
+        _ => Ok((FileStore::none(), FileBase::none())),
+    }
+}
+
+fn words_of(rt: &HostRuntime) -> io::Result<Vec<String>> {
+    let mut words = Vec::new(rt.alloc());
+    for word in env::args(rt)?.skip(1) {
+        words.push(word)?;
+    }
+    Ok(words)
+}
+
+fn main(rt: HostRuntime) -> ExitCode {
+    let mut out = StdSink::new(rt.stdout());
+    let Ok(words) = words_of(&rt) else {
+        let _ = put_line(&mut out, Line::NoMemory);
+        return ExitCode::from(NO_MEMORY);
+    };
+    let (store, base) = match devices_of(&rt, words.as_slice()) {
+        Ok(devices) => devices,
+        Err(Unready::NoFile(word)) => {
+            let _ = put_no_file(&mut out, word);
+            return ExitCode::from(NO_FILE);
+        }
+        Err(Unready::NoMemory) => {
+            let _ = put_line(&mut out, Line::NoMemory);
+            return ExitCode::from(NO_MEMORY);
+        }
+    };
+    let mut trace = StdSource::new(rt.stdin());
+    let end = still(
+        rt.alloc(),
+        words.as_slice(),
+        &mut trace,
+        &mut out,
+        store,
+        base,
+    );
+    ExitCode::from(end.status)
+}
+
+fn put_no_file<O: Sink>(out: &mut O, word: u8) -> Result<(), Failed> {
+    out.write(if word == 2 {
+        b"no file 2\n"
+    } else {
+        b"no file 3\n"
+    })
+}

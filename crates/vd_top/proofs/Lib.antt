@@ -1,0 +1,5 @@
+pub mod AreaLaws
+pub mod SlotLaws
+pub mod OpeningLaws
+pub mod ShowLaws
+pub mod CommandLaws

@@ -1,0 +1,26 @@
+-- How a command ends: its text, its status, and what a failing sink makes of them.
+use Rattle.std.specs.Prelude.{ℕ, zero, suc, ◌≡◌, ◌⊎◌, List, ◌++◌, codes}
+use Rattle.vd_io.specs.Streams.{Rose, WritesPart}
+use Rattle.vd_report.specs.Lines.{line_text}
+use Rattle.vd_report.specs.Tokens.{show_text}
+use Rattle.vd_top.specs.Statuses.{status_of_line}
+use Rattle.vd_top.specs.Showing.{Outcome, Refused, Shown}
+
+abbrev pub status_of : Outcome → ℕ
+status_of (Refused line) = status_of_line line
+status_of (Shown first sectors) = 0
+
+abbrev pub text_of : Outcome → List ℕ
+text_of (Refused line) = line_text line ++ codes "\n"
+text_of (Shown first sectors) = show_text first sectors
+
+-- a sink that failed makes status 6 of status 0, and leaves every other
+abbrev pub unwritten : ℕ → ℕ
+unwritten zero = 6
+unwritten (suc n) = suc n
+
+-- The text was written, and the status is the outcome's; or the sink failed, and a front of the text was written.
+abbrev pub Ends : Outcome → (status faults faults' : ℕ) (tells : Type 0) (written written' : List ℕ) → Type 0
+Ends outcome status faults faults' tells written written' =
+    ((status ≡ status_of outcome) × (tells → written' ≡ written ++ text_of outcome))
+    ⊎ ((status ≡ unwritten (status_of outcome)) × Rose faults faults' × (tells → WritesPart (text_of outcome) written written'))

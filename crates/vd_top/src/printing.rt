@@ -1,0 +1,67 @@
+//! How a command ends: its text goes to the sink, and its status is answered.
+
+ghost use Rattle.std.specs.Prelude.{◌≡◌, ℕ, ◌≤◌, length, OnErr};
+ghost use Rattle.vd_io.specs.Streams.{Rose, Writes};
+ghost use Rattle.vd_top.specs.Statuses.{status_of_line};
+ghost use Rattle.vd_top.specs.Showing.{Refused, Shown};
+ghost use Rattle.vd_top.specs.Ending.{Ends};
+
+use vd_io::sink::Sink;
+use vd_law::entry::Sector;
+use vd_report::line::{Line, put_line};
+use vd_report::sectors::put_show;
+
+/// The status with which a line ends a command.
+fn status_of(line: Line) -> u8
+    ensures { result ≡ status_of_line line }
+{
+    match line {
+        Line::Ok | Line::Made { .. } | Line::Tracked { .. } | Line::Local { .. } => 0,
+        Line::NotLess { .. } | Line::NotZero { .. } | Line::Worn { .. } => 1,
+        Line::BadWords => 2,
+        Line::NotImage
+        | Line::Version { .. }
+        | Line::BadField { .. }
+        | Line::TooSmall { .. }
+        | Line::OldVersion
+        | Line::BadEntry { .. }
+        | Line::DoubleChunk { .. }
+        | Line::BadBits { .. }
+        | Line::BadRecord { .. }
+        | Line::Changed { .. } => 3,
+        Line::PastTheDisk
+        | Line::BadLine { .. }
+        | Line::TooMuch { .. }
+        | Line::LinePastTheDisk { .. } => 4,
+        Line::StoreFault { .. } | Line::BaseFault { .. } => 5,
+        Line::SourceFault => 6,
+        Line::NoMemory => 7,
+        Line::NotBuilt => 8,
+    }
+}
+
+/// Prints a line, and answers the status with which it ends the command.
+pub fn refuse<O: Sink>(out: &mut O, line: Line) -> u8
+    ensures told_before { O.tells out.new → O.tells out.old }
+    ensures calm { O.faults out.old ≤ O.faults out.new }
+    ensures ends { Ends (Refused line) result (O.faults out.old) (O.faults out.new) (O.tells out.new) (O.written out.old) (O.written out.new) }
+{
+    let status = status_of(line);
+    match put_line(out, line) {
+        Ok(()) => status,
+        Err(_) if status == 0 => 6,
+        Err(_) => status,
+    }
+}
+
+/// Prints sectors, and answers the status with which this ends the command.
+pub fn print_sectors<O: Sink>(out: &mut O, first: u64, sectors: &[Sector]) -> u8
+    ensures told_before { O.tells out.new → O.tells out.old }
+    ensures calm { O.faults out.old ≤ O.faults out.new }
+    ensures ends { Ends (Shown first sectors.now) result (O.faults out.old) (O.faults out.new) (O.tells out.new) (O.written out.old) (O.written out.new) }
+{
+    match put_show(out, first, sectors) {
+        Ok(()) => 0,
+        Err(_) => 6,
+    }
+}

@@ -1,0 +1,99 @@
+//! The command `show`.
+
+ghost use Rattle.std.specs.Prelude.{◌≡◌, ℕ, ◌+◌, ◌^◌, ◌<◌, ◌≤◌, [], length, take, nat_lt};
+ghost use Rattle.vd_reading.specs.Quiet.{OnlyReads, OnlyReadsBase, IsFault};
+ghost use Rattle.vd_top.specs.Showing.{Outcome, outcome_of, open_line, Finds};
+ghost use Rattle.vd_top.specs.Ending.{Ends};
+
+use crate::area::MOST;
+use crate::opening::{OpenError, open_fresh};
+use crate::printing::{print_sectors, refuse};
+use std::alloc::Global;
+use vd_device::{Base, Store};
+use vd_header::HeaderError;
+use vd_io::sink::Sink;
+use vd_law::entry::Sector;
+use vd_reading::read_background;
+use vd_report::line::Line;
+
+fn line_of(error: OpenError) -> Line
+    ensures { result ≡ open_line error }
+{
+    match error {
+        OpenError::Store(ticket) => Line::StoreFault { ticket },
+        OpenError::Header(HeaderError::NotImage) => Line::NotImage,
+        OpenError::Header(HeaderError::Version(version)) => Line::Version { version },
+        OpenError::Header(HeaderError::Field(field)) => Line::BadField { field },
+        OpenError::TooSmall { need, have } => Line::TooSmall { need, have },
+        OpenError::NotBuilt => Line::NotBuilt,
+    }
+}
+
+/// Whether the range lies past a disk of this size.
+fn is_past(size: u64, first: u64, count: u64) -> bool
+    ensures { result ≡ nat_lt size (first + count) }
+{
+    first > size || count > size - first
+}
+
+/// Finds `count` sectors of the disk from `first` on, and puts them at the front of `room`. The error is the line that
+/// says why not, of status 3, 4, 5 or 8.
+fn find_sectors<S: Store, B: Base>(
+    store: &mut S,
+    base: &mut B,
+    first: u64,
+    count: u64,
+    room: &mut [Sector],
+) -> Result<(), Line>
+    requires store_idle { S.flies store.old [] }
+    requires base_idle { B.flies base.old [] }
+    requires room { length room.old ≡ MOST }
+    requires count { count ≤ MOST }
+    ensures store { OnlyReads (S.flies store.new []) (S.sectors store.old) (S.sectors store.new) (S.depth store.old) (S.depth store.new) (S.faults store.old) (S.faults store.new) (S.tells store.old) (S.tells store.new) (S.records store.old) (S.records store.new) (S.disk store.old) (S.disk store.new) }
+    ensures base { OnlyReadsBase (B.flies base.new []) (B.sectors base.old) (B.sectors base.new) (B.faults base.old) (B.faults base.new) (B.tells base.old) (B.tells base.new) (B.content base.old) (B.content base.new) }
+    ensures found { Finds (S.tells store.new × B.tells base.new) (S.disk store.old).held (B.content base.old) first count
+        (λ ticket. IsFault ticket (S.last store.new) (S.faults store.old) (S.faults store.new)) (λ ticket. IsFault ticket (B.last base.new) (B.faults base.old) (B.faults base.new))
+        (outcome_of result first (take count room.new)) }
+{
+    let header = match open_fresh(store, room) {
+        Ok(header) => header,
+        Err(error) => return Err(line_of(error)),
+    };
+    if is_past(header.size, first, count) {
+        return Err(Line::PastTheDisk);
+    }
+    match read_background(base, header.tracked, first, &mut room[..count as usize]) {
+        Ok(()) => Ok(()),
+        Err(ticket) => Err(Line::BaseFault { ticket }),
+    }
+}
+
+/// Prints what `show` of `count` sectors from `first` on answers, from 1 to 2,048, and answers its status.
+pub fn show<S: Store, B: Base, O: Sink>(
+    alloc: Global,
+    out: &mut O,
+    store: &mut S,
+    base: &mut B,
+    first: u64,
+    count: u64,
+) -> u8
+    requires store_idle { S.flies store.old [] }
+    requires base_idle { B.flies base.old [] }
+    requires count { count ≤ MOST }
+    ensures store { OnlyReads (S.flies store.new []) (S.sectors store.old) (S.sectors store.new) (S.depth store.old) (S.depth store.new) (S.faults store.old) (S.faults store.new) (S.tells store.old) (S.tells store.new) (S.records store.old) (S.records store.new) (S.disk store.old) (S.disk store.new) }
+    ensures base { OnlyReadsBase (B.flies base.new []) (B.sectors base.old) (B.sectors base.new) (B.faults base.old) (B.faults base.new) (B.tells base.old) (B.tells base.new) (B.content base.old) (B.content base.new) }
+    ensures told_before { O.tells out.new → O.tells out.old }
+    ensures calm { O.faults out.old ≤ O.faults out.new }
+    ensures answer { (outcome : Outcome)
+        × Finds (S.tells store.new × B.tells base.new) (S.disk store.old).held (B.content base.old) first count
+        (λ ticket. IsFault ticket (S.last store.new) (S.faults store.old) (S.faults store.new)) (λ ticket. IsFault ticket (B.last base.new) (B.faults base.old) (B.faults base.new)) outcome
+        × Ends outcome result (O.faults out.old) (O.faults out.new) (O.tells out.new) (O.written out.old) (O.written out.new) }
+{
+    let Ok(mut room) = vec![in alloc; Sector::filled(0); MOST as usize] else {
+        return refuse(out, Line::NoMemory);
+    };
+    match find_sectors(store, base, first, count, room.as_mut_slice()) {
+        Ok(()) => print_sectors(out, first, &room.as_slice()[..count as usize]),
+        Err(line) => refuse(out, line),
+    }
+}
