@@ -1,10 +1,10 @@
 -- Bits of numbers that were shifted, cut and laid over one another.
-use Rattle.std.proofs.Common.{add-zero, ◌≡◌, ◌≢◌, ℕ, min, max, ◌+◌, ◌-◌, ◌*◌, ◌/◌, ◌%◌, ◌^◌, ◌<◌, ◌≤◌, Bool, true, false, cond, eqb, List, length, get_or, map, Some, sym, refl, ap, ◌∙◌, arith}
-use Rattle.std.specs.Int.{bit_at, bit_not, w64}
+use Rattle.std.proofs.Common.{add-zero, ◌≡◌, ℕ, min, max, ◌+◌, ◌-◌, ◌*◌, ◌/◌, ◌%◌, ◌^◌, ◌<◌, ◌≤◌, sym, refl, ap, ◌∙◌, arith}
+use Rattle.std.specs.Int.{bit_at, w64}
 use Rattle.std.specs.Int.RustNames.{bit_or}
 use lib.Bits.{bit_and}
-use Rattle.std.proofs.lemmas.Nat.{shr-shr, shl-shr, shr_split, shl_whole, and_mask, pow_pos, pow-add, mod_below}
-use Rattle.std.proofs.lemmas.Nat.Bits.{bit_at_cat_low, bit_at_cat_high, bit_at-zero, bit_at_above, bit_at_and, bit_at_or, bit_at_not, bit_at_ones, bit_at_ones_above, bit_at-lt, ones_shr}
+use Rattle.std.proofs.lemmas.Nat.{shr-shr, shl-shr, shr_split, shl_whole, pow_pos, mod_below}
+use Rattle.std.proofs.lemmas.Nat.Bits.{bit_at_cat_low, bit_at-zero, bit_at_above, bit_at_and, bit_at_or, bit_at_not, bit_at_ones, bit_at-lt, ones_shr}
 
 -- a shift to the right moves the bits down
 pub bit_shr : (n s i : ℕ) → bit_at (n / 2 ^ s) i ≡ bit_at n (s + i)

@@ -1,6 +1,5 @@
 -- The blocks of a chunk stand in one word, and their mask is counted.
-use Rattle.std.proofs.Common.{◌≡◌, ℕ, ◌+◌, ◌-◌, ◌*◌, ◌/◌, ◌%◌, ◌^◌, ◌<◌, ◌≤◌, ⊎_elim, nat_eq, Bool, false, cond, List, ◌++◌, length, get_or, take, drop, map, sym, ap, ◌∙◌, arith, zero-add, length-take, length-drop, length-append}
-use Rattle.std.specs.List.{range_with_len}
+use Rattle.std.proofs.Common.{◌≡◌, ℕ, ◌+◌, ◌-◌, ◌*◌, ◌/◌, ◌%◌, ◌^◌, ◌<◌, ◌≤◌, ⊎_elim, nat_eq, Bool, false, cond, List, ◌++◌, length, take, drop, sym, ap, ◌∙◌, arith, zero-add}
 use Rattle.std.specs.Int.{bit_at}
 use Rattle.std.specs.Int.RustNames.{count_ones}
 use Rattle.std.proofs.Math.Nat.{mul-sub, mul-le-mul_left, lt_of_mul-lt-mul_left, mul_assoc, div-add-mod}

@@ -8,3 +8,4 @@ pub mod SummaryLaws
 pub mod MarkedLaws
 pub mod LowestLaws
 pub mod Chunks
+pub mod MaskLaws

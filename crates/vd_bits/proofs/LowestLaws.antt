@@ -1,5 +1,5 @@
 -- The search for the lowest marked number: in one word, then by the set of words that have one.
-use Rattle.std.proofs.Common.{◌≡◌, ◌≢◌, ℕ, ◌+◌, ◌-◌, ◌*◌, ◌/◌, ◌^◌, ◌<◌, ◌≤◌, ◌⊎◌, ⊎_elim, ◌↔◌, Bool, true, false, List, length, Some, None, Option, IsNone, set, sym, ap, ◌∙◌, arith, length-set}
+use Rattle.std.proofs.Common.{◌≡◌, ◌≢◌, ℕ, ◌+◌, ◌*◌, ◌/◌, ◌<◌, ◌≤◌, ⊎_elim, ◌↔◌, Bool, true, false, List, length, Some, None, Option, IsNone, set, sym, arith, length-set}
 use Rattle.std.specs.List.{slice_get}
 use Rattle.std.specs.Option.{is_some, IfSome, IfNone}
 use Rattle.std.proofs.lemmas.Bool.{cases_eq, cases_lt, false≢true, true≢false}

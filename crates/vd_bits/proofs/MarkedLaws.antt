@@ -1,14 +1,13 @@
 -- What the fields of a set are after one of its numbers changed.
-use Rattle.std.proofs.Common.{◌≡◌, ℕ, ◌+◌, ◌-◌, ◌^◌, ◌<◌, ◌≤◌, Bool, true, false, List, length, set, replicate, Some, sym, ap, ◌∙◌, arith, length-set, subst}
+use Rattle.std.proofs.Common.{◌≡◌, ℕ, ◌+◌, ◌-◌, ◌^◌, ◌<◌, Bool, true, false, List, length, set, replicate, Some, sym, ap, ◌∙◌, arith, length-set, subst}
 use Rattle.std.specs.List.{slice_get}
 use Rattle.vd_bits.specs.declared.marked.Above as above
-use Rattle.vd_bits.specs.declared.marked.Above.TheVariants.{Nothing, Words}
-use Rattle.vd_bits.specs.declared.marked.Marked.TheInside.{Inside}
+use Rattle.vd_bits.specs.declared.marked.Above.TheVariants.{Nothing}
 use Rattle.vd_bits.specs.Marks.{count_true}
 use Rattle.vd_bits.specs.Summaries.{IsCovered, IsCounted, Summarizes}
 use Rattle.std.proofs.lemmas.List.{length-replicate}
 use Rattle.vd_bits.proofs.SetLaws.{count-set_true, count-set_false, count-le-length, count-full, count-empty}
-use Rattle.vd_bits.proofs.SummaryLaws.{full-summarizes, empty-summarizes}
+use Rattle.vd_bits.proofs.SummaryLaws.{full-summarizes}
 
 -- the last level stays the last
 pub still_last : (low : List Bool) (i : ℕ) (b : Bool) (a : above.Above) → a ≡ Nothing → IsCovered low a → IsCovered (set low i b) a

@@ -1,14 +1,12 @@
 -- Rows of flags, and what a change of one word makes of them.
-use Rattle.std.proofs.Common.{◌≡◌, ◌≢◌, ℕ, zero, suc, min, ◌+◌, ◌-◌, ◌*◌, ◌/◌, ◌%◌, ◌^◌, ◌<◌, ◌≤◌, ◌⊎◌, ⊎_elim, inl, inr, Bool, true, false, cond, eqb, List, [], ◌∷◌, ◌++◌, length, get_or, set, take, drop, replicate, map, Some, sym, refl, ap, ◌∙◌, subst, arith, zero-add, length-set, length-append, length-take, length-drop, get_or-set_same, get_or-set_other, get_or-take, get_or-drop}
-use Rattle.std.specs.List.{range_with_len, slice_get}
+use Rattle.std.proofs.Common.{◌≡◌, ◌≢◌, ℕ, zero, suc, ◌+◌, ◌-◌, ◌/◌, ◌%◌, ◌^◌, ◌<◌, ◌≤◌, ⊎_elim, Bool, false, cond, eqb, List, ◌++◌, length, get_or, set, take, drop, sym, refl, ap, ◌∙◌, arith, zero-add, length-set, length-append, length-take, length-drop, get_or-set_same, get_or-set_other, get_or-take, get_or-drop}
 use Rattle.std.specs.Int.{bit_at}
 use lib.Bits.{bit_and}
 use Rattle.std.proofs.lemmas.Bool.{cases_eq, cases_lt}
-use Rattle.std.proofs.lemmas.Nat.{and_mask, mod_below, mod-mul-add, div-mul-add, div_below}
+use Rattle.std.proofs.lemmas.Nat.{and_mask, div_below}
 use Rattle.std.proofs.lemmas.Nat.Bits.{bit_at-lt, same_from_bits}
-use Rattle.std.proofs.lemmas.List.{length-replicate, get_or-replicate, same_lists, get_or_past, get_or_append_left, get_or-append_right, get_or_read}
+use Rattle.std.proofs.lemmas.List.{same_lists, get_or_past, get_or_append_left, get_or-append_right}
 use Rattle.std.proofs.lemmas.List.FromFn.{get_or-map-range_with_len, length-map-range_with_len}
-use Rattle.std.proofs.lemmas.Option.{slice_get-get_or}
 use Rattle.std.proofs.lemmas.Simd.{bit_mask_l}
 use Rattle.vd_bits.specs.Masks.{mask_of, bits_of}
 use Rattle.vd_bits.specs.Rows.{flag_at, row, IsRow}

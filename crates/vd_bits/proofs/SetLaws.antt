@@ -1,15 +1,14 @@
 -- A list of truth values of which one is changed.
-use Rattle.std.proofs.Common.{◌≡◌, ◌≢◌, ℕ, zero, suc, ◌+◌, ◌-◌, ◌<◌, ◌≤◌, Bool, true, false, cond, List, [], ◌∷◌, ◌++◌, length, get_or, set, take, drop, map, replicate, Some, None, sym, refl, ap, ◌∙◌, arith}
-use Rattle.std.specs.List.{slice_get, sum_by}
+use Rattle.std.proofs.Common.{◌≡◌, ◌≢◌, ℕ, zero, suc, ◌+◌, ◌<◌, ◌≤◌, Bool, true, false, cond, List, [], ◌∷◌, ◌++◌, length, get_or, set, replicate, Some, sym, refl, ap, ◌∙◌, arith}
+use Rattle.std.specs.List.{slice_get}
 use Rattle.std.specs.Int.RustNames.{count_ones}
-use Rattle.std.proofs.lemmas.Bool.{false≢true}
 use Rattle.std.proofs.Math.Nat.{mul-one, mul-zero}
 use Rattle.std.proofs.lemmas.List.{map-id}
 use Rattle.std.proofs.lemmas.List.Folds.{sum_by-replicate}
-use Rattle.std.proofs.lemmas.List.Sums.{sum_by-set, sum_by-append, count_by-le-length}
+use Rattle.std.proofs.lemmas.List.Sums.{sum_by-set, sum_by-append, sum_by-cons, count_by-le-length}
 use Rattle.std.proofs.lemmas.Option.{same_Some, get_or_from_slice_get}
 use Rattle.std.proofs.lemmas.Simd.{ones-mask_l}
-use Rattle.vd_bits.specs.Marks.{count_true}
+use Rattle.vd_bits.specs.Marks.{count_true, NoneFrom}
 use Rattle.vd_bits.specs.Masks.{mask_of}
 
 pub set_same : {X : Type 0} (xs : List X) (i : ℕ) (x : X) → i < length xs → slice_get (set xs i x) i ≡ Some x
@@ -56,3 +55,11 @@ count-full n = sum_by-replicate (λ (b : Bool). cond {A = ℕ} b 1 0) n true ∙
 
 pub count-empty : (n : ℕ) → count_true (replicate n false) ≡ 0
 count-empty n = sum_by-replicate (λ (b : Bool). cond {A = ℕ} b 1 0) n false ∙ mul-zero n
+
+-- a set without members counts none
+pub count-none : (s : List Bool) → NoneFrom s 0 → count_true s ≡ 0
+count-none [] none = refl
+count-none (b ∷ s) none =
+    let first : b ≡ false = same_Some b false (none 0 (omega arith) (omega arith)) in
+    let rest : count_true s ≡ 0 = count-none s (λ i h inside. none (suc i) (omega arith) (omega arith)) in
+    rw first (sum_by-cons (λ (x : Bool). cond {A = ℕ} x 1 0) false s ∙ omega (arith, rest))

@@ -1,6 +1,6 @@
 //! One truth value for each block of a disk, by chunks.
 
-ghost use Rattle.std.specs.Prelude.{◌≡◌, ℕ, ◌+◌, ◌*◌, ◌%◌, ◌^◌, ◌<◌, ◌≤◌, false, true, Some, length, replicate, IfOk, slice_get, slice_set, ◌↔◌};
+ghost use Rattle.std.specs.Prelude.{◌≡◌, ℕ, ◌+◌, ◌*◌, ◌%◌, ◌^◌, ◌<◌, ◌≤◌, false, true, Some, length, replicate, IfOk, slice_get, slice_set};
 ghost use Rattle.vd_bits.specs.Marks.{count_true};
 ghost use Rattle.vd_bits.specs.Masks.{mask_of};
 ghost use Rattle.vd_bits.specs.Blocks.{bits_in, with_mask};
@@ -10,6 +10,8 @@ use std::alloc::Global;
 use std::marker::Model;
 use vd_law::entry::NoMemory;
 
+/// A bitmap, which clauses see as a list of truth values with a chunk's number of blocks. Blocks and chunks are counted
+/// from 0, and the bits stand 64 to a word.
 #[derive(Drop)]
 pub struct Bits {
     flags: Flags,
@@ -44,6 +46,7 @@ impl Bits {
         })
     }
 
+    /// The bit of a block that exists.
     pub fn get(&self, block: u32) -> bool
         requires { block < length self.now.bits }
         ensures { slice_get self.now.bits block ≡ Some result }
@@ -51,6 +54,7 @@ impl Bits {
         self.flags.get(block as u64)
     }
 
+    /// Makes the bit of a block true. Every other bit stays.
     pub fn set(&mut self, block: u32)
         requires { block < length self.old.bits }
         ensures { self.new ≡ record self.old { bits = slice_set self.old.bits block true } }
@@ -61,6 +65,7 @@ impl Bits {
         }
     }
 
+    /// Makes the bit of a block false. Every other bit stays.
     pub fn clear(&mut self, block: u32)
         requires { block < length self.old.bits }
         ensures { self.new ≡ record self.old { bits = slice_set self.old.bits block false } }
@@ -85,7 +90,7 @@ impl Bits {
         (at, count)
     }
 
-    /// The mask of a chunk: bit i is its block i, and bits of blocks that do not exist are 0.
+    /// The mask of a chunk that has a block: bit i is its block i, and bits of blocks that do not exist are 0.
     pub fn mask(&self, chunk_number: u32) -> u64
         requires { chunk_number * self.now.chunk < length self.now.bits }
         ensures { result ≡ mask_of (bits_in self.now chunk_number) }

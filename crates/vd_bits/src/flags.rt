@@ -8,6 +8,7 @@ use std::alloc::Global;
 use std::marker::Model;
 use vd_law::entry::NoMemory;
 
+/// Its flags are up or down, and bits past the last flag are 0.
 #[derive(Drop)]
 pub struct Flags {
     words: Vec<u64>,

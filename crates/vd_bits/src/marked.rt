@@ -1,8 +1,8 @@
 //! A set of numbers below a bound: marked pages, the chunks that a flush must log, free storage chunks.
 //!
-//! Above the flags of the numbers stand the flags of their words of 64, up to a level of at most 64 flags. So a
-//! search for the lowest member goes up and down these levels, one word on each: at most five words for a set of
-//! numbers below 16,777,216 in four levels, and never the words between.
+//! Above the flags of the numbers stand the flags of their words of 64 numbers, and so on up to a level of one word. A
+//! search for the lowest member goes up these levels and down again, one word on each: seven words at most for numbers
+//! below 16,777,216, which take four levels, and never the words between.
 
 ghost use Rattle.std.specs.Prelude.{◌≡◌, ℕ, ◌<◌, false, true, Some, length, replicate, IfOk, IfSome, IsNone, ◌↔◌, slice_set, slice_get};
 ghost use Rattle.vd_bits.specs.Marks.{IsLowest, NoneFrom, count_true};
@@ -80,6 +80,7 @@ impl Marked {
         }
     }
 
+    /// Marks a number below the bound. Every other stays as it is.
     pub fn mark(&mut self, page: u64)
         requires { page < length self.old }
         ensures { self.new ≡ slice_set self.old page true }
@@ -94,6 +95,7 @@ impl Marked {
         }
     }
 
+    /// Takes the mark off a number below the bound. Every other stays as it is.
     pub fn unmark(&mut self, page: u64)
         requires { page < length self.old }
         ensures { self.new ≡ slice_set self.old page false }
@@ -112,7 +114,7 @@ impl Marked {
         }
     }
 
-    /// The lowest marked number.
+    /// The lowest marked number, None where none is marked.
     pub fn first(&self) -> Option<u64>
         ensures lowest { IfSome result (IsLowest self.now 0) }
         ensures none { IsNone result ↔ NoneFrom self.now 0 }
@@ -120,7 +122,7 @@ impl Marked {
         self.first_from(0)
     }
 
-    /// The lowest marked number from `from` on.
+    /// The lowest marked number from `from` on, None where none from there on is marked.
     ///
     /// A flush goes over the chunks that it must log by this call alone, each time from one past the last chunk that
     /// it had: in rising order, 24 to a record, at a cost of its chunks.

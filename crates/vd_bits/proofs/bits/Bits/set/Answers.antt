@@ -1,4 +1,4 @@
-use Rattle.std.proofs.Common.{◌≡◌, ◌+◌, ◌<◌, ap, sym, arith, length, set, true, length-set}
+use Rattle.std.proofs.Common.{◌+◌, ◌<◌, ap, sym, arith, length, set, true, length-set}
 use Rattle.vd_bits.specs.Blocks.{Blocks}
 use Rattle.vd_bits.proofs.Chunks.{tallied}
 use Rattle.vd_bits.proofs.MarkedLaws.{has_room}

@@ -1,5 +1,5 @@
-use Rattle.std.proofs.Common.{◌≡◌, length, sym, ap, ◌∙◌, arith}
-use Rattle.vd_bits.specs.Rows.{row, IsRow}
+use Rattle.std.proofs.Common.{◌≡◌, ap, ◌∙◌, arith}
+use Rattle.vd_bits.specs.Rows.{row}
 use Rattle.vd_bits.proofs.RowLaws.{length_of_row}
 use Rattle.vd_bits.proofs.flags.Flags.copy_from.Goals as goal
 

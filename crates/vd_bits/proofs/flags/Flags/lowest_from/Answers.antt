@@ -1,5 +1,4 @@
-use Rattle.std.proofs.Common.{◌≡◌, ◌+◌, ◌/◌, ◌%◌, ◌^◌, ◌<◌, ◌≤◌, get_or, length, subst, ap, ◌∙◌, arith}
-use Rattle.vd_bits.specs.Marks.{IsLowest}
+use Rattle.std.proofs.Common.{◌≡◌, ◌+◌, ◌/◌, ◌%◌, ◌^◌, ◌<◌, ◌≤◌, get_or, length, arith}
 use Rattle.vd_bits.proofs.RowLaws.{length_of_row}
 use Rattle.vd_bits.proofs.RowSearch.{no_word, none_up, stays_in_word, lowest_up}
 use Rattle.std.specs.Int.{trailing_zeros, w64}

@@ -1,4 +1,4 @@
-use Rattle.std.proofs.Common.{◌≡◌, ℕ, ◌-◌, ◌∙◌, ap, sym, arith, length, replicate, set, true}
+use Rattle.std.proofs.Common.{◌≡◌, ◌-◌, ◌∙◌, ap, sym, arith, length, replicate, set, true}
 use Rattle.vd_bits.specs.Rows.{row, IsRow}
 use Rattle.vd_bits.proofs.RowLaws.{length_of_row}
 use Rattle.vd_bits.proofs.RowFills.{enough, all_up, trimmed}

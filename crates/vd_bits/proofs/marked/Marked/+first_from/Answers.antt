@@ -1,5 +1,5 @@
-use Rattle.std.proofs.Common.{◌≡◌, ◌+◌, ◌/◌, sym, ap, arith}
-use Rattle.vd_bits.specs.Marks.{IsLowest, NoneFrom}
+use Rattle.std.proofs.Common.{◌+◌, ◌/◌}
+use Rattle.vd_bits.specs.Marks.{IsLowest}
 use Rattle.vd_bits.specs.Summaries.{Summarizes}
 use Rattle.vd_bits.proofs.LowestLaws.{searched_lowest, searched_none}
 use Rattle.vd_bits.proofs.marked.Marked.+first_from.Goals as goal

@@ -1,9 +1,7 @@
 use Rattle.std.proofs.Common.{arith, sym, ◌∙◌, ap, ◌≡◌, ◌<◌, ◌/◌, length, true, set}
-use Rattle.vd_bits.specs.Summaries.{Summarizes}
 use Rattle.vd_bits.proofs.SetLaws.{set_there}
 use Rattle.vd_bits.proofs.SummaryLaws.{marked-summarizes}
 use Rattle.vd_bits.proofs.MarkedLaws.{still_last, has_room, marked_counts}
-use Rattle.vd_bits.proofs.LowestLaws.{lowest_is_some}
 use Rattle.vd_bits.proofs.marked.Marked.+mark.Goals as goal
 use Rattle.vd_bits.proofs.marked.Marked.+mark.Goals.{in-Words, in_default}
 

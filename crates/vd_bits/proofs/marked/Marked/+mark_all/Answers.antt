@@ -1,4 +1,4 @@
-use Rattle.std.proofs.Common.{◌≡◌, ◌∙◌, ap, sym, arith, length, true, replicate}
+use Rattle.std.proofs.Common.{◌≡◌, ◌∙◌, ap, length, true, replicate}
 use Rattle.vd_bits.proofs.MarkedLaws.{full_counts, full_words, full_last}
 use Rattle.vd_bits.proofs.marked.Marked.+mark_all.Goals as goal
 use Rattle.vd_bits.proofs.marked.Marked.+mark_all.Goals.{in-Words, in_default}

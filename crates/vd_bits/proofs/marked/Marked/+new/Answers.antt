@@ -1,4 +1,4 @@
-use Rattle.std.proofs.Common.{◌≡◌, ◌+◌, ◌*◌, ◌<◌, ◌≤◌, ◌∙◌, arith, false, replicate}
+use Rattle.std.proofs.Common.{◌≡◌, ◌∙◌, arith, false, replicate}
 use Rattle.std.proofs.lemmas.Grind.{div_ceil_times}
 use Rattle.std.proofs.lemmas.List.{length-replicate}
 use Rattle.vd_bits.specs.declared.marked.Above.TheVariants.{Nothing, Words}

@@ -1,5 +1,4 @@
 use Rattle.std.proofs.Common.{◌≡◌, ◌<◌, ◌/◌, ◌∙◌, ap, sym, arith, length, false, set}
-use Rattle.vd_bits.specs.Summaries.{Summarizes}
 use Rattle.vd_bits.proofs.LowestLaws.{kept_covered, emptied_covered}
 use Rattle.vd_bits.proofs.MarkedLaws.{still_last, is_counted, unmarked_counts}
 use Rattle.vd_bits.proofs.SetLaws.{set_there}
