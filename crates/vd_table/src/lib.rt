@@ -1,0 +1,6 @@
+//! Which storage chunk each chunk of a disk has.
+#![tactic(auto)]
+
+pub mod table;
+#[cfg(test)]
+mod tests;

@@ -1,0 +1,94 @@
+//! A table of four chunks and three storage chunks, and the largest one.
+
+ghost use Rattle.std.specs.Prelude.{◌≡◌, ◌<◌, length};
+
+use crate::table::{Full, Table, Taken};
+use std::alloc::Global;
+use std::process::Abort;
+use std::test::Fail;
+
+fn take(table: &mut Table, chunk: u32) -> Option<Result<u32, Full>>
+    requires { chunk < length table.old.chunks }
+    ensures chunks { length table.new.chunks ≡ length table.old.chunks }
+    ensures storage { table.new.storage ≡ table.old.storage }
+{
+    match table.get(chunk) {
+        None => Some(table.take(chunk)),
+        Some(_) => None,
+    }
+}
+
+fn set(table: &mut Table, chunk: u32, p: u32) -> Result<(), Taken>
+    requires chunk { chunk < length table.old.chunks }
+    requires storage { p < table.old.storage }
+    ensures chunks { length table.new.chunks ≡ length table.old.chunks }
+    ensures storage { table.new.storage ≡ table.old.storage }
+{
+    table.set(chunk, p)
+}
+
+#[test]
+fn four_chunks_on_three(rt: HostRuntime) -> Result<(), Fail> {
+    let mut table = Table::new(rt.alloc(), 4, 3)?;
+    let given = [
+        take(&mut table, 2),
+        take(&mut table, 0),
+        take(&mut table, 3),
+        take(&mut table, 1),
+    ];
+    assert_eq!(rt;
+        given,
+        [
+            Some(Ok(0)),
+            Some(Ok(1)),
+            Some(Ok(2)),
+            Some(Err(Full { used: 3 }))
+        ]
+    );
+    let lower = [
+        set(&mut table, 1, 2),
+        set(&mut table, 3, 0),
+        set(&mut table, 0, 0),
+        set(&mut table, 2, 0),
+    ];
+    assert_eq!(rt;
+        lower,
+        [
+            Err(Taken { by: 3 }),
+            Err(Taken { by: 2 }),
+            Err(Taken { by: 0 }),
+            Ok(())
+        ]
+    );
+    assert_eq!(rt;
+        (table.get(1), table.get(3), table.free()),
+        (None, Some(2), 0)
+    );
+    table.reset();
+    assert_eq!(rt;
+        (
+            set(&mut table, 2, 1),
+            take(&mut table, 0),
+            take(&mut table, 1)
+        ),
+        (Ok(()), Some(Ok(0)), Some(Ok(2)))
+    );
+    Ok(())
+}
+
+fn last_chunk(rt: &impl Abort, alloc: Global, chunks: u32) -> Result<(), Fail>
+    requires { 1 < chunks }
+{
+    let mut table = Table::new(alloc, chunks, chunks)?;
+    assert_eq!(rt; set(&mut table, 0, chunks - 1), Ok(()));
+    assert_eq!(rt;
+        (take(&mut table, chunks - 1), table.free()),
+        (Some(Ok(0)), chunks - 2)
+    );
+    Ok(())
+}
+
+#[test]
+fn largest_disk(rt: HostRuntime) -> Result<(), Fail> {
+    last_chunk(&rt, rt.alloc(), 8_388_608)
+}
