@@ -1,0 +1,43 @@
+-- A guest's request is found by its number.
+use Rattle.std.proofs.Common.{◌≡◌, ℕ, ◌-◌, ◌<◌, ◌≤◌, List, Some, length, get_or, ap, sym, ◌∙◌, subst, arith, Vec}
+use Rattle.std.proofs.lemmas.List.{get_or_default}
+use Rattle.std.specs.Prelude.{slice_get}
+use Rattle.std.specs.declared.alloc.Global.{Global}
+use Rattle.vd_trace.specs.declared.trace.Trace.TheInside.{Inside}
+use Rattle.vd_law.specs.declared.entry.Sector.{Sector}
+use Rattle.vd_law.specs.Entries as law
+use Rattle.vd_trace.specs.declared.kept.Item.{Item}
+use Rattle.vd_trace.specs.Traces.{Script, script, asked_of}
+use Rattle.vd_trace.specs.TraceFields.{script_in, IsTrace}
+use Rattle.vd_trace.specs.Keeping.{positions, work_of}
+use Rattle.vd_trace.proofs.Requests.{own-places, length-positions, inside-where-some, positions-at, IsPlaced}
+
+pub guest-of : (t : Inside) (guest at : ℕ) → IsTrace t → at < length (script (script_in t) guest) → (1 ≤ guest) × (guest ≤ length t.places.items)
+guest-of t guest at is some = inside-where-some t.sectors.items (length t.places.items) guest at t.items.items is.items.guests_in some
+
+own-of : (t : Inside) (guest at : ℕ) → IsTrace t → at < length (script (script_in t) guest) → (own : Vec ℕ Global) → own ≡ get_or t.places.items (guest - 1) own → own.items ≡ positions guest 0 t.items.items
+own-of t guest at is some own found =
+    let inside = guest-of t guest at is some in
+    ap (λ (v : Vec ℕ Global). v.items) found ∙ own-places (length t.places.items) t.sectors.items t.items.items t.places.items _ is.items guest inside.0 inside.1 own
+
+pub place-of : (t : Inside) (guest at : ℕ) → IsTrace t → at < length (script (script_in t) guest) → (own : Vec ℕ Global) → own ≡ get_or t.places.items (guest - 1) own → at < length own.items
+place-of t guest at is some own found =
+    omega (arith, some, length-positions t.sectors.items guest 0 t.items.items, ap length (own-of t guest at is some own found))
+
+pub item-of : (t : Inside) (guest at : ℕ) → IsTrace t → at < length (script (script_in t) guest) → (own : Vec ℕ Global) → own ≡ get_or t.places.items (guest - 1) own → (place : ℕ) → place ≡ get_or own.items at place →
+    IsPlaced t.sectors.items t.items.items place (slice_get (script (script_in t) guest) at)
+item-of t guest at is some own found place read =
+    let inside : at < length (positions guest 0 t.items.items) = omega (arith, some, length-positions t.sectors.items guest 0 t.items.items) in
+    let same : place ≡ get_or (positions guest 0 t.items.items) at 0 - 0 =
+    read ∙ get_or_default own.items at place 0 (place-of t guest at is some own found) ∙ ap (λ places. get_or places at 0) (own-of t guest at is some own found) ∙ omega arith in
+    rw same (positions-at t.sectors.items guest 0 t.items.items at inside).1
+
+pub some-of : (t : Inside) (now : Script) (guest at : ℕ) → script_in t ≡ now → at < length (script now guest) → at < length (script (script_in t) guest)
+some-of t now guest at is some = subst (λ (s : Script). at < length (script s guest)) (sym is) some
+
+-- what is handed out of its item
+pub handed-out : (t : Inside) (now : Script) (guest at place : ℕ) (item : Item) (asked : law.Asked) → script_in t ≡ now → IsPlaced t.sectors.items t.items.items place (slice_get (script (script_in t) guest) at) →
+    item ≡ get_or t.items.items place item → (sectors : List Sector) → sectors ≡ t.sectors.items → asked ≡ asked_of (work_of sectors item.work) → slice_get (script now guest) at ≡ Some asked
+handed-out t now guest at place item asked is placed found sectors same out =
+    subst (λ (s : Script). slice_get (script s guest) at ≡ Some asked) is
+    (placed.told item ∙ ap Some (ap (λ (i : Item). asked_of (work_of t.sectors.items i.work)) (sym found) ∙ ap (λ (own : List Sector). asked_of (work_of own item.work)) (sym same) ∙ sym out))

@@ -1,0 +1,9 @@
+pub mod Drafts
+pub mod Found
+pub mod LineLaws
+pub mod Places
+pub mod Readings
+pub mod Requests
+pub mod Splitting
+pub mod Verdicts
+pub mod Windows

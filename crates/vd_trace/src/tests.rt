@@ -1,0 +1,230 @@
+//! Traces, by the formats' words and the worked rows.
+
+ghost use Rattle.std.specs.Prelude.{◌≡◌, ◌<◌, length};
+
+use crate::error::TraceError;
+use crate::trace::{Asked, Trace};
+use std::alloc::Global;
+use std::io;
+use std::io::{Error, ErrorKind, Read};
+use std::test::Fail;
+use vd_io::mem_source::MemSource;
+use vd_io::std_source::StdSource;
+use vd_law::entry::Sector;
+
+/// Reads this text for two guests, where no call of the source fails.
+fn read(alloc: Global, text: &[u8]) -> Result<Trace, TraceError> {
+    let mut source = MemSource::new(text.to_vec(alloc)?, Vec::new(alloc));
+    Trace::read(alloc, 2, &mut source)
+}
+
+fn bad(line: u64) -> Option<TraceError> {
+    Some(TraceError::Bad { line })
+}
+
+fn too_much(line: u64) -> Option<TraceError> {
+    Some(TraceError::TooMuch { line })
+}
+
+fn repeated(alloc: Global, line: &[u8], times: u32, last: &[u8]) -> Result<Vec<u8>, Fail> {
+    let mut text = Vec::new(alloc);
+    for _ in 0..times {
+        text.extend_from_slice(line)?;
+    }
+    text.extend_from_slice(last)?;
+    Ok(text)
+}
+
+#[test]
+fn lines_outside_the_grammar(rt: HostRuntime) -> Result<(), Fail> {
+    let alloc = rt.alloc();
+    let texts: [&[u8]; 22] = [
+        b"1 R 0 0",
+        b"1 R 0 2049",
+        b"01 F",
+        b"1  F",
+        b"3 F",
+        b"0 F",
+        b"1 W 0 1 a",
+        b"1 W 0 1 0g",
+        b"1 R 00 1",
+        b"1 R 12345678901 1",
+        b"1 Q",
+        b"1 f",
+        b" 1 F",
+        b"1 F ",
+        b" ",
+        b"1",
+        b"1 F\r",
+        b"\r",
+        b"1 X 0 0123456789abcdef",
+        b"S 0 0",
+        b"S 0 1 1",
+        b"1 R 0 1 00",
+    ];
+    for text in texts {
+        assert_eq!(rt; read(alloc, text).err(), bad(1));
+    }
+    assert_eq!(rt; read(alloc, b"1 F\nS 0 1\n1 F").err(), bad(3));
+    assert_eq!(rt; read(alloc, b"\n#\n1 F\r\r\n").err(), bad(3));
+    Ok(())
+}
+
+#[test]
+fn limits_of_lines(rt: HostRuntime) -> Result<(), Fail> {
+    let alloc = rt.alloc();
+    assert_eq!(rt; read(alloc, &repeated(alloc, b"#", 1100, b"")?).err(), None);
+    assert_eq!(rt;
+        read(alloc, &repeated(alloc, b"#", 1100, b"\r\n")?).err(),
+        None
+    );
+    assert_eq!(rt;
+        read(alloc, &repeated(alloc, b"#", 1101, b"\n")?).err(),
+        bad(1)
+    );
+    assert_eq!(rt;
+        read(alloc, &repeated(alloc, b"#", 9000, b"\n")?).err(),
+        bad(1)
+    );
+    assert_eq!(rt;
+        read(alloc, &repeated(alloc, b"\n", 500000, b"")?).err(),
+        None
+    );
+    assert_eq!(rt;
+        read(alloc, &repeated(alloc, b"\n", 500000, b"\n")?).err(),
+        too_much(500001)
+    );
+    assert_eq!(rt;
+        read(alloc, &repeated(alloc, b"\n", 500000, b"2 G")?).err(),
+        bad(500001)
+    );
+    let read_most = b"1 R 0 2048\n";
+    assert_eq!(rt;
+        read(alloc, &repeated(alloc, read_most, 128, b"2 F\n#")?).err(),
+        None
+    );
+    assert_eq!(rt;
+        read(alloc, &repeated(alloc, read_most, 128, b"1 R 0 1")?).err(),
+        too_much(129)
+    );
+    assert_eq!(rt;
+        read(alloc, &repeated(alloc, read_most, 128, b"S 0 1\n2 F")?).err(),
+        too_much(129)
+    );
+    assert_eq!(rt;
+        read(alloc, &repeated(alloc, read_most, 128, b"2 R 0 2049")?).err(),
+        bad(129)
+    );
+    Ok(())
+}
+
+/// What the guest asks with its request of this number, and the first two sectors behind it.
+fn asked(trace: &Trace, guest: u32, at: u64, content: &mut [Sector]) -> Option<Asked>
+    requires { length content.old ≡ 2048 }
+    ensures { length content.new ≡ 2048 }
+{
+    if at < trace.count(guest) {
+        Some(trace.request(guest, at, content))
+    } else {
+        None
+    }
+}
+
+fn shown(trace: &Trace, at: u64) -> Option<(u64, u64)> {
+    if at < trace.shows() {
+        Some(trace.show(at))
+    } else {
+        None
+    }
+}
+
+#[test]
+fn requests_and_shows(rt: HostRuntime) -> Result<(), Fail> {
+    let alloc = rt.alloc();
+    let mut text = b"# two guests\n1 W 9 2 aB\n\n2 F\r\n2 X 9999999999 ".to_vec(alloc)?;
+    text.extend_from_slice(&[b'0'; 1022])?;
+    text.extend_from_slice(b"5F\n1 R 127 2048\n#\nS 126 2\nS 0 2048")?;
+    let trace = read(alloc, &text)?;
+    let mut content = [Sector::filled(7); 2048];
+    assert_eq!(rt; trace.count(0), 0);
+    assert_eq!(rt; trace.count(1), 2);
+    assert_eq!(rt; trace.count(2), 2);
+    assert_eq!(rt; trace.count(3), 0);
+    assert_eq!(rt;
+        asked(&trace, 1, 0, &mut content),
+        Some(Asked::Write { first: 9, count: 2 })
+    );
+    assert_eq!(rt; content[1].same(), Some(0xab));
+    assert_eq!(rt; content[2].same(), Some(7));
+    assert_eq!(rt; asked(&trace, 2, 0, &mut content), Some(Asked::Flush));
+    assert_eq!(rt;
+        asked(&trace, 1, 1, &mut content),
+        Some(Asked::Read {
+            first: 127,
+            count: 2048
+        })
+    );
+    assert_eq!(rt; content[0].same(), Some(0xab));
+    assert_eq!(rt;
+        asked(&trace, 2, 1, &mut content),
+        Some(Asked::Write {
+            first: 9999999999,
+            count: 1
+        })
+    );
+    assert_eq!(rt; content[0].bytes[510], 0);
+    assert_eq!(rt; content[0].bytes[511], 0x5f);
+    assert_eq!(rt; content[1].same(), Some(0xab));
+    assert_eq!(rt; shown(&trace, 0), Some((126, 2)));
+    assert_eq!(rt; shown(&trace, 1), Some((0, 2048)));
+    assert_eq!(rt; shown(&trace, 2), None);
+    assert_eq!(rt; trace.past(10000000000), None);
+    assert_eq!(rt; trace.past(9999999999), Some(5));
+    assert_eq!(rt; trace.past(10), Some(2));
+    assert_eq!(rt; read(alloc, b"\nS 127 2")?.past(128), Some(2));
+    Ok(())
+}
+
+/// A reader of one byte at a time.
+#[derive(Drop)]
+struct Narrow {
+    bytes: Vec<u8>,
+    at: usize,
+}
+
+impl Read for Narrow {
+    fn read(&mut self, buf: &mut [u8]) -> io::Result<usize> {
+        if buf.is_empty() || self.at >= self.bytes.len() {
+            return Ok(0);
+        }
+        buf[0] = self.bytes[self.at];
+        self.at += 1;
+        Ok(1)
+    }
+}
+
+#[test]
+fn sources_that_fail_or_give_little(rt: HostRuntime) -> Result<(), Fail> {
+    let alloc = rt.alloc();
+    let text = b"1 F\r\n#\n\n2 Q\n";
+    for fail in [1, 2] {
+        let mut source = MemSource::new(text[..5].to_vec(alloc)?, [fail].to_vec(alloc)?);
+        assert_eq!(rt;
+            Trace::read(alloc, 2, &mut source).err(),
+            Some(TraceError::Source)
+        );
+    }
+    let mut source = MemSource::new(text.to_vec(alloc)?, [2].to_vec(alloc)?);
+    assert_eq!(rt; Trace::read(alloc, 2, &mut source).err(), bad(4));
+    let mut source = StdSource::new(Narrow {
+        bytes: text.to_vec(alloc)?,
+        at: 0,
+    });
+    assert_eq!(rt; Trace::read(alloc, 2, &mut source).err(), bad(4));
+    let mut source = StdSource::new(Narrow {
+        bytes: text[..7].to_vec(alloc)?,
+        at: 0,
+    });
+    assert_eq!(rt; Trace::read(alloc, 2, &mut source)?.count(1), 1);
+    Ok(())
+}
