@@ -14,6 +14,8 @@ mod rule;
 mod rules;
 mod store;
 mod tape;
+#[cfg(test)]
+mod tests;
 mod tickets;
 mod versions;
 

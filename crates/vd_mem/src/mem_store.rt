@@ -1,8 +1,8 @@
 //! A store in memory.
 
-ghost use Rattle.std.specs.Prelude.{◌≡◌, ◌<◌, ◌≤◌, [], length, None, IfOk};
+ghost use Rattle.std.specs.Prelude.{◌≡◌, ◌<◌, ◌≤◌, length, IfOk};
 ghost use Rattle.vd_device.specs.Disks.{IsClean};
-ghost use Rattle.vd_mem.specs.Memory.{Runs, disk_of};
+ghost use Rattle.vd_mem.specs.Memory.{disk_of, fresh};
 
 use crate::rule::Rule;
 use crate::tape::Tape;
@@ -59,18 +59,7 @@ impl MemStore {
         room: Room,
         rules: Vec<Rule>,
     ) -> Result<MemStore, NoMemory>
-        ensures start { IfOk result (λ m. m.start ≡ content.items) }
-        ensures held { IfOk result (λ m. m.held ≡ content.items) }
-        ensures empty { IfOk result (λ m. m.log.entries ≡ []) }
-        ensures room { IfOk result (λ m. m.log.left ≡ room) }
-        ensures rules { IfOk result (λ m. m.rules ≡ rules.items) }
-        ensures running { IfOk result Runs }
-        ensures whole { IfOk result (λ m. m.fuse ≡ None) }
-        ensures first { IfOk result (λ m. m.last ≡ 0) }
-        ensures none_flying { IfOk result (λ m. m.flying ≡ 0) }
-        ensures none_ended { IfOk result (λ m. m.ended ≡ 0) }
-        ensures none_failed { IfOk result (λ m. m.faults ≡ 0) }
-        ensures none_late { IfOk result (λ m. m.late ≡ 0) }
+        ensures store { IfOk result (λ m. m ≡ fresh content.items room rules.items) }
         ensures clean { IfOk result (λ m. IsClean (disk_of m)) }
     {
         let held = copy_of(alloc, &content)?;
