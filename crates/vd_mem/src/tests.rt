@@ -3,11 +3,16 @@
 //! A run is a text of words of four letters: w, r or f for the kind of call, its sector, the byte that it writes or reads,
 //! and how it ends, `.` for done or `!` for failed. At first each sector is filled with the letter s.
 
+ghost use Rattle.std.specs.Prelude.{◌≡◌, [], ◌∷◌, length};
+ghost use Rattle.vd_device.specs.declared.ticket.Kind.TheVariants.{Read};
+ghost use Rattle.vd_device.specs.Tickets.{IsTicket};
+ghost use Rattle.vd_mem.specs.Flying.{Flies};
+
 use crate::{ByList, Chooser, Fuse, Keep, Kept, Lost, MemBase, MemStore, Mixed, Rule};
 use std::alloc::Global;
 use std::process::Abort;
 use std::test::Fail;
-use vd_device::{Base, Settled, Store, flush_now, read_base, read_now, write_now};
+use vd_device::{Base, Settled, Store, Ticket, flush_now, read_base, read_now, write_now};
 use vd_law::entry::{Room, Sector};
 
 fn place(letter: u8) -> u64 {
@@ -19,16 +24,14 @@ fn ends<S: Store>(rt: &impl Abort, store: &mut S, word: &[u8]) -> bool {
     let [kind, at, byte, end] = *word else {
         return false;
     };
+    let first = place(at);
     let _depth = store.depth();
     assert_eq!(rt; store.in_flight(), 0);
-    assert!(rt; place(at) < store.sectors());
-    let mut out = [Sector::filled(byte)];
-    if kind == b'r' {
-        out = [Sector::filled(0)];
-    }
+    assert!(rt; first < store.sectors());
+    let mut out = [Sector::filled(if kind == b'r' { 0 } else { byte })];
     let answer = match kind {
-        b'w' => write_now(store, place(at), &[Sector::filled(byte)]),
-        b'r' => read_now(store, place(at), &mut out),
+        b'w' => write_now(store, first, &[Sector::filled(byte)]),
+        b'r' => read_now(store, first, &mut out),
         _ => flush_now(store),
     };
     match answer {
@@ -113,17 +116,15 @@ fn rules_fail_calls(rt: HostRuntime) -> Result<(), Fail> {
     Ok(())
 }
 
-/// Writes the first sector, flushes and reads it.
-const SHORT: [&str; 3] = ["w0a.", "f...", "r0a."];
+/// A write, a flush and a read of the first sector, and how many events are told after each.
+const SHORT: [(&str, u64); 3] = [("w0a.", 2), ("f...", 4), ("r0a.", 6)];
 
 /// Whether so many events can be told, each call with an event that can't fails, and the count of events goes on.
 fn stops<S: Store>(rt: &impl Abort, store: &mut S, events: u64) -> bool {
     let mut same = true;
-    let mut told = 0;
-    for word in &SHORT {
-        told += 2;
-        let failed = ends(rt, store, word.as_bytes()) != (told <= events);
-        same = same && !failed && store.events() == told;
+    for (word, told) in &SHORT {
+        let failed = ends(rt, store, word.as_bytes()) != (*told <= events);
+        same = same && !failed && store.events() == *told;
     }
     same
 }
@@ -159,25 +160,52 @@ fn a_store_stops_without_room_for_sectors(rt: HostRuntime) -> Result<(), Fail> {
     Ok(())
 }
 
-/// What a read that is held answers, polled once, then once more, with a write of the next sector before if `released`.
+/// Submits a read of the first sector, which is in flight alone.
+fn submit_alone(rt: &impl Abort, store: &mut MemStore) -> Ticket
+    ensures alone { Flies store.new (result ∷ []) }
+    ensures ticket { IsTicket result Read 0 1 }
+    ensures sectors { length store.new.start ≡ 2 }
+{
+    assert_eq!(rt; store.in_flight(), 0);
+    assert_eq!(rt; store.sectors(), 2);
+    store.submit_read(0, 1)
+}
+
+/// Writes the second sector.
+fn release(store: &mut MemStore, read: &Ticket)
+    requires alone { Flies store.old (read.now ∷ []) }
+    requires ticket { IsTicket read.now Read 0 1 }
+    requires sectors { length store.old.start ≡ 2 }
+    ensures { Flies store.new (read.now ∷ []) }
+{
+    let _ = write_now(store, 1, &[Sector::filled(b'b')]);
+}
+
+/// What a read that was held once answers to one more poll.
+fn poll_again(store: &mut MemStore, read: Ticket) -> &'static str
+    requires alone { Flies store.old (read ∷ []) }
+    requires ticket { IsTicket read Read 0 1 }
+{
+    match store.settle(read, &mut [Sector::filled(0)]) {
+        Settled::Done => "held, done",
+        Settled::Failed(_) => "held, failed",
+        Settled::NotYet(read) => {
+            let _ = read.spend();
+            "held, held"
+        }
+    }
+}
+
+/// What a read of the first sector answers, polled once, then once more, with a write of the second between if `released`.
 fn polls(rt: &impl Abort, store: &mut MemStore, released: bool) -> &'static str {
-    assert_eq!(rt; (store.in_flight(), store.sectors()), (0, 2));
-    let mut out = [Sector::filled(0)];
-    let read = store.submit_read(0, 1);
-    match store.settle(read, &mut out) {
+    let read = submit_alone(rt, store);
+    match store.settle(read, &mut [Sector::filled(0)]) {
         Settled::Done | Settled::Failed(_) => "ended",
         Settled::NotYet(read) => {
             if released {
-                let _ = write_now(store, 1, &[Sector::filled(b'b')]);
+                release(store, &read);
             }
-            match store.settle(read, &mut out) {
-                Settled::Done => "held, done",
-                Settled::Failed(_) => "held, failed",
-                Settled::NotYet(read) => {
-                    let _ = read.spend();
-                    "held, held"
-                }
-            }
+            poll_again(store, read)
         }
     }
 }
@@ -264,10 +292,11 @@ fn reads(rt: &impl Abort, base: &mut MemBase, run: &str) -> bool {
         let [at, end] = *word.as_bytes() else {
             return false;
         };
+        let first = place(at);
         assert_eq!(rt; base.in_flight(), 0);
-        assert!(rt; place(at) < base.sectors());
+        assert!(rt; first < base.sectors());
         let mut out = [Sector::filled(0)];
-        let done = read_base(base, place(at), &mut out).is_ok();
+        let done = read_base(base, first, &mut out).is_ok();
         same = same && done == (end == b'.') && (out == [Sector::filled(at)]) == done;
     }
     same
