@@ -1,13 +1,12 @@
 -- Reads of a base in memory.
-use Rattle.std.proofs.Common.{◌≡◌, ℕ, ◌+◌, ◌-◌, ◌<◌, ◌≤◌, Bool, true, false, not, List, [], ◌∷◌, length, refl, ap, sym, ◌∙◌, subst, arith}
-use Rattle.std.specs.Prelude.{if◌then◌else◌, slice_range}
+use Rattle.std.proofs.Common.{◌≡◌, ℕ, ◌+◌, ◌-◌, Bool, true, false, List, length, refl, ap, sym, ◌∙◌, subst, arith}
+use Rattle.std.specs.Prelude.{slice_range}
 use Rattle.std.specs.List.{AllByRecursion}
 use Rattle.vd_law.specs.declared.entry.Sector.{Sector}
 use Rattle.vd_law.specs.Contents.{sector_in}
 use Rattle.vd_device.specs.declared.ticket.Ticket.{Ticket}
-use Rattle.vd_device.specs.declared.ticket.Kind.TheVariants.{Read}
 use Rattle.vd_device.specs.declared.settled.Settled.{Settled}
-use Rattle.vd_device.specs.Tickets.{HasAmong, Puts, Takes, IsInFlight, reads, reads_of}
+use Rattle.vd_device.specs.Tickets.{Puts, Takes, IsInFlight, reads, reads_of}
 use Rattle.vd_device.specs.Calls.{Gives}
 use Rattle.vd_mem.specs.BaseMemory.{BaseMemory, IsRead, FliesBase}
 use Rattle.vd_mem.proofs.Flights.{all-put, all-take, put-length}

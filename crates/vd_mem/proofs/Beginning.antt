@@ -1,13 +1,12 @@
 -- A store in memory before its first call.
-use Rattle.std.proofs.Common.{◌≡◌, ℕ, ◌^◌, ◌<◌, ◌≤◌, List, [], length, refl, ap, sym, ◌∙◌, subst, arith}
+use Rattle.std.proofs.Common.{◌≡◌, ℕ, List, [], length, ap, sym, ◌∙◌, subst, arith}
 use Rattle.std.specs.Prelude.{slice_get, Some}
 use Rattle.std.specs.Option.{option_to_list}
 use Rattle.std.specs.List.{Contains}
 use Rattle.std.proofs.lemmas.List.Elements.{All-nil, Contains-push}
 use Rattle.vd_law.specs.declared.entry.Sector.{Sector}
-use Rattle.vd_law.specs.Contents.{Open}
-use Rattle.vd_device.specs.Disks.{IsHonest, IsOneOf}
-use Rattle.vd_mem.specs.Memory.{Memory, disk_of}
+use Rattle.vd_device.specs.Disks.{IsOneOf}
+use Rattle.vd_mem.specs.Memory.{Memory}
 use Rattle.vd_mem.specs.Sound.{IsSound}
 
 -- nothing has happened yet

@@ -1,28 +1,27 @@
 -- A ticket ends.
-use Rattle.std.proofs.Common.{◌≡◌, ℕ, ◌+◌, ◌-◌, ◌^◌, ◌<◌, ◌≤◌, min, Bool, true, false, List, [], ◌∷◌, ◌++◌, Option, Some, None, length, refl, ap, sym, ◌∙◌, subst, inl, inr, arith, length-append}
+use Rattle.std.proofs.Common.{◌≡◌, ℕ, ◌+◌, ◌-◌, ◌^◌, ◌<◌, ◌≤◌, Bool, true, false, List, [], ◌∷◌, Option, Some, None, length, refl, ap, sym, ◌∙◌, subst, arith, length-append}
 use Rattle.std.specs.Prelude.{if◌then◌else◌, slice_get, slice_range}
 use Rattle.std.specs.Option.{option_map_or}
-use Rattle.std.specs.List.{AllByRecursion}
 use Rattle.vd_law.specs.declared.entry.Sector.{Sector}
 use Rattle.vd_law.specs.declared.entry.Answer.TheVariants.{Ok as Fine, StoreFault}
-use Rattle.vd_law.specs.Entries.{Entry, Done as Write_done, Broke, Seen, Reply, call_of, past}
+use Rattle.vd_law.specs.Entries.{Entry, Done as Write_done, Broke, Seen, Reply, call_of}
 use Rattle.vd_law.specs.Logs.{content_of}
 use Rattle.vd_law.specs.Contents.{sector_in}
 use Rattle.vd_device.specs.declared.ticket.Ticket.{Ticket}
 use Rattle.vd_device.specs.declared.ticket.Kind.{Kind}
 use Rattle.vd_device.specs.declared.ticket.Kind.TheVariants.{Read, Write, Flush}
 use Rattle.vd_device.specs.declared.settled.Settled.{Settled}
-use Rattle.vd_device.specs.declared.settled.Settled.TheVariants.{Done, NotYet, Failed}
+use Rattle.vd_device.specs.declared.settled.Settled.TheVariants.{Done, Failed}
 use Rattle.vd_device.specs.Tickets.{HasAmong, Takes, ticket_id}
-use Rattle.vd_device.specs.Calls.{next_number, issued, done_entry, failed_entry, settle_entries, IsHeld, Gives, Tells, Settles, IsCaused}
+use Rattle.vd_device.specs.Calls.{next_number, done_entry, failed_entry, Tells, Settles, IsCaused}
 use Rattle.vd_device.specs.Disks.{Disk, IsHonest, AreWrites, GrowsBy}
 use Rattle.vd_mem.specs.declared.rule.Keep.{Keep}
 use Rattle.vd_mem.specs.declared.rule.Keep.TheVariants.{Old, New}
 use Rattle.vd_mem.specs.Tapes.{added, content_at, events_of}
-use Rattle.vd_mem.specs.Memory.{Memory, Runs, disk_of, can_add, entered, over_at, carried_out, last_entry, last_held, is_done, left_by, ended_by}
+use Rattle.vd_mem.specs.Memory.{Memory, Runs, disk_of, can_add, over_at, carried_out, last_entry, last_held, is_done, left_by, ended_by}
 use Rattle.vd_mem.specs.Ends.{CanCarryOut}
 use Rattle.vd_mem.specs.Flying.{IsWriting, StandsAs, IsCall, AreCalls, IsWithin, Flies}
-use Rattle.vd_mem.specs.Sound.{IsTold, IsSound}
+use Rattle.vd_mem.specs.Sound.{IsSound}
 use Rattle.vd_mem.proofs.Choosing.{choose, takes-runs, stopped-over}
 use Rattle.vd_mem.proofs.Flights.{all-take, put-length}
 use Rattle.vd_mem.proofs.Sectors.{range-held}

@@ -1,21 +1,21 @@
 -- Tickets that are put in flight and that end, and what the log says of them.
-use Rattle.std.proofs.Common.{◌≡◌, ℕ, ◌+◌, ◌<◌, ◌≤◌, ◌⊎◌, inl, inr, Bool, true, false, not, List, [], ◌∷◌, ◌++◌, Option, Some, None, length, take, refl, ap, sym, ◌∙◌, subst, arith, length-append}
-use Rattle.std.specs.Prelude.{◌≢◌, if◌then◌else◌, slice_get}
+use Rattle.std.proofs.Common.{◌≡◌, ℕ, ◌+◌, ◌<◌, ◌≤◌, ◌⊎◌, inl, inr, Bool, true, false, not, List, [], ◌∷◌, ◌++◌, Option, Some, None, length, refl, ap, sym, ◌∙◌, subst, arith, length-append}
+use Rattle.std.specs.Prelude.{if◌then◌else◌}
 use Rattle.std.specs.List.{All, AllByRecursion, Contains, filter, find}
 use Rattle.std.proofs.lemmas.List.Elements.{All-nil, All-cons, All-head, All-tail, All-weaker, All-filter, filter_passes, All-append}
 use Rattle.vd_law.specs.declared.entry.Sector.{Sector}
 use Rattle.vd_law.specs.declared.entry.CallId.{CallId}
-use Rattle.vd_law.specs.Entries.{Entry, Ask, Issue, Done, Broke, Seen, Reply, call_of, same_call, Past, ◌▸◌, past}
+use Rattle.vd_law.specs.Entries.{Entry, call_of, same_call, Past, ◌▸◌, past}
 use Rattle.vd_law.specs.Contents.{sector_in, written, Open, opened, is_of, is_of_another, open_writes}
 use Rattle.vd_law.proofs.Appending.{after-push}
 use Rattle.vd_law.proofs.Opening.{same_call-refl}
 use Rattle.vd_device.specs.declared.ticket.Ticket.{Ticket}
 use Rattle.vd_device.specs.declared.ticket.Kind.{Kind}
 use Rattle.vd_device.specs.declared.ticket.Kind.TheVariants.{Read, Write, Flush}
-use Rattle.vd_device.specs.Tickets.{HasAmong, IsFree, IsClear, AreApart, ticket_id}
-use Rattle.vd_device.specs.Calls.{issued, asked_read, asked_flush, done_entry, failed_entry}
+use Rattle.vd_device.specs.Tickets.{HasAmong, IsClear, AreApart, ticket_id}
+use Rattle.vd_device.specs.Calls.{issued}
 use Rattle.vd_device.specs.Disks.{Disk, IsOneOf, AreWrites}
-use Rattle.vd_mem.specs.Flying.{IsOnlyOpen, IsWriting, IsFlushing, StandsAs, IsCall, AreDistinct, AreCalls, IsWithin}
+use Rattle.vd_mem.specs.Flying.{StandsAs, IsCall, AreDistinct, AreCalls}
 use Rattle.vd_mem.proofs.Flights.{all-more, all-both, all-put, all-take, all-at, contains-put, contains-it, contains-take, distinct-put, distinct-take, same-number, IsOther}
 use Rattle.vd_mem.proofs.Sectors.{cases-sector, sector-range, sector-none}
 use Rattle.vd_mem.proofs.Opens.{IsOff, other-call, other-ticket, stands-kept}

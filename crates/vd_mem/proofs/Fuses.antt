@@ -1,8 +1,8 @@
 -- A fuse changes nothing of what holds.
-use Rattle.std.proofs.Common.{◌≡◌, ℕ, Option}
+use Rattle.std.proofs.Common.{ℕ, Option}
 use Rattle.vd_mem.specs.Memory.{Memory}
 use Rattle.vd_mem.specs.Tapes.{Tape}
-use Rattle.vd_mem.specs.Sound.{IsTold, IsSound}
+use Rattle.vd_mem.specs.Sound.{IsSound}
 use Rattle.vd_mem.specs.Traced.{IsTraced}
 
 pub fused-sound : (m : Memory) (fuse : Option ℕ) → IsSound m → IsSound (record m { fuse = fuse })

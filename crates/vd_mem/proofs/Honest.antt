@@ -1,5 +1,5 @@
 -- What a store holds stays what could be there.
-use Rattle.std.proofs.Common.{◌≡◌, ℕ, ◌+◌, ◌<◌, ◌≤◌, ◌⊎◌, inl, inr, Bool, true, false, not, List, [], ◌∷◌, ◌++◌, Option, Some, None, length, refl, ap, sym, ◌∙◌, subst, arith}
+use Rattle.std.proofs.Common.{◌≡◌, ℕ, ◌+◌, ◌<◌, ◌≤◌, ◌⊎◌, inl, inr, Bool, true, false, List, [], ◌∷◌, Option, Some, None, length, refl, ap, sym, ◌∙◌, subst, arith}
 use Rattle.std.specs.Prelude.{if◌then◌else◌, slice_get, slice_range}
 use Rattle.std.specs.Option.{option_to_list}
 use Rattle.std.specs.List.{Contains, find, list_any}
@@ -12,10 +12,10 @@ use Rattle.vd_law.proofs.Appending.{could-push}
 use Rattle.vd_law.proofs.Opening.{same_call-refl}
 use Rattle.vd_device.specs.declared.ticket.Ticket.{Ticket}
 use Rattle.vd_device.specs.Tickets.{HasAmong, ticket_id}
-use Rattle.vd_device.specs.Disks.{Disk, IsHonest, IsCalmAt, KeepsOthers, GrowsBy, AreWrites}
+use Rattle.vd_device.specs.Disks.{Disk, IsHonest, IsCalmAt, GrowsBy, AreWrites}
 use Rattle.vd_mem.specs.Memory.{over_at}
 use Rattle.vd_mem.specs.Flying.{IsOnlyOpen, AreDistinct}
-use Rattle.vd_mem.proofs.Sectors.{cases-sector, sector-range, sector-none, over-at, over-off, over-length, range-held}
+use Rattle.vd_mem.proofs.Sectors.{cases-sector, sector-none, over-at, over-off, over-length, range-held}
 use Rattle.vd_mem.proofs.Flying.{grown, off-none}
 
 some-same : (x y : Sector) → Some x ≡ Some y → x ≡ y

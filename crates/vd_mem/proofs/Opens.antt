@@ -1,13 +1,13 @@
 -- What one more entry makes of the calls of other tickets.
-use Rattle.std.proofs.Common.{◌≡◌, ℕ, zero, suc, ◌+◌, ◌<◌, ◌≤◌, inl, inr, Bool, true, false, not, ◌||◌, List, [], ◌∷◌, ◌++◌, Option, Some, None, length, take, refl, ap, sym, ◌∙◌, subst, arith, length-append}
-use Rattle.std.specs.Prelude.{slice_get, if◌then◌else◌}
+use Rattle.std.proofs.Common.{◌≡◌, ℕ, ◌+◌, ◌<◌, ◌≤◌, inl, inr, Bool, true, false, not, ◌||◌, List, [], ◌∷◌, ◌++◌, Option, Some, None, length, refl, ap, sym, ◌∙◌, subst, arith}
+use Rattle.std.specs.Prelude.{if◌then◌else◌}
 use Rattle.std.specs.Option.{option_to_list}
 use Rattle.std.specs.List.{Contains, filter, find, list_any}
 use Rattle.std.proofs.lemmas.List.{append-nil, take-append-le}
 use Rattle.std.proofs.lemmas.List.Elements.{Contains-append_left}
 use Rattle.vd_law.specs.declared.entry.Sector.{Sector}
 use Rattle.vd_law.specs.declared.entry.CallId.{CallId}
-use Rattle.vd_law.specs.Entries.{Asked, Flush as Asks_flush, Entry, Ask, Issue, Done, Broke, Seen, Reply, call_of, same_call, Past, nothing, ◌▸◌, past}
+use Rattle.vd_law.specs.Entries.{Entry, Ask, Issue, Done, Broke, Seen, Reply, call_of, same_call, Past, ◌▸◌, past}
 use Rattle.vd_law.specs.Calls.{progress, before_ask}
 use Rattle.vd_law.specs.Contents.{sector_in, written, Open, opened, is_of, is_of_another, open_writes, settled, looked_at, could_after}
 use Rattle.vd_law.proofs.Appending.{past-push}
@@ -17,8 +17,7 @@ use Rattle.vd_device.specs.declared.ticket.Ticket.{Ticket}
 use Rattle.vd_device.specs.declared.ticket.Kind.{Kind}
 use Rattle.vd_device.specs.declared.ticket.Kind.TheVariants.{Read, Write, Flush}
 use Rattle.vd_device.specs.Tickets.{ticket_id}
-use Rattle.vd_device.specs.Calls.{issued}
-use Rattle.vd_mem.specs.Flying.{IsOnlyOpen, IsWriting, IsFlushing, StandsAs}
+use Rattle.vd_mem.specs.Flying.{IsOnlyOpen, StandsAs}
 use Rattle.vd_mem.proofs.Sectors.{get-first, sector-range}
 
 pub other-call : (a b : CallId) → (a ≡ b → ⊥) → same_call a b ≡ false

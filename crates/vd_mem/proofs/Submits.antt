@@ -1,13 +1,13 @@
 -- A ticket is put in flight.
-use Rattle.std.proofs.Common.{◌≡◌, ℕ, ◌+◌, ◌^◌, ◌<◌, ◌≤◌, min, Bool, true, false, List, [], ◌∷◌, ◌++◌, Option, Some, None, length, take, refl, ap, sym, ◌∙◌, subst, inl, inr, arith, length-append}
+use Rattle.std.proofs.Common.{◌≡◌, ℕ, ◌+◌, ◌^◌, ◌<◌, ◌≤◌, Bool, List, [], ◌∷◌, ◌++◌, Option, Some, length, refl, ap, sym, ◌∙◌, subst, inl, inr, arith, length-append}
 use Rattle.std.specs.Prelude.{if◌then◌else◌, slice_get}
 use Rattle.std.specs.Option.{option_to_list}
-use Rattle.std.specs.List.{AllByRecursion, Contains}
+use Rattle.std.specs.List.{Contains}
 use Rattle.std.proofs.lemmas.List.{take_at}
 use Rattle.std.proofs.lemmas.List.Elements.{Contains-push}
 use Rattle.vd_law.specs.declared.entry.Sector.{Sector}
 use Rattle.vd_law.specs.declared.entry.CallId.{CallId}
-use Rattle.vd_law.specs.Entries.{Asked, Read as Asks_read, Flush as Asks_flush, Entry, Ask, Issue, call_of, same_call, Past, ◌▸◌, past}
+use Rattle.vd_law.specs.Entries.{Read as Asks_read, Flush as Asks_flush, Entry, call_of, Past, ◌▸◌, past}
 use Rattle.vd_law.specs.Calls.{progress, before_ask}
 use Rattle.vd_law.specs.Contents.{sector_in, written, Open, opened, open_writes, could_after}
 use Rattle.vd_law.proofs.Appending.{past-push}
@@ -18,13 +18,13 @@ use Rattle.vd_device.specs.declared.ticket.Kind.{Kind}
 use Rattle.vd_device.specs.declared.ticket.Kind.TheVariants.{Read, Write, Flush}
 use Rattle.vd_device.specs.Tickets.{IsFree, HasAmong, Puts, ticket_id}
 use Rattle.vd_device.specs.Calls.{next_number, issued, asked_read, asked_flush}
-use Rattle.vd_device.specs.Disks.{Disk, IsHonest, AreWrites, GrowsBy, Adds}
+use Rattle.vd_device.specs.Disks.{IsHonest, AreWrites, GrowsBy, Adds}
 use Rattle.vd_device.proofs.Flights.{at_front}
 use Rattle.vd_mem.specs.Tapes.{added}
 use Rattle.vd_mem.specs.Memory.{Memory, Runs, disk_of, can_add, submitted}
-use Rattle.vd_mem.specs.Flying.{IsOnlyOpen, IsWriting, IsFlushing, StandsAs, IsCall, AreCalls, IsWithin, Flies}
-use Rattle.vd_mem.specs.Sound.{IsTold, IsSound}
-use Rattle.vd_mem.proofs.Choosing.{choose, takes-runs, stopped-over}
+use Rattle.vd_mem.specs.Flying.{IsOnlyOpen, StandsAs, AreCalls, IsWithin, Flies}
+use Rattle.vd_mem.specs.Sound.{IsSound}
+use Rattle.vd_mem.proofs.Choosing.{choose, stopped-over}
 use Rattle.vd_mem.proofs.Flights.{all-put, put-length}
 use Rattle.vd_mem.proofs.Sectors.{cases-sector, sector-range, get-push}
 use Rattle.vd_mem.proofs.Opens.{IsOff}

@@ -1,18 +1,16 @@
 -- The origins of a tape stay what they say.
-use Rattle.std.proofs.Common.{◌≡◌, ℕ, zero, suc, ◌+◌, ◌-◌, ◌<◌, ◌≤◌, max, ◌⊎◌, inl, inr, Bool, true, false, List, [], ◌∷◌, ◌++◌, Option, Some, None, length, take, drop, refl, ap, sym, ◌∙◌, subst, arith, length-append}
+use Rattle.std.proofs.Common.{◌≡◌, ℕ, zero, suc, ◌+◌, ◌<◌, ◌≤◌, max, ◌⊎◌, inl, inr, Bool, true, false, List, [], ◌∷◌, ◌++◌, Option, Some, None, length, take, drop, refl, ap, sym, ◌∙◌, subst, arith, length-append}
 use Rattle.std.specs.Prelude.{if◌then◌else◌, slice_get}
 use Rattle.std.specs.List.{fold, find}
 use Rattle.std.proofs.lemmas.Bool.{cases_lt}
-use Rattle.std.proofs.lemmas.List.{take-append-le, take-append-drop, take-take, take_at, length_push}
+use Rattle.std.proofs.lemmas.List.{take-append-le, take-append-drop, take-take, take_at}
 use Rattle.std.proofs.lemmas.Option.{slice_get_within}
 use Rattle.std.proofs.Math.Nat.{max-le}
 use Rattle.vd_law.specs.declared.entry.Sector.{Sector}
-use Rattle.vd_law.specs.declared.entry.CallId.{CallId}
-use Rattle.vd_law.specs.declared.entry.Answer.{Answer}
 use Rattle.vd_law.specs.declared.entry.Answer.TheVariants.{Ok as Fine, StoreFault}
 use Rattle.vd_law.specs.Entries.{Asked, Read as Asks_read, Write as Asks_write, Flush as Asks_flush, Entry, Ask, Issue, Done, Broke, Seen, Reply, Past, nothing, ◌▸◌, past}
 use Rattle.vd_law.specs.Calls.{progress, before_ask}
-use Rattle.vd_law.specs.Contents.{sector_in, written, Open, is_of, open_writes, open_write, number_of, last_done, is_flushed, firm_after}
+use Rattle.vd_law.specs.Contents.{sector_in, written, Open, is_of, open_write, number_of, last_done, is_flushed, firm_after}
 use Rattle.vd_law.specs.Rules.{is_ok}
 use Rattle.vd_law.proofs.Appending.{past-push}
 use Rattle.vd_law.proofs.Opening.{same_call-refl}
@@ -21,13 +19,13 @@ use Rattle.vd_device.specs.declared.ticket.Ticket.{Ticket}
 use Rattle.vd_device.specs.declared.ticket.Kind.{Kind}
 use Rattle.vd_device.specs.declared.ticket.Kind.TheVariants.{Read, Write, Flush}
 use Rattle.vd_device.specs.Tickets.{HasAmong, ticket_id}
-use Rattle.vd_device.specs.Calls.{next_number, issued, asked_read, asked_flush, done_entry, failed_entry}
+use Rattle.vd_device.specs.Calls.{next_number, done_entry, failed_entry}
 use Rattle.vd_device.specs.Disks.{Disk}
 use Rattle.vd_mem.specs.declared.rule.Keep.{Keep}
 use Rattle.vd_mem.specs.Tapes.{Tape, takes, lengthened, taped}
 use Rattle.vd_mem.specs.Memory.{Memory, Runs, disk_of, last_entry}
-use Rattle.vd_mem.specs.Flying.{IsOnlyOpen, IsWriting, IsFlushing, StandsAs, IsCall, AreCalls, Flies, IsWithin}
-use Rattle.vd_mem.specs.Traced.{EndsWrite, IsOrigin, IsTracedAt, IsTraced}
+use Rattle.vd_mem.specs.Flying.{IsOnlyOpen, IsWriting, StandsAs, IsCall, AreCalls, Flies, IsWithin}
+use Rattle.vd_mem.specs.Traced.{IsOrigin, IsTracedAt, IsTraced}
 use Rattle.vd_mem.proofs.Choosing.{choose, takes-runs}
 use Rattle.vd_mem.proofs.Flights.{all-take}
 use Rattle.vd_mem.proofs.Sectors.{get-first, get-push, sector-none}

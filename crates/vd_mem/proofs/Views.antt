@@ -1,12 +1,12 @@
 -- What a store in memory is, from its parts.
-use Rattle.std.proofs.Common.{◌≡◌, ℕ, ◌+◌, ◌-◌, ◌<◌, Bool, true, false, List, ◌++◌, ◌∷◌, [], Option, length, refl, ap, sym, ◌∙◌, subst, arith}
+use Rattle.std.proofs.Common.{◌≡◌, ℕ, ◌+◌, ◌-◌, Bool, true, false, List, Option, length, refl, ap, sym, ◌∙◌, subst, arith}
 use Rattle.std.specs.Prelude.{if◌then◌else◌}
 use Rattle.std.specs.List.{filter}
 use Rattle.vd_law.specs.declared.entry.Sector.{Sector}
 use Rattle.vd_law.specs.Entries.{Entry}
 use Rattle.vd_device.specs.declared.ticket.Ticket.{Ticket}
 use Rattle.vd_device.specs.declared.ticket.Kind.TheVariants.{Read, Write, Flush}
-use Rattle.vd_device.specs.Tickets.{IsRange, HasPlace, IsFree}
+use Rattle.vd_device.specs.Tickets.{IsRange, IsFree}
 use Rattle.vd_device.specs.Calls.{next_number, issued, asked_read, asked_flush}
 use Rattle.vd_mem.specs.declared.rule.Keep.{Keep}
 use Rattle.vd_mem.specs.declared.tickets.Tickets.{Tickets}

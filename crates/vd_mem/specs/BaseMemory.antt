@@ -1,5 +1,5 @@
 -- A base in memory, and what its calls make of it.
-use Rattle.std.specs.Prelude.{ℕ, ◌≡◌, ◌+◌, ◌-◌, ◌≤◌, Bool, false, not, ◌&&◌, ◌||◌, ◌==◌, List, length, map, if◌then◌else◌}
+use Rattle.std.specs.Prelude.{ℕ, ◌≡◌, ◌+◌, ◌-◌, ◌≤◌, Bool, not, ◌&&◌, ◌||◌, ◌==◌, List, length, map, if◌then◌else◌}
 use Rattle.std.specs.List.{AllByRecursion, filter, list_any}
 use Rattle.vd_law.specs.declared.entry.Sector.{Sector}
 use Rattle.vd_device.specs.declared.ticket.Ticket.{Ticket}
@@ -8,7 +8,7 @@ use Rattle.vd_device.specs.declared.settled.Settled.{Settled}
 use Rattle.vd_device.specs.declared.settled.Settled.TheVariants.{Done, NotYet, Failed}
 use Rattle.vd_device.specs.Calls.{next_number}
 use Rattle.vd_mem.specs.declared.rule.Rule.{Rule}
-use Rattle.vd_mem.specs.Rules.{holds, holds_spent, polled, outlives, is_nth, is_hit, counted}
+use Rattle.vd_mem.specs.Rules.{holds, holds_spent, polled, outlives, is_nth, counted}
 
 -- what its sectors hold; its rules as they stand; the number of its last ticket; how many tickets are in flight, and how many
 -- have ended; its counts of failed and of late calls

@@ -7,7 +7,7 @@ use Rattle.vd_device.specs.declared.ticket.Ticket.{Ticket}
 use Rattle.vd_device.specs.declared.ticket.Kind.{Kind}
 use Rattle.vd_device.specs.declared.ticket.Kind.TheVariants.{Read, Write, Flush}
 use Rattle.vd_mem.specs.declared.rule.Keep.{Keep}
-use Rattle.vd_mem.specs.declared.rule.Keep.TheVariants.{Old, New}
+use Rattle.vd_mem.specs.declared.rule.Keep.TheVariants.{Old}
 use Rattle.vd_mem.specs.declared.rule.Rule.{Rule}
 use Rattle.vd_mem.specs.declared.rule.Rule.TheVariants.{FailNth, FailAt, Hold}
 

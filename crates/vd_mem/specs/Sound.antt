@@ -1,5 +1,5 @@
 -- What holds of a store in memory after each call.
-use Rattle.std.specs.Prelude.{ℕ, ◌≡◌, ◌^◌, ◌<◌, ◌≤◌, List, length}
+use Rattle.std.specs.Prelude.{◌≡◌, ◌^◌, ◌<◌, ◌≤◌, List, length}
 use Rattle.vd_device.specs.declared.ticket.Ticket.{Ticket}
 use Rattle.vd_device.specs.Disks.{IsHonest}
 use Rattle.vd_mem.specs.Memory.{Memory, Runs, disk_of}

@@ -1,9 +1,7 @@
-use Rattle.std.proofs.Common.{◌≡◌, ℕ, ◌+◌, ◌<◌, ◌≤◌, List, Some, length, set, refl, sym, ap, ◌∙◌, subst, arith}
-use Rattle.std.specs.Prelude.{slice_get, nat_lt, if◌then◌else◌}
+use Rattle.std.proofs.Common.{◌≡◌, ◌<◌, Some, length, refl, ◌∙◌, arith}
+use Rattle.std.specs.Prelude.{slice_get}
 use Rattle.std.proofs.lemmas.List.{length-set}
 use Rattle.std.proofs.lemmas.Option.{slice_get_read}
-use Rattle.vd_mem.specs.Choices.{asked, answer_at}
-use Rattle.vd_mem.specs.Versions.{counts_in, after_choice}
 use Rattle.vd_mem.proofs.Choice.{choose-read, choose-state, choose-more, choose-all}
 use Rattle.vd_mem.proofs.crash.choose_all.Goals as goal
 

@@ -1,9 +1,6 @@
-use Rattle.std.proofs.Common.{◌≡◌, ℕ, ◌+◌, ◌<◌, ◌≤◌, List, Some, length, take, refl, sym, ap, ◌∙◌, subst, inl, inr, arith}
-use Rattle.std.specs.Prelude.{slice_get}
+use Rattle.std.proofs.Common.{◌≡◌, ℕ, length, take, sym, ◌∙◌, subst, inl, inr, arith}
 use Rattle.std.proofs.lemmas.Option.{slice_get_cases}
-use Rattle.vd_law.specs.Entries.{Entry, past}
-use Rattle.vd_law.specs.Contents.{written, versions}
-use Rattle.vd_mem.specs.declared.versions.Versions.{Versions}
+use Rattle.vd_law.specs.Entries.{past}
 use Rattle.vd_mem.specs.Versions.{IsLaid}
 use Rattle.vd_mem.proofs.Laying.{laid-last}
 use Rattle.vd_mem.proofs.crash.lay_all.Goals as goal

@@ -1,4 +1,4 @@
-use Rattle.std.proofs.Common.{◌≡◌, ℕ, ◌<◌, length, take, Some}
+use Rattle.std.proofs.Common.{◌≡◌, ℕ, length, take, Some}
 use Rattle.std.specs.Prelude.{slice_get}
 use Rattle.vd_law.specs.Entries.{past}
 use Rattle.vd_mem.specs.declared.versions.Versions.{Versions}

@@ -1,11 +1,9 @@
-use Rattle.std.proofs.Common.{◌≡◌, ℕ, ◌+◌, ◌<◌, ◌≤◌, Bool, List, Some, length, take, set, refl, sym, ap, ◌∙◌, subst, inl, inr, arith}
+use Rattle.std.proofs.Common.{◌≡◌, ◌+◌, List, Some, length, set, refl, ap, ◌∙◌, inl, inr, arith}
 use Rattle.std.specs.Prelude.{slice_get, ◌==◌, if◌then◌else◌}
 use Rattle.std.proofs.lemmas.List.{length-set}
 use Rattle.std.proofs.lemmas.Option.{slice_get_read, slice_get_cases}
 use Rattle.vd_law.specs.declared.entry.Sector.{Sector}
-use Rattle.vd_law.specs.Contents.{sector_in}
 use Rattle.vd_mem.specs.declared.versions.Versions.{Versions}
-use Rattle.vd_mem.specs.Versions.{changed_if, one_more, laid}
 use Rattle.vd_mem.proofs.Laying.{versions-more, image-more, put-length}
 use Rattle.vd_mem.proofs.crash.lay_content.Goals as goal
 

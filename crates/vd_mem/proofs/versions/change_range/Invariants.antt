@@ -1,4 +1,4 @@
-use Rattle.std.proofs.Common.{◌≡◌, ℕ, ◌<◌, length, take}
+use Rattle.std.proofs.Common.{◌≡◌, ℕ, length, take}
 use Rattle.std.specs.Prelude.{slice_get}
 use Rattle.vd_law.specs.Contents.{sector_in}
 use Rattle.vd_mem.specs.Versions.{changed_if, change_of}

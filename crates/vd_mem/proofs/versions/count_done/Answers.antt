@@ -1,12 +1,10 @@
-use Rattle.std.proofs.Common.{◌≡◌, ℕ, ◌+◌, ◌<◌, ◌≤◌, List, Some, length, take, refl, sym, ap, ◌∙◌, subst, arith}
+use Rattle.std.proofs.Common.{ℕ, List, length, refl, sym, ap, ◌∙◌, arith}
 use Rattle.std.specs.Prelude.{slice_get}
 use Rattle.std.proofs.lemmas.Option.{slice_get_within}
 use Rattle.vd_law.specs.declared.entry.Sector.{Sector}
-use Rattle.vd_law.specs.Entries.{Done, past, entry_of}
+use Rattle.vd_law.specs.Entries.{Done, entry_of}
 use Rattle.vd_law.specs.Contents.{sector_in}
-use Rattle.vd_mem.specs.declared.versions.Versions.{Versions}
 use Rattle.vd_mem.specs.Versions.{changed_if, made_firm}
-use Rattle.vd_mem.specs.Traced.{IsOrigin}
 use Rattle.vd_mem.proofs.Counting.{done-origin, origin-event, counted-done, counted-late}
 use Rattle.vd_mem.proofs.versions.count_done.Goals as goal
 

@@ -1,4 +1,4 @@
-use Rattle.std.proofs.Common.{◌+◌, ◌≤◌, length, sym, refl, ap, ◌∙◌, arith}
+use Rattle.std.proofs.Common.{length, sym, refl, ap, arith}
 use Rattle.vd_mem.specs.BaseMemory.{BaseMemory, IsRead}
 use Rattle.vd_mem.specs.BaseFields.{base_of}
 use Rattle.vd_mem.proofs.Bases.{base-puts}

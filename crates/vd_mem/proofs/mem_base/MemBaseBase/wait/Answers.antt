@@ -1,4 +1,4 @@
-use Rattle.std.proofs.Common.{◌≡◌, ◌≤◌, not, sym, refl, ap, ◌∙◌}
+use Rattle.std.proofs.Common.{not, sym, refl, ap, ◌∙◌}
 use Rattle.vd_device.specs.Calls.{settled_of}
 use Rattle.vd_mem.specs.BaseMemory.{BaseMemory, FliesBase}
 use Rattle.vd_mem.specs.BaseFields.{base_of}

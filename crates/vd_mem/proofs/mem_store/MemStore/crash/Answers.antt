@@ -1,10 +1,5 @@
-use Rattle.std.proofs.Common.{◌≡◌, ℕ, ◌≤◌, ◌<◌, List, Some, length, refl, sym, ap, ◌∙◌, subst, arith}
-use Rattle.std.specs.Prelude.{slice_get}
-use Rattle.vd_law.specs.declared.entry.Sector.{Sector}
-use Rattle.vd_law.specs.Contents.{may}
-use Rattle.vd_device.specs.Disks.{Disk}
-use Rattle.vd_mem.specs.declared.versions.Versions.{Versions}
-use Rattle.vd_mem.specs.Choices.{asked, contents_at, IsChosen}
+use Rattle.std.proofs.Common.{ℕ, length, sym, ap, ◌∙◌, arith}
+use Rattle.vd_mem.specs.Choices.{asked, contents_at}
 use Rattle.vd_mem.specs.Versions.{counts_in}
 use Rattle.vd_mem.specs.Memory.{disk_of}
 use Rattle.vd_mem.specs.StoreFields.{memory_of}

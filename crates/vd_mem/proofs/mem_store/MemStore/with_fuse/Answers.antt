@@ -1,4 +1,4 @@
-use Rattle.std.proofs.Common.{length, sym, subst, ap, ◌∙◌}
+use Rattle.std.proofs.Common.{length, sym, subst}
 use Rattle.vd_mem.specs.StoreFields.{memory_of}
 use Rattle.vd_mem.specs.Tapes.{Tape}
 use Rattle.vd_mem.specs.Traced.{IsTraced}

@@ -1,8 +1,7 @@
-use Rattle.std.proofs.Common.{◌≡◌, ℕ, ◌^◌, ◌<◌, List, [], ◌∷◌, length, refl, sym, ◌∙◌, ap, subst}
-use Rattle.vd_law.specs.declared.entry.Sector.{Sector}
+use Rattle.std.proofs.Common.{◌≡◌, ℕ, ◌^◌, ◌<◌, length, refl, sym, ◌∙◌, ap, subst}
 use Rattle.vd_law.specs.declared.entry.CallId.{CallId}
 use Rattle.vd_law.specs.Entries.{Flush, Entry, Ask}
-use Rattle.vd_device.specs.Tickets.{Puts, ticket_id}
+use Rattle.vd_device.specs.Tickets.{Puts}
 use Rattle.vd_device.specs.Calls.{asked_flush}
 use Rattle.vd_device.specs.Disks.{Adds}
 use Rattle.vd_mem.specs.Tapes.{taped}

@@ -1,12 +1,8 @@
-use Rattle.std.proofs.Common.{◌≡◌, ℕ, ◌+◌, ◌^◌, ◌<◌, ◌≤◌, Bool, true, false, Option, List, length, refl, sym, ◌∙◌, ap, subst}
-use Rattle.vd_law.specs.declared.entry.Sector.{Sector}
-use Rattle.vd_device.specs.declared.ticket.Ticket.{Ticket}
+use Rattle.std.proofs.Common.{◌≡◌, ◌^◌, ◌<◌, ◌≤◌, Bool, length, refl, sym, ◌∙◌, ap, subst}
 use Rattle.vd_device.specs.Tickets.{Takes}
-use Rattle.vd_device.specs.Calls.{settled_of, Tells, Settles}
-use Rattle.vd_device.specs.Disks.{Disk}
-use Rattle.vd_mem.specs.declared.rule.Keep.{Keep}
+use Rattle.vd_device.specs.Calls.{settled_of, Tells}
 use Rattle.vd_mem.specs.Tapes.{events_of}
-use Rattle.vd_mem.specs.Memory.{Memory, Runs, disk_of, ended_by, can_add, last_entry, is_done}
+use Rattle.vd_mem.specs.Memory.{Memory, Runs, disk_of, ended_by, can_add, last_entry}
 use Rattle.vd_mem.specs.Flying.{Flies}
 use Rattle.vd_mem.specs.Sound.{IsSound}
 use Rattle.vd_mem.specs.Traced.{IsTraced}
