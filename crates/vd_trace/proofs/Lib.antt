@@ -1,9 +1,14 @@
 pub mod Drafts
 pub mod Found
 pub mod LineLaws
+pub mod Pieces
 pub mod Places
+pub mod Ranges
 pub mod Readings
 pub mod Requests
+pub mod Rooms
+pub mod RoundTrips
 pub mod Splitting
 pub mod Verdicts
 pub mod Windows
+pub mod Written

@@ -31,7 +31,7 @@ first-part [] = ([], [], refl)
 first-part (b ∷ bs) = first-of (eqb b 10) b (parts bs) (first-part bs)
 
 -- a line that ended, and what stands behind its end
-lines_of_parts-ended : (line : List ℕ) (bs : List ℕ) → lines_of_parts (line ∷ parts bs) ≡ strip_carriage_return line ∷ lines bs
+pub lines_of_parts-ended : (line : List ℕ) (bs : List ℕ) → lines_of_parts (line ∷ parts bs) ≡ strip_carriage_return line ∷ lines bs
 lines_of_parts-ended line bs = let rest = first-part bs in rw rest.2 refl
 
 pub lines-cut : (w r : List ℕ) (i : ℕ) → IsFirstByte (is_byte 10) w (Some i) → lines (w ++ r) ≡ strip_carriage_return (take i w) ∷ lines (drop (i + 1) w ++ r)

@@ -13,7 +13,10 @@ use Rattle.vd_trace.specs.Lines.{IsGood, IsWithin}
 use Rattle.vd_trace.specs.Traces.{SpellsLines, SpellsTrace, GoesTo, IsFirstBad, IsFirstTooMuch, script_of}
 use Rattle.vd_trace.specs.Keeping.{lists, asking_of, showing_of, Keeps, IsRead}
 use Rattle.vd_trace.specs.Streaming.{EndsBy}
+use Rattle.vd_trace.specs.Texts.{IsScript}
+use Rattle.vd_trace.specs.TraceFields.{IsTrace}
 use Rattle.vd_trace.proofs.LineLaws.{line-unique}
+use Rattle.vd_trace.proofs.Ranges.{script-ranged}
 
 pub spells-unique : (guests : ℕ) (before : List Line) (all : List (List ℕ)) (a b : List Line) → SpellsLines guests before all a → SpellsLines guests before all b → a ≡ b
 spells-unique guests before [] [] [] first second = refl
@@ -117,3 +120,15 @@ accepts-ok guests bytes says draft is spelled read =
     let own : SpellsLines guests [] (lines bytes) read.says = rw is at read.spelled in
     let same : read.says ≡ says = spells-unique guests [] (lines bytes) read.says says own spelled in
     kept-script draft read.says read.kept ∙ ap (λ (n : ℕ). script_of n read.says) is ∙ ap (script_of guests) same
+
+-- what is kept of lines that were read is a trace
+pub kept-trace : (draft : Draft) (done : List (List ℕ)) → IsRead done draft → IsTrace (record { items = draft.items; sectors = draft.sectors; places = draft.places; shows = draft.shows })
+kept-trace draft done read =
+    let keeps = read.kept in
+    let many : length draft.places.items ≡ draft.guests = sym (length-map draft.places.items (λ (v : Vec ℕ Global). v.items)) ∙ keeps.items.many in
+    record {
+      items = rw (many, keeps.items.told) keeps.items;
+      few = omega (arith, keeps.items_few, keeps.few);
+      small = omega (arith, keeps.asked_few, keeps.small);
+      script = subst IsScript (sym (kept-script draft read.says keeps)) (script-ranged draft.guests done read.says read.spelled keeps.few keeps.small);
+    }

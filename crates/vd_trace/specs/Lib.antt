@@ -2,6 +2,8 @@ pub mod Keeping
 pub mod LineReading
 pub mod Lines
 pub mod Scripts
+pub mod Printing
 pub mod Streaming
+pub mod Texts
 pub mod TraceFields
 pub mod Traces

@@ -5,9 +5,12 @@ pub mod error;
 mod fields;
 mod kept;
 pub mod line;
+mod needs;
+mod printing;
 mod reading;
 mod streaming;
 #[cfg(test)]
 mod tests;
+mod text;
 pub mod trace;
 mod window;

@@ -1,21 +1,26 @@
 //! Traces, kept so that each guest's requests are found by their number.
 
-ghost use Rattle.std.specs.Prelude.{◌≡◌, ◌↔◌, ◌≤◌, ◌<◌, ◌+◌, false, IsTrue, List, [], length, replicate, drop, slice_get, Some, find, nat_lt, OnOk, IfOk, IfErr};
+ghost use Rattle.std.specs.Prelude.{◌≡◌, ◌↔◌, ◌≤◌, ◌<◌, ◌+◌, false, IsTrue, List, [], length, replicate, drop, slice_get, Some, find, nat_lt, OnOk, OnErr, IfOk, IfErr};
 ghost use Rattle.std.specs.Option.{option_map, option_or};
-ghost use Rattle.vd_io.specs.Streams.{Rose};
+ghost use Rattle.vd_io.specs.Streams.{Rose, Writes};
 ghost use Rattle.vd_trace.specs.declared.line.Line.{Line};
 ghost use Rattle.vd_trace.specs.declared.error.TraceError.TheVariants.{Source as SourceFault};
 ghost use Rattle.vd_trace.specs.Traces.{SpellsTrace, Showing, script, asked_of};
-ghost use Rattle.vd_trace.specs.Scripts.{ReadsTrace, Accepts, request_of, handed, asks_past, shows_past};
+ghost use Rattle.vd_trace.specs.Scripts.{ReadsTrace, Accepts, request_of, handed, asks_past, shows_past, need_of};
+ghost use Rattle.vd_trace.specs.Texts.{trace_text, ReadsBack};
 ghost use Rattle.vd_trace.specs.Keeping.{work_of, sectors_in, end_in, IsStored};
 
 use crate::error::TraceError;
 use crate::kept::{Draft, Item, Shown, Stored, empty_draft};
+use crate::needs::needed;
+use crate::printing::{put_items, put_shows};
 use crate::streaming::read_lines;
 use std::alloc::Global;
 use std::marker::Model;
+use vd_io::Failed;
+use vd_io::sink::Sink;
 use vd_io::source::Source;
-use vd_law::entry::Sector;
+use vd_law::entry::{Room, Sector};
 
 /// What is asked of the disk. FIRST and COUNT are sectors.
 #[derive(Clone, Copy, Debug, PartialEq, Eq, Drop)]
@@ -208,5 +213,30 @@ impl Trace {
     {
         let shown = self.shows[at as usize];
         (shown.first, u64::from(shown.count))
+    }
+    /// The room that these requests take in a history at most, on a disk whose blocks have so many sectors: two events and
+    /// one for each piece of a read, two and two for each piece of a write, and two for a flush; the sectors of a read once,
+    /// and those of a write twice. It is within 1,524,288 events and 524,288 sectors.
+    pub fn need(&self, block: u32) -> Room
+        requires { 0 < block }
+        ensures need { result ≡ need_of block self.now.asks }
+        ensures events { result.events ≤ 1524288 }
+        ensures sectors { result.sectors ≤ 524288 }
+    {
+        needed(self.items.as_slice(), block)
+    }
+
+    /// Writes the trace, each line in one write: its lines that ask and then those that show, in lower case, with no comments
+    /// or empty lines. After Failed a front of it is written. What was written says the same when it is read, though the
+    /// numbers of its lines may differ.
+    pub fn print<O: Sink>(&self, out: &mut O) -> Result<(), Failed>
+        ensures told_before { O.tells out.new → O.tells out.old }
+        ensures writes { O.tells out.new → Writes (trace_text self.now) result (O.written out.old) (O.written out.new) }
+        ensures reads_back { ReadsBack self.now }
+        ensures calm { O.faults out.old ≤ O.faults out.new }
+        ensures cause { OnErr result (Rose (O.faults out.old) (O.faults out.new)) }
+    {
+        put_items(out, self.items.as_slice(), self.sectors.as_slice())?;
+        put_shows(out, self.shows.as_slice())
     }
 }

@@ -1,6 +1,6 @@
 use Rattle.std.proofs.Common.{◌∙◌}
 use Rattle.std.proofs.lemmas.Result.{err_from_is_err_and}
-use Rattle.vd_trace.proofs.Verdicts.{accepts-err, accepts-ok}
+use Rattle.vd_trace.proofs.Verdicts.{accepts-err, accepts-ok, kept-trace}
 use Rattle.vd_trace.proofs.trace.Trace.read.Goals as goal
 
 pub returns-in_err-read_lines-clause-accepts : goal.returns-in_err-read_lines-clause-accepts
@@ -12,3 +12,6 @@ returns-in_err-read_lines-clause-accepts g c = λ told says spelled.
 pub returns-clause-accepts : goal.returns-clause-accepts
 returns-clause-accepts g c = λ told says spelled.
     accepts-ok c.args.guests (g.I.Source.rest c.args.source.now) says c.read_lines.new.draft (c.in_ok-read_lines.ensures.guests ∙ c.in_ok-draft.ensures.guests) spelled (c.in_ok-read_lines.ensures.reads told)
+
+pub invariant_of-result : goal.invariant_of-result
+invariant_of-result g c = kept-trace c.read_lines.new.draft c.in_ok-read_lines.ensures.kept.0 c.in_ok-read_lines.ensures.kept.1
