@@ -13,7 +13,7 @@ use Rattle.vd_trace.specs.declared.kept.Shown.{Shown}
 use Rattle.vd_trace.specs.declared.line.Line.TheVariants.{Asks}
 use Rattle.vd_trace.specs.declared.line.Work.{Work}
 use Rattle.vd_trace.specs.declared.line.Work.TheVariants.{Read, Fill, Put, Flush}
-use Rattle.vd_trace.specs.Texts.{work_fields, line_text, asking_line, showing_line, trace_text}
+use Rattle.vd_trace.specs.Texts.{work_fields, line_text, asking_line, showing_line}
 use Rattle.vd_trace.specs.Printing.{item_text, shown_text}
 use Rattle.vd_trace.specs.Keeping.{asking_of, showing_of}
 

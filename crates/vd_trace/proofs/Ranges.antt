@@ -1,6 +1,5 @@
 -- Every number of a trace that was read is in its range, and its limits are kept.
-use Rattle.std.proofs.Common.{◌≡◌, ℕ, ◌+◌, ◌*◌, ◌≤◌, ◌^◌, ◌<◌, List, [], ◌∷◌, ◌++◌, length, refl, sym, ap, ◌∙◌, subst, arith, append-nil, length-append}
-use Rattle.std.proofs.lemmas.List.{length-map}
+use Rattle.std.proofs.Common.{◌≡◌, ℕ, ◌+◌, ◌≤◌, List, [], ◌∷◌, ◌++◌, length, refl, arith, length-append}
 use Rattle.std.proofs.lemmas.List.Sums.{sum_by-cons, sum_by-append}
 use Rattle.std.proofs.lemmas.List.Elements.{All-nil, All-cons, All-head, All-tail, All-append}
 use Rattle.std.specs.Prelude.{map, sum_by}
@@ -12,7 +11,7 @@ use Rattle.vd_trace.specs.declared.line.Line.TheVariants.{Nothing, Asks, Shows}
 use Rattle.vd_trace.specs.declared.line.Work.{Work}
 use Rattle.vd_trace.specs.declared.line.Work.TheVariants.{Read, Fill, Put, Flush}
 use Rattle.vd_trace.specs.Lines.{SpellsWork, SpellsFields, SpellsLine, fields, sectors_of}
-use Rattle.vd_trace.specs.Traces.{Asking, Showing, asking, showing, SpellsLines, script_of}
+use Rattle.vd_trace.specs.Traces.{asking, showing, SpellsLines, script_of}
 use Rattle.vd_trace.specs.Texts.{asking_line, showing_line, IsRequest, IsLine, IsScript}
 
 work-ranged : (more : List (List ℕ)) (w : Work) → SpellsWork more w → IsRequest w

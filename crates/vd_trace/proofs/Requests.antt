@@ -1,5 +1,5 @@
 -- The requests of a guest, found by their places.
-use Rattle.std.proofs.Common.{◌≡◌, ℕ, zero, suc, ◌+◌, ◌-◌, ◌<◌, ◌≤◌, ◌⊎◌, inl, inr, Bool, true, false, List, [], ◌∷◌, ◌++◌, length, take, get_or, Option, Some, None, eqb, ap, refl, sym, ◌∙◌, subst, arith, Vec}
+use Rattle.std.proofs.Common.{◌≡◌, ℕ, zero, suc, ◌+◌, ◌-◌, ◌<◌, ◌≤◌, ◌⊎◌, inl, inr, Bool, true, false, List, [], ◌∷◌, ◌++◌, length, take, get_or, Option, Some, None, eqb, ap, refl, sym, ◌∙◌, arith, Vec}
 use Rattle.std.proofs.lemmas.Bool.{cases_lt, eqb-true, false_from_ne_true}
 use Rattle.std.proofs.lemmas.List.{length-take-le, length-replicate, length-map, get_or-map}
 use Rattle.std.proofs.Math.Seq.{take-append_seam}
@@ -14,7 +14,7 @@ use Rattle.vd_trace.specs.declared.kept.Item.{Item}
 use Rattle.vd_trace.specs.declared.kept.Shown.{Shown}
 use Rattle.vd_trace.specs.declared.kept.Stored.{Stored}
 use Rattle.vd_trace.specs.declared.kept.Stored.TheVariants.{Read, Fill, Put, Flush}
-use Rattle.vd_trace.specs.Traces.{Asking, Showing, asked_of, requests_of}
+use Rattle.vd_trace.specs.Traces.{Asking, asked_of, requests_of}
 use Rattle.vd_trace.specs.Scripts.{end_of, asks_past, shows_past}
 use Rattle.vd_trace.specs.Keeping.{work_of, asking_of, showing_of, end_in, positions, lists, HasItems}
 

@@ -1,26 +1,24 @@
 -- In how many blocks a range lies, and the room that requests take.
-use Rattle.std.proofs.Common.{◌≡◌, ℕ, ◌+◌, ◌-◌, ◌*◌, ◌/◌, ◌%◌, ◌<◌, ◌≤◌, ◌⊎◌, inl, inr, List, [], ◌∷◌, ◌++◌, length, refl, sym, ap, ◌∙◌, subst, arith, length-append}
+use Rattle.std.proofs.Common.{◌≡◌, ℕ, ◌+◌, ◌-◌, ◌*◌, ◌/◌, ◌%◌, ◌<◌, ◌≤◌, ◌⊎◌, inl, inr, List, [], ◌∷◌, ◌++◌, length, refl, ap, ◌∙◌, subst, arith, length-append}
 use Rattle.std.proofs.Math.Nat.{add-mul-div_right, add-mul-mod_self_right, mul-mod_left, div-le_self}
 use Rattle.std.proofs.lemmas.Nat.{div-add-mod', div_below, mul-le, mod_below}
 use Rattle.std.proofs.lemmas.Bool.{cases_lt}
 use Rattle.std.proofs.lemmas.List.Sums.{sum_by-cons, sum_by-append}
-use Rattle.std.proofs.lemmas.List.Folds.{fold-map}
 use Rattle.std.proofs.lemmas.List.Elements.{All-head, All-tail}
 use Rattle.std.proofs.lemmas.List.{length-map, get_or_append_left}
-use Rattle.std.specs.Prelude.{min, map, sum_by}
+use Rattle.std.specs.Prelude.{map, sum_by}
 use Rattle.std.specs.List.{All}
 use Rattle.std.specs.Int.{div_ceil}
 use Rattle.vd_law.specs.declared.entry.Sector.{Sector}
 use Rattle.vd_trace.specs.declared.kept.Item.{Item}
 use Rattle.vd_trace.specs.declared.kept.Stored.{Stored}
 use Rattle.vd_trace.specs.declared.kept.Stored.TheVariants as stored
-use Rattle.vd_trace.specs.declared.line.Line.{Line}
 use Rattle.vd_trace.specs.declared.line.Work.{Work}
 use Rattle.vd_trace.specs.declared.line.Work.TheVariants.{Read, Fill, Put, Flush}
 use Rattle.vd_trace.specs.Lines.{sectors_of, sectors_of_work}
 use Rattle.vd_trace.specs.Traces.{Asking, Script}
 use Rattle.vd_trace.specs.Scripts.{pieces, events_of, told_of}
-use Rattle.vd_trace.specs.Texts.{asking_line, showing_line, lines_of, IsRequest, IsLine, IsScript}
+use Rattle.vd_trace.specs.Texts.{asking_line, showing_line, IsRequest, IsLine, IsScript}
 use Rattle.vd_trace.specs.Keeping.{work_of, asking_of, events_in, told_in}
 
 -- only where the range begins in its first block matters
@@ -44,16 +42,16 @@ ceil-count block r count inside some =
     let parts : count * block ≡ count * m + count = (let is : block ≡ m + 1 = omega arith in ap (λ (n : ℕ). count * n) is ∙ (omega arith)) in
     omega (arith, more, parts)) in
     by room (cases_lt 0 ((r + count) % block)) where
-  by : r + count ≤ count * block → (0 < (r + count) % block) ⊎ ((r + count) % block ≤ 0) → div_ceil (r + count) block ≤ count
-  by room (inl part) =
-      let other : ¬ (r + count ≡ count * block) = λ e. let zero : (r + count) % block ≡ 0 = ap (λ (n : ℕ). n % block) e ∙ mul-mod_left count block in omega (arith, part, zero) in
-      let below : r + count < count * block = omega (arith, room, other) in
-      let less : (r + count) / block < count = div_below (r + count) block count (omega arith) below in
-      omega (arith, less)
-  by room (inr whole) =
-      let below : r + count < (count + 1) * block = omega (arith, room) in
-      let less : (r + count) / block < count + 1 = div_below (r + count) block (count + 1) (omega arith) below in
-      omega (arith, less, whole)
+      by : r + count ≤ count * block → (0 < (r + count) % block) ⊎ ((r + count) % block ≤ 0) → div_ceil (r + count) block ≤ count
+      by room (inl part) =
+          let other : ¬ (r + count ≡ count * block) = λ e. let zero : (r + count) % block ≡ 0 = ap (λ (n : ℕ). n % block) e ∙ mul-mod_left count block in omega (arith, part, zero) in
+          let below : r + count < count * block = omega (arith, room, other) in
+          let less : (r + count) / block < count = div_below (r + count) block count (omega arith) below in
+          omega (arith, less)
+      by room (inr whole) =
+          let below : r + count < (count + 1) * block = omega (arith, room) in
+          let less : (r + count) / block < count + 1 = div_below (r + count) block (count + 1) (omega arith) below in
+          omega (arith, less, whole)
 
 pieces-count : (block first count : ℕ) → 0 < block → 1 ≤ count → pieces block first count ≤ count
 pieces-count block first count some many = rw (← pieces-from_first block first count some) (ceil-count block (first % block) count (mod_below first block some) many)
@@ -94,9 +92,10 @@ need-few block trace some is =
     let asks = map asking_line trace.asks in
     let shows = map showing_line trace.shows in
     let many : length (asks ++ shows) ≡ length trace.asks + length shows = length-append asks shows ∙ ap (λ (n : ℕ). n + length shows) (length-map trace.asks asking_line) in
-    let sectors : sum_by sectors_of (asks ++ shows) ≡ sum_by sectors_of asks + sum_by sectors_of shows = sum_by-append sectors_of asks shows in
-    (omega (arith, many, sectors, is.few, is.small, all-events block trace.guests trace.asks some (front (IsLine trace.guests) asks shows is.ranges)),
-    omega (arith, sectors, is.small, all-told trace.asks))
+    let sectors : sum_by sectors_of (asks ++ shows) ≡ sum_by sectors_of asks + sum_by sectors_of shows = sum_by-append sectors_of asks shows in (
+      omega (arith, many, sectors, is.few, is.small, all-events block trace.guests trace.asks some (front (IsLine trace.guests) asks shows is.ranges)),
+      omega (arith, sectors, is.small, all-told trace.asks),
+    )
 
 -- what is needed does not look at the sectors
 events-in : (block : ℕ) (sectors : List Sector) (s : Stored) → events_of block (work_of sectors s) ≡ events_of block (work_of [] s)

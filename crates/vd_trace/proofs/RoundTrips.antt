@@ -1,20 +1,18 @@
 -- The text of a trace, read back.
-use Rattle.std.proofs.Common.{◌≡◌, ℕ, ◌+◌, ◌-◌, ◌<◌, ◌≤◌, Bool, true, false, List, [], ◌∷◌, ◌++◌, length, get_or, eqb, refl, sym, ap, ◌∙◌, subst, arith, append-nil, append_assoc, length-append}
-use Rattle.std.proofs.lemmas.Bool.{false_from_ne_true, eqb-true, cases_lt}
-use Rattle.std.proofs.lemmas.List.{map-append, length-map}
+use Rattle.std.proofs.Common.{◌≡◌, ℕ, ◌+◌, ◌-◌, ◌≤◌, false, List, [], ◌∷◌, ◌++◌, length, get_or, eqb, refl, ap, ◌∙◌, arith, append_assoc, length-append}
+use Rattle.std.proofs.lemmas.Bool.{false_from_ne_true, eqb-true}
 use Rattle.std.proofs.lemmas.List.Elements.{All-head, All-tail}
 use Rattle.std.proofs.lemmas.List.Folds.{list_any-append}
 use Rattle.std.proofs.lemmas.List.Splits.{slice_split_at}
-use Rattle.std.proofs.lemmas.List.Sums.{sum_by-cons, sum_by-append, sum_by_push}
+use Rattle.std.proofs.lemmas.List.Sums.{sum_by-cons, sum_by_push}
 use Rattle.std.specs.Prelude.{map, sum_by, codes}
-use Rattle.std.specs.List.{All, flat_map, slice_split, list_any, enumerate_from, filter_map}
+use Rattle.std.specs.List.{All, flat_map, list_any, enumerate_from, filter_map}
 use Rattle.std.specs.Str.Lines.{lines, lines_of_parts, strip_carriage_return}
 use Rattle.vd_trace.specs.declared.line.Line.{Line}
-use Rattle.vd_trace.specs.declared.line.Line.TheVariants.{Nothing, Asks, Shows}
 use Rattle.vd_trace.specs.declared.line.Work.{Work}
 use Rattle.vd_trace.specs.Lines.{is_show, sectors_of, InOrder, IsGood, IsWithin}
-use Rattle.vd_trace.specs.Traces.{Asking, Showing, Script, asking, showing, SpellsLines, script_of}
-use Rattle.vd_trace.specs.Texts.{line_body, line_text, asking_line, showing_line, lines_of, trace_text, who_asks, what_shows, IsSameTrace, ReadsBack, IsLine, IsScript}
+use Rattle.vd_trace.specs.Traces.{Asking, Showing, Script, asking, showing, SpellsLines}
+use Rattle.vd_trace.specs.Texts.{line_body, line_text, asking_line, showing_line, lines_of, who_asks, what_shows, ReadsBack, IsLine, IsScript}
 use Rattle.vd_trace.proofs.Readings.{lines_of_parts-ended}
 use Rattle.vd_trace.proofs.Written.{IsPlain, line-spells, line-short, line-plain}
 

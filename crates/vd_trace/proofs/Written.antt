@@ -1,20 +1,20 @@
 -- A line as it is written says what it was written from.
-use Rattle.std.proofs.Common.{◌≡◌, ℕ, zero, suc, ◌+◌, ◌-◌, ◌*◌, ◌<◌, ◌≤◌, ◌^◌, ◌⊎◌, inl, inr, Bool, true, false, List, [], ◌∷◌, ◌++◌, length, get_or, Option, Some, None, Result, Ok, eqb, leb, refl, sym, ap, ◌∙◌, subst, arith, append-nil, append_assoc, length-append}
+use Rattle.std.proofs.Common.{◌≡◌, ℕ, zero, suc, ◌+◌, ◌<◌, ◌≤◌, ◌^◌, ◌⊎◌, inl, inr, true, false, List, [], ◌∷◌, ◌++◌, length, get_or, None, eqb, leb, refl, sym, ap, ◌∙◌, arith, length-append}
 use Rattle.std.proofs.lemmas.Bool.{false_from_ne_true, eqb-true, leb-true, cases_lt}
 use Rattle.std.proofs.lemmas.Fmt.{length-decimal-le}
-use Rattle.std.proofs.lemmas.List.Elements.{All-nil, All-cons, All-head, All-tail, All-append}
+use Rattle.std.proofs.lemmas.List.Elements.{All-nil, All-cons, All-append}
 use Rattle.std.proofs.lemmas.List.{get_or_default}
 use Rattle.std.proofs.lemmas.List.Splits.{slice_split_at, slice_split_none}
-use Rattle.std.specs.Prelude.{codes, decimal, slice_index, is_some}
+use Rattle.std.specs.Prelude.{codes, decimal, is_some}
 use Rattle.std.specs.List.{All, slice_split, join_with_byte}
-use Rattle.hex.specs.Hex.{decode_of, encode_lower, lower_digits, IsBytes, is_hex_digit, hex_digit_value}
+use Rattle.hex.specs.Hex.{encode_lower, lower_digits, IsBytes, is_hex_digit, hex_digit_value}
 use Rattle.hex.proofs.HexLemmas.{decode_of-encode_lower, decode_of-ok, length-encode_with}
 use Rattle.vd_decimal.proofs.Spelling.{decimal-spells, spells-plain}
 use Rattle.vd_trace.specs.declared.line.Line.{Line}
 use Rattle.vd_trace.specs.declared.line.Line.TheVariants.{Nothing, Asks, Shows}
 use Rattle.vd_trace.specs.declared.line.Work.{Work}
 use Rattle.vd_trace.specs.declared.line.Work.TheVariants.{Read, Fill, Put, Flush}
-use Rattle.vd_trace.specs.Lines.{IsNumber, SpellsWork, SpellsFields, SpellsLine, fields}
+use Rattle.vd_trace.specs.Lines.{IsNumber, SpellsWork, SpellsLine}
 use Rattle.vd_trace.specs.Texts.{work_fields, line_fields, line_body, IsRequest, IsLine}
 
 -- a field has neither blanks nor line ends in it
@@ -78,14 +78,23 @@ line-are guests (Shows f c) is = (high 83 (omega arith), (number-field f is.0, (
 
 work-spells : (w : Work) → IsRequest w → SpellsWork (work_fields w) w
 work-spells (Read f c) is = (refl, number-spells f is.0, (number-spells c (omega (arith, is.2)), is.1, is.2))
-work-spells (Fill f c b) is = (refl, number-spells f is.0, (number-spells c (omega (arith, is.2)), is.1, is.2), record {
-  many = length-encode_with lower_digits (b ∷ []);
-  decoded = decode_of-encode_lower (b ∷ []) (one-byte b is.3);
-})
-work-spells (Put f s) is = (refl, number-spells f is.0, record {
-  many = omega (arith, length-encode_with lower_digits s.bytes, is.1);
-  decoded = decode_of-encode_lower s.bytes is.2;
-})
+work-spells (Fill f c b) is = (
+  refl,
+  number-spells f is.0,
+  (number-spells c (omega (arith, is.2)), is.1, is.2),
+  record {
+    many = length-encode_with lower_digits (b ∷ []);
+    decoded = decode_of-encode_lower (b ∷ []) (one-byte b is.3);
+  },
+)
+work-spells (Put f s) is = (
+  refl,
+  number-spells f is.0,
+  record {
+    many = omega (arith, length-encode_with lower_digits s.bytes, is.1);
+    decoded = decode_of-encode_lower s.bytes is.2;
+  },
+)
 work-spells Flush is = refl
 
 pub line-spells : (guests : ℕ) (says : Line) → IsLine guests says → SpellsLine guests (line_body says) says

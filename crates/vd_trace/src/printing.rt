@@ -93,11 +93,7 @@ fn put_shown<O: Sink>(out: &mut O, shown: Shown) -> Result<(), Failed>
 }
 
 /// Writes the lines that ask. After Failed a front of them is written.
-pub fn put_items<O: Sink>(
-    out: &mut O,
-    items: &[Item],
-    sectors: &[Sector],
-) -> Result<(), Failed>
+pub fn put_items<O: Sink>(out: &mut O, items: &[Item], sectors: &[Sector]) -> Result<(), Failed>
     requires { All (λ item. IsStored (length sectors.now) item.work) items.now }
     ensures told_before { O.tells out.new → O.tells out.old }
     ensures writes { O.tells out.new → Writes (flat_map (item_text sectors.now) items.now) result (O.written out.old) (O.written out.new) }

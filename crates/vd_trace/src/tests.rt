@@ -8,6 +8,7 @@ use std::alloc::Global;
 use std::io;
 use std::io::{Error, ErrorKind, Read};
 use std::test::Fail;
+use vd_io::mem_sink::MemSink;
 use vd_io::mem_source::MemSource;
 use vd_io::std_source::StdSource;
 use vd_law::entry::Sector;
@@ -226,5 +227,109 @@ fn sources_that_fail_or_give_little(rt: HostRuntime) -> Result<(), Fail> {
         at: 0,
     });
     assert_eq!(rt; Trace::read(alloc, 2, &mut source)?.count(1), 1);
+    Ok(())
+}
+
+/// What these lines need with blocks of so many sectors.
+fn needs(alloc: Global, text: &[u8], block: u32) -> Result<(u64, u64), Fail>
+    requires { 0 < block }
+{
+    let room = read(alloc, text)?.need(block);
+    Ok((room.events, room.sectors))
+}
+
+#[test]
+fn room_of_requests(rt: HostRuntime) -> Result<(), Fail> {
+    let alloc = rt.alloc();
+    let rows: [(&[u8], (u64, u64), (u64, u64)); 12] = [
+        (b"", (0, 0), (0, 0)),
+        (b"1 F", (2, 0), (2, 0)),
+        (b"1 R 8 8", (3, 8), (3, 8)),
+        (b"1 R 7 2", (4, 2), (3, 2)),
+        (b"1 R 0 2048", (258, 2048), (18, 2048)),
+        (b"1 R 4 2048", (259, 2048), (19, 2048)),
+        (b"1 R 9999999999 2", (4, 2), (4, 2)),
+        (b"2 W 8 8 00", (4, 16), (4, 16)),
+        (b"2 W 127 2 00", (6, 4), (6, 4)),
+        (b"2 W 6 4 ff", (6, 8), (4, 8)),
+        (b"#\nS 0 2048\nS 7 2", (0, 0), (0, 0)),
+        (
+            b"1 R 7 2\n2 F\n1 W 6 4 00\n2 R 0 1\nS 0 1",
+            (15, 11),
+            (12, 11),
+        ),
+    ];
+    for (text, small, large) in rows {
+        assert_eq!(rt; needs(alloc, text, 8)?, small);
+        assert_eq!(rt; needs(alloc, text, 128)?, large);
+    }
+    let sector = repeated(alloc, b"1 X 7 ", 1, &[b'0'; 1024])?;
+    assert_eq!(rt; needs(alloc, &sector, 8)?, (4, 2));
+    let most = repeated(alloc, b"1 W 4 2048 00\n", 128, b"2 F")?;
+    assert_eq!(rt; needs(alloc, &most, 8)?, (128 * 516 + 2, 524288));
+    Ok(())
+}
+
+/// What is printed of this text's trace, where the writes of these numbers fail, and whether all was printed.
+fn printed(alloc: Global, text: &[u8], fail: &[u64]) -> Result<(Vec<u8>, bool), Fail> {
+    let mut sink = MemSink::new([0; 16384].to_vec(alloc)?, fail.to_vec(alloc)?);
+    let went_well = read(alloc, text)?.print(&mut sink).is_ok();
+    Ok((sink.bytes().to_vec(alloc)?, went_well))
+}
+
+#[test]
+fn traces_are_printed(rt: HostRuntime) -> Result<(), Fail> {
+    let alloc = rt.alloc();
+    let rows: [(&[u8], &[u8]); 8] = [
+        (b"", b""),
+        (b"#\n\n# 1 F\n", b""),
+        (b"1 F\r\n2 F", b"1 F\n2 F\n"),
+        (b"2 R 0 1\n#\n", b"2 R 0 1\n"),
+        (b"1 R 9999999999 2048\r\n", b"1 R 9999999999 2048\n"),
+        (b"1 W 10 30 Fa", b"1 W 10 30 fa\n"),
+        (b"S 126 2", b"S 126 2\n"),
+        (
+            b"2 F\n\n1 W 0 1 00\n2 R 5 6\n#\nS 0 2048\n\nS 7 1\n",
+            b"2 F\n1 W 0 1 00\n2 R 5 6\nS 0 2048\nS 7 1\n",
+        ),
+    ];
+    for (text, whole) in rows {
+        let (bytes, went_well) = printed(alloc, text, &[])?;
+        assert!(rt; went_well);
+        assert_eq!(rt; bytes.as_slice(), whole);
+        assert_eq!(rt; printed(alloc, &bytes, &[])?.0.as_slice(), whole);
+    }
+    let (bytes, went_well) = printed(alloc, b"1 F\n2 F\nS 0 1\nS 9 1", &[3])?;
+    assert!(rt; !went_well);
+    assert_eq!(rt; bytes.as_slice(), b"1 F\n2 F\n".as_slice());
+    Ok(())
+}
+
+/// Each byte, in these digits, as one line writes it, and all of them twice, as another does.
+fn all_bytes(alloc: Global, digits: &[u8; 16]) -> Result<Vec<u8>, Fail> {
+    let mut text = Vec::new(alloc);
+    let mut hex = Vec::new(alloc);
+    for high in digits {
+        for low in digits {
+            text.extend_from_slice(b"1 W 3 1 ")?;
+            text.extend_from_slice(&[*high, *low, b'\n'])?;
+            hex.extend_from_slice(&[*high, *low])?;
+        }
+    }
+    text.extend_from_slice(b"2 X 4 ")?;
+    text.extend_from_slice(&hex)?;
+    text.extend_from_slice(&hex)?;
+    text.push(b'\n')?;
+    Ok(text)
+}
+
+#[test]
+fn every_byte_is_printed_in_lower_case(rt: HostRuntime) -> Result<(), Fail> {
+    let alloc = rt.alloc();
+    let lower = all_bytes(alloc, b"0123456789abcdef")?;
+    for digits in [b"0123456789abcdef", b"0123456789ABCDEF"] {
+        let text = all_bytes(alloc, digits)?;
+        assert_eq!(rt; printed(alloc, &text, &[])?.0.as_slice(), lower.as_slice());
+    }
     Ok(())
 }

@@ -1,6 +1,5 @@
 use Rattle.std.proofs.Common.{ap, ◌≤◌, length}
 use Rattle.vd_law.specs.Entries as law
-use Rattle.vd_trace.specs.Keeping.{sectors_in}
 use Rattle.vd_trace.proofs.Requests.{filled-front, put-front}
 use Rattle.vd_trace.proofs.trace.hand_out.Goals as goal
 
