@@ -5,7 +5,7 @@ use Rattle.std.proofs.lemmas.Nat.{div-add-mod', div_below, mul-le, mod_below}
 use Rattle.std.proofs.lemmas.Bool.{cases_lt}
 use Rattle.std.proofs.lemmas.List.Sums.{sum_by-cons, sum_by-append}
 use Rattle.std.proofs.lemmas.List.Elements.{All-head, All-tail}
-use Rattle.std.proofs.lemmas.List.{length-map, get_or_append_left}
+use Rattle.std.proofs.lemmas.List.{length-map, get_or_append_left, get_or-append-add}
 use Rattle.std.specs.Prelude.{map, sum_by}
 use Rattle.std.specs.List.{All}
 use Rattle.std.specs.Int.{div_ceil}
@@ -81,9 +81,12 @@ all-told [] = omega arith
 all-told (a ∷ asks) =
     rw (sum_by-cons (λ x. told_of x.work) a asks, sum_by-cons sectors_of (asking_line a) (map asking_line asks)) (omega (arith, told-few a.work, all-told asks))
 
--- a fact of each element holds of each at the front
-front : {X : Type 0} (P : X → Type 0) (xs ys : List X) → All P (xs ++ ys) → All P xs
+-- a fact of each element holds of each at the front, and of each behind
+pub front : {X : Type 0} (P : X → Type 0) (xs ys : List X) → All P (xs ++ ys) → All P xs
 front P xs ys all = λ k d inside. subst P (get_or_append_left xs ys d k inside) (all k d (omega (arith, length-append xs ys)))
+
+pub behind : {X : Type 0} (P : X → Type 0) (xs ys : List X) → All P (xs ++ ys) → All P ys
+behind P xs ys all = λ k d inside. subst P (get_or-append-add xs ys k d) (all (length xs + k) d (omega (arith, length-append xs ys)))
 
 -- what a trace needs is within its limits
 pub need-few : (block : ℕ) (trace : Script) → 0 < block → IsScript trace →

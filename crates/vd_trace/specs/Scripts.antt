@@ -13,6 +13,7 @@ use Rattle.vd_trace.specs.declared.error.TraceError.{TraceError}
 use Rattle.vd_trace.specs.declared.error.TraceError.TheVariants.{Bad, TooMuch, Source, NoMemory}
 use Rattle.vd_trace.specs.declared.trace.Asked.{Asked}
 use Rattle.vd_trace.specs.declared.trace.Asked.TheVariants as asked
+use Rattle.vd_trace.specs.Texts.{IsRange}
 use Rattle.vd_trace.specs.Traces.{Asking, Showing, Script, script_of, SpellsTrace, IsFirstBad, IsFirstTooMuch}
 
 -- what reading these bytes leads to
@@ -46,6 +47,12 @@ abbrev pub request_of : Asked → List Sector → law.Asked
 request_of (asked.Read first count) content = law.Read first count
 request_of (asked.Write first count) content = law.Write first (take count content)
 request_of asked.Flush content = law.Flush
+
+-- a request's range
+abbrev pub HasRange : Asked → Type 0
+HasRange (asked.Read first count) = IsRange first count
+HasRange (asked.Write first count) = IsRange first count
+HasRange asked.Flush = Unit {0}
 
 -- how many sectors were handed out
 abbrev pub handed : Asked → ℕ

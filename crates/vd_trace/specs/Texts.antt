@@ -57,9 +57,13 @@ pub record IsSameTrace (a b : Script) : Type 0 where
 abbrev pub ReadsBack : Script → Type 0
 ReadsBack trace = (says : List Line) × SpellsTrace trace.guests (trace_text trace) says × IsSameTrace (script_of trace.guests says) trace
 
--- what is asked has from 1 to 2,048 sectors, each of 512 bytes, and its first has at most ten digits
+-- a range has from 1 to 2,048 sectors, and its first has at most ten digits
+abbrev pub IsRange : (first count : ℕ) → Type 0
+IsRange first count = (first < 10 ^ 10) × (1 ≤ count) × (count ≤ 2048)
+
+-- what is asked has such a range, and a sector has 512 bytes
 abbrev pub IsRequest : Work → Type 0
-IsRequest (Read first count) = (first < 10 ^ 10) × (1 ≤ count) × (count ≤ 2048)
+IsRequest (Read first count) = IsRange first count
 IsRequest (Fill first count byte) = (first < 10 ^ 10) × (1 ≤ count) × (count ≤ 2048) × (byte < 256)
 IsRequest (Put first sector) = (first < 10 ^ 10) × (length sector.bytes ≡ 512) × IsBytes sector.bytes
 IsRequest Flush = Unit {0}
@@ -67,7 +71,7 @@ IsRequest Flush = Unit {0}
 abbrev pub IsLine : (guests : ℕ) → Line → Type 0
 IsLine guests Nothing = Unit {0}
 IsLine guests (Asks guest work) = (guest < 10 ^ 10) × (1 ≤ guest) × (guest ≤ guests) × IsRequest work
-IsLine guests (Shows first count) = (first < 10 ^ 10) × (1 ≤ count) × (count ≤ 2048)
+IsLine guests (Shows first count) = IsRange first count
 
 -- every number is in its range, and the limits are kept, as in every trace that is read
 pub record IsScript (trace : Script) : Type 0 where

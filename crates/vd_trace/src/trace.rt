@@ -6,8 +6,8 @@ ghost use Rattle.vd_io.specs.Streams.{Rose, Writes};
 ghost use Rattle.vd_trace.specs.declared.line.Line.{Line};
 ghost use Rattle.vd_trace.specs.declared.error.TraceError.TheVariants.{Source as SourceFault};
 ghost use Rattle.vd_trace.specs.Traces.{SpellsTrace, Showing, script, asked_of};
-ghost use Rattle.vd_trace.specs.Scripts.{ReadsTrace, Accepts, request_of, handed, asks_past, shows_past, need_of};
-ghost use Rattle.vd_trace.specs.Texts.{trace_text, ReadsBack};
+ghost use Rattle.vd_trace.specs.Scripts.{ReadsTrace, Accepts, request_of, HasRange, handed, asks_past, shows_past, need_of};
+ghost use Rattle.vd_trace.specs.Texts.{trace_text, ReadsBack, IsRange, IsRequest};
 ghost use Rattle.vd_trace.specs.Keeping.{work_of, sectors_in, end_in, IsStored};
 
 use crate::error::TraceError;
@@ -56,6 +56,7 @@ fn hand_out(sectors: &[Sector], work: Stored, content: &mut [Sector]) -> Asked
     requires stored { IsStored (length sectors.now) work }
     requires room { sectors_in work ≤ length content.old }
     ensures request { request_of result content.new ≡ asked_of (work_of sectors.now work) }
+    ensures range { IsRequest (work_of sectors.now work) → HasRange result }
     ensures others { drop (handed result) content.new ≡ drop (handed result) content.old }
 {
     match work {
@@ -177,11 +178,13 @@ impl Trace {
         self.places[guest as usize - 1].len() as u64
     }
 
-    /// The guest's request of this number, counted from 0. The sectors that it writes are put at the front of `content`.
+    /// The guest's request of this number, counted from 0: of 1 to 2,048 sectors, unless it is a flush. The sectors that it
+    /// writes are put at the front of `content`.
     pub fn request(&self, guest: u32, at: u64, content: &mut [Sector]) -> Asked
         requires at { at < length (script self.now guest) }
         requires room { length content.old ≡ 2048 }
         ensures request { slice_get (script self.now guest) at ≡ Some (request_of result content.new) }
+        ensures range { HasRange result }
         ensures others { drop (handed result) content.new ≡ drop (handed result) content.old }
     {
         let place = self.places[guest as usize - 1][at as usize];
@@ -206,14 +209,16 @@ impl Trace {
         self.shows.len() as u64
     }
 
-    /// FIRST and COUNT of the line of this number, counted from 0, among those that show sectors.
+    /// FIRST and COUNT of the line of this number, counted from 0, among those that show sectors. COUNT is from 1 to 2,048.
     pub fn show(&self, at: u64) -> (u64, u64)
         requires { at < length self.now.shows }
-        ensures { (shown : Showing) → slice_get self.now.shows at ≡ Some shown → (result.0 ≡ shown.first) × (result.1 ≡ shown.count) }
+        ensures shown { (shown : Showing) → slice_get self.now.shows at ≡ Some shown → (result.0 ≡ shown.first) × (result.1 ≡ shown.count) }
+        ensures range { IsRange result.0 result.1 }
     {
         let shown = self.shows[at as usize];
         (shown.first, u64::from(shown.count))
     }
+
     /// The room that these requests take in a history at most, on a disk whose blocks have so many sectors: two events and
     /// one for each piece of a read, two and two for each piece of a write, and two for a flush; the sectors of a read once,
     /// and those of a write twice. It is within 1,524,288 events and 524,288 sectors.

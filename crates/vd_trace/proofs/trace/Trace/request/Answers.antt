@@ -7,7 +7,7 @@ use Rattle.vd_trace.specs.Traces.{script}
 use Rattle.vd_trace.specs.TraceFields.{script_in}
 use Rattle.vd_trace.specs.Keeping.{IsStored, sectors_in}
 use Rattle.vd_trace.proofs.Requests.{IsPlaced}
-use Rattle.vd_trace.proofs.Found.{guest-of, place-of, item-of, some-of, handed-out}
+use Rattle.vd_trace.proofs.Found.{guest-of, place-of, item-of, some-of, handed-out, request-ranged}
 use Rattle.vd_trace.proofs.trace.Trace.request.Goals as goal
 use Rattle.vd_trace.proofs.trace.Trace.request.Goals.{After-self, After-index, After-as_slice}
 
@@ -54,3 +54,10 @@ returns-clause-request c = handed-out c.self.inside c.args.self.now c.args.guest
     (item-of c.self.inside c.args.guest c.args.at c.self.invariant
     (some-of c.self.inside c.args.self.now c.args.guest c.args.at c.self.view_is c.requires.at) c.index.result.now c.index.ensures c.index-place.result.now c.index-place.ensures)
     c.index-2.ensures c.as_slice.result.now c.as_slice.ensures.value c.hand_out.ensures.request
+
+pub returns-clause-range : goal.returns-clause-range
+returns-clause-range c = c.hand_out.ensures.range
+    (request-ranged c.self.inside c.index-place.result.now c.index-2.result.now c.self.invariant
+    (item-of c.self.inside c.args.guest c.args.at c.self.invariant
+    (some-of c.self.inside c.args.self.now c.args.guest c.args.at c.self.view_is c.requires.at) c.index.result.now c.index.ensures c.index-place.result.now c.index-place.ensures).inside
+    c.index-2.ensures c.as_slice.result.now c.as_slice.ensures.value)
