@@ -5,7 +5,7 @@ ghost use Rattle.std.specs.Prelude.{[], IfOk};
 ghost use Rattle.vd_file.specs.Standing.{AreFlying};
 
 use std::process::ExitCode;
-use std::{env, io};
+use std::{env, fs, io};
 use vd_device::{Base, Store};
 use vd_file::{FileBase, FileStore, NotOpened};
 use vd_io::Failed;
@@ -13,7 +13,7 @@ use vd_io::sink::Sink;
 use vd_io::std_sink::StdSink;
 use vd_io::std_source::StdSource;
 use vd_report::line::{Line, put_line};
-use vd_top::still;
+use vd_top::{End, still, store_sectors};
 
 /// The status where a file can't be opened, and where there is no memory for the words or the devices.
 const NO_FILE: u8 = 5;
@@ -35,18 +35,50 @@ fn reason_of(refused: NotOpened, word: u8) -> Unready {
     }
 }
 
-/// The store and the base of the second and the third word, where the command has a store and a base and both words are
-/// there; else devices of no sectors.
-fn devices_of(rt: &HostRuntime, words: &[String]) -> Result<(FileStore, FileBase), Unready>
+/// The files of the second and the third word, opened; that of the store is made where a number of sectors is given, and
+/// removed again where the base can't be opened.
+fn open_devices(
+    rt: &HostRuntime,
+    store: &str,
+    base: &str,
+    made: Option<u64>,
+) -> Result<(FileStore, FileBase), Unready>
+    ensures { IfOk result (λ devices. AreFlying devices.0 [] × AreFlying devices.1 []) }
+{
+    let opened = FileStore::at(rt, store, made).map_err(|e| reason_of(e, 2))?;
+    match FileBase::at(rt, base) {
+        Ok(base) => Ok((opened, base)),
+        Err(refused) => {
+            drop(opened);
+            if made.is_some() {
+                let _ = fs::remove_file(rt, store);
+            }
+            Err(reason_of(refused, 3))
+        }
+    }
+}
+
+/// The store and the base of the second and the third word, where the command has a store and a base, both words are
+/// there, and a `make` says how large its store is; else devices of no sectors.
+fn devices_of(
+    rt: &HostRuntime,
+    words: &[String],
+    made: Option<u64>,
+) -> Result<(FileStore, FileBase), Unready>
     ensures { IfOk result (λ devices. AreFlying devices.0 [] × AreFlying devices.1 []) }
 {
     match words {
-        [command, store, base, ..] if command.as_str() == "show" => {
-            let store = FileStore::at(rt, store.as_str(), None).map_err(|e| reason_of(e, 2))?;
-            let base = FileBase::at(rt, base.as_str()).map_err(|e| reason_of(e, 3))?;
-            Ok((store, base))
+        [command, store, base, ..] if command.as_str() == "show" || made.is_some() => {
+            open_devices(rt, store.as_str(), base.as_str(), made)
         }
         _ => Ok((FileStore::none(), FileBase::none())),
+    }
+}
+
+/// Removes the image's file that was made for a command that failed.
+fn unmake(rt: &HostRuntime, words: &[String]) {
+    if let [_, store, ..] = words {
+        let _ = fs::remove_file(rt, store.as_str());
     }
 }
 
@@ -64,7 +96,8 @@ fn main(rt: HostRuntime) -> ExitCode {
         let _ = put_line(&mut out, Line::NoMemory);
         return ExitCode::from(NO_MEMORY);
     };
-    let (store, base) = match devices_of(&rt, words.as_slice()) {
+    let made = store_sectors(words.as_slice());
+    let (store, base) = match devices_of(&rt, words.as_slice(), made) {
         Ok(devices) => devices,
         Err(Unready::NoFile(word)) => {
             let _ = put_no_file(&mut out, word);
@@ -84,7 +117,12 @@ fn main(rt: HostRuntime) -> ExitCode {
         store,
         base,
     );
-    ExitCode::from(end.status)
+    let End { status, store, .. } = end;
+    drop(store);
+    if status != 0 && made.is_some() {
+        unmake(&rt, words.as_slice());
+    }
+    ExitCode::from(status)
 }
 
 fn put_no_file<O: Sink>(out: &mut O, word: u8) -> Result<(), Failed> {

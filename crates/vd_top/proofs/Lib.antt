@@ -2,4 +2,11 @@ pub mod AreaLaws
 pub mod SlotLaws
 pub mod OpeningLaws
 pub mod ShowLaws
+pub mod LeavingLaws
+pub mod VersionLaws
+pub mod PutLaws
+pub mod KeepLaws
+pub mod StoryLaws
+pub mod NewImages
+pub mod CrashLaws
 pub mod CommandLaws

@@ -4,14 +4,14 @@ use Rattle.vd_io.specs.Streams.{Rose, WritesPart}
 use Rattle.vd_report.specs.Lines.{line_text}
 use Rattle.vd_report.specs.Tokens.{show_text}
 use Rattle.vd_top.specs.Statuses.{status_of_line}
-use Rattle.vd_top.specs.Showing.{Outcome, Refused, Shown}
+use Rattle.vd_top.specs.Outcomes.{Outcome, Says, Shown}
 
 abbrev pub status_of : Outcome → ℕ
-status_of (Refused line) = status_of_line line
+status_of (Says line) = status_of_line line
 status_of (Shown first sectors) = 0
 
 abbrev pub text_of : Outcome → List ℕ
-text_of (Refused line) = line_text line ++ codes "\n"
+text_of (Says line) = line_text line ++ codes "\n"
 text_of (Shown first sectors) = show_text first sectors
 
 -- a sink that failed makes status 6 of status 0, and leaves every other

@@ -2,5 +2,12 @@ pub mod Fresh
 pub mod Looking
 pub mod Opening
 pub mod Statuses
+pub mod Outcomes
 pub mod Showing
+pub mod Making
+pub mod Commands
+pub mod Tasks
 pub mod Ending
+pub mod Leaving
+pub mod Putting
+pub mod Images

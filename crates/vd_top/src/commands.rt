@@ -1,34 +1,81 @@
 //! The commands that need no threads.
 
-ghost use Rattle.std.specs.Prelude.{◌≡◌, ℕ, ◌≤◌, ◌↔◌, ◌⊎◌, [], map, string_bytes, IfSome, IfNone, None};
-ghost use Rattle.vd_command.specs.declared.command.Command.TheVariants.{Show};
-ghost use Rattle.vd_command.specs.Words.{Spells};
+ghost use Rattle.std.specs.Prelude.{◌≡◌, ℕ, ◌<◌, ◌≤◌, ◌↔◌, ◌⊎◌, [], map, string_bytes, IfSome, IfNone, None, OnSome};
+ghost use Rattle.vd_format.specs.declared.header.Header.{Header as AnyHeader};
+ghost use Rattle.vd_format.specs.Layouts.{need_of};
 ghost use Rattle.vd_io.specs.Streams.{Rose};
 ghost use Rattle.vd_reading.specs.Quiet.{OnlyReads, OnlyReadsBase, IsFault};
-ghost use Rattle.vd_top.specs.Showing.{Outcome, Answers, IsNoShow};
+ghost use Rattle.vd_top.specs.Outcomes.{Outcome};
+ghost use Rattle.vd_top.specs.Making.{AsksFor, IsNoMake, IsWhole};
+ghost use Rattle.vd_top.specs.Commands.{Answers, IsNoCommand};
 ghost use Rattle.vd_top.specs.Ending.{Ends};
+ghost use Rattle.vd_top.specs.Leaving.{Leaves};
+ghost use Rattle.vd_top.specs.Images.{MakesSafely, HasNewImage};
+ghost use Rattle.vd_top.specs.Tasks.{IsTask};
 
 use crate::ending::End;
-use crate::printing::refuse;
+use crate::making::make;
+use crate::printing::say;
 use crate::showing::show;
 use std::alloc::Global;
 use vd_command::Command;
 use vd_device::{Base, Store};
+use vd_header::{Header, layout_of};
 use vd_io::sink::Sink;
 use vd_io::source::Source;
 use vd_report::line::Line;
 
-/// The range of a `show`, where the words spell one.
-fn shown_range(words: &[String]) -> Option<(u64, u64)>
-    ensures some { IfSome result (λ range. Spells (map string_bytes words.now) (Show range.0 range.1)) }
-    ensures none { IfNone result (IsNoShow (map string_bytes words.now)) }
+/// What is to be done.
+#[derive(Clone, Copy, Drop)]
+enum Task {
+    Show {
+        first: u64,
+        count: u64,
+    },
+    Make(Header),
+    /// The words are none of these.
+    Nothing,
+}
+
+/// What the words ask for, over a base of so many sectors.
+fn task_of(words: &[String], base_sectors: u64) -> Task
+    ensures { IsTask (map string_bytes words.now) base_sectors result }
 {
     match Command::parse(words) {
         Some(command) => match command {
-            Command::Show { first, count } => Some((first, count)),
-            _ => None,
+            Command::Show { first, count } => Task::Show { first, count },
+            Command::Make {
+                size,
+                block,
+                chunk,
+                storage,
+                slots,
+            } => Task::Make(Header {
+                version: 2,
+                block,
+                chunk,
+                storage,
+                slots,
+                size,
+                tracked: base_sectors.min(size),
+                generation: 1,
+            }),
+            _ => Task::Nothing,
         },
-        None => None,
+        None => Task::Nothing,
+    }
+}
+
+/// The sectors of the store that the words make: the number that the image needs, where they are a `make`.
+pub fn store_sectors(words: &[String]) -> Option<u64>
+    ensures some { IfSome result (λ sectors. (h : AnyHeader) → AsksFor (map string_bytes words.now) 0 h → sectors ≡ need_of h) }
+    ensures none { IfNone result (IsNoMake (map string_bytes words.now)) }
+    ensures make { OnSome result (IsNoMake (map string_bytes words.now) → ⊥) }
+{
+    match task_of(words, 0) {
+        Task::Make(header) => Some(layout_of(&header).need),
+        Task::Show { .. } => None,
+        Task::Nothing => None,
     }
 }
 
@@ -43,27 +90,31 @@ fn obey<S: Store, B: Base, O: Sink>(
     requires store_idle { S.flies store.old [] }
     requires base_idle { B.flies base.old [] }
     ensures answer { (outcome : Outcome)
-        × Answers (map string_bytes words.now) (S.tells store.new × B.tells base.new) (S.disk store.old).held (B.content base.old)
+        × Answers (map string_bytes words.now) (S.tells store.new × B.tells base.new) (S.sectors store.old) (B.sectors base.old) (S.disk store.old).held (B.content base.old)
         (λ ticket. IsFault ticket (S.last store.new) (S.faults store.old) (S.faults store.new)) (λ ticket. IsFault ticket (B.last base.new) (B.faults base.old) (B.faults base.new)) outcome
         × Ends outcome result (O.faults out.old) (O.faults out.new) (O.tells out.new) (O.written out.old) (O.written out.new) }
-    ensures store { OnlyReads (S.flies store.new []) (S.sectors store.old) (S.sectors store.new) (S.depth store.old) (S.depth store.new) (S.faults store.old) (S.faults store.new) (S.tells store.old) (S.tells store.new) (S.records store.old) (S.records store.new) (S.disk store.old) (S.disk store.new) }
+    ensures store { Leaves (S.flies store.new []) (S.sectors store.old) (S.sectors store.new) (S.depth store.old) (S.depth store.new) (S.faults store.old) (S.faults store.new) (S.tells store.old) (S.tells store.new) (S.records store.old) (S.records store.new) }
+    ensures unwritten { ((h : AnyHeader) → AsksFor (map string_bytes words.now) (B.sectors base.old) h → S.sectors store.old < need_of h) → OnlyReads (S.flies store.new []) (S.sectors store.old) (S.sectors store.new) (S.depth store.old) (S.depth store.new) (S.faults store.old) (S.faults store.new) (S.tells store.old) (S.tells store.new) (S.records store.old) (S.records store.new) (S.disk store.old) (S.disk store.new) }
+    ensures safe { (h : AnyHeader) → AsksFor (map string_bytes words.now) (B.sectors base.old) h → S.tells store.new → S.records store.new → MakesSafely h (S.disk store.old) (S.disk store.new) }
+    ensures made { (h : AnyHeader) → AsksFor (map string_bytes words.now) (B.sectors base.old) h → IsWhole result → S.tells store.new → S.records store.new → HasNewImage h (S.disk store.new) }
     ensures base { OnlyReadsBase (B.flies base.new []) (B.sectors base.old) (B.sectors base.new) (B.faults base.old) (B.faults base.new) (B.tells base.old) (B.tells base.new) (B.content base.old) (B.content base.new) }
     ensures told_before { O.tells out.new → O.tells out.old }
     ensures calm { O.faults out.old ≤ O.faults out.new }
 {
-    match shown_range(words) {
-        Some((first, count)) => show(alloc, out, store, base, first, count),
-        None => refuse(out, Line::BadWords),
+    match task_of(words, base.sectors()) {
+        Task::Show { first, count } => show(alloc, out, store, base, first, count),
+        Task::Make(header) => make(alloc, out, store, &header),
+        Task::Nothing => say(out, Line::BadWords),
     }
 }
 
 /// Does the command that the words spell, over a store and a base with nothing in flight, and prints its text into `out`.
-/// So far this is `show`; all other words are answered `bad words`. It always returns.
+/// So far these are `show` and `make`; all other words are answered `bad words`. It always returns.
 ///
-/// Statuses: 0 the sectors were printed; 2 the words are outside the grammar; 3 the image is refused by its bytes or its
-/// size; 4 the range lies past the disk; 5 a device failed; 6 the sink failed where the status would be 0; 7 there was no
-/// memory; 8 the image holds what this stage of the program does not read. The first of 2, 7, 5 or 3 or 8, 4, 5 of the base
-/// that holds is answered. docs/FORMAT.md has the texts.
+/// Statuses: 0 the sectors were printed, or the image was made; 2 the words are outside the grammar; 3 the image is refused
+/// by its bytes or its size; 4 the range lies past the disk; 5 a device failed; 6 the sink failed where the status would be
+/// 0; 7 there was no memory; 8 the image holds what this stage of the program does not read. Of `show` the first of 2, 7, 5
+/// or 3 or 8, 4, 5 of the base that holds is answered, of `make` the first of 2, 3, 7, 5. docs/FORMAT.md has the texts.
 pub fn still<S: Store, B: Base, I: Source, O: Sink>(
     alloc: Global,
     words: &[String],
@@ -77,17 +128,22 @@ pub fn still<S: Store, B: Base, I: Source, O: Sink>(
 
     // What was answered, how it was printed, and the status.
     ensures answer { (outcome : Outcome)
-        × Answers (map string_bytes words.now) (S.tells result.store × B.tells result.base) (S.disk store).held (B.content base)
+        × Answers (map string_bytes words.now) (S.tells result.store × B.tells result.base) (S.sectors store) (B.sectors base) (S.disk store).held (B.content base)
         (λ ticket. IsFault ticket (S.last result.store) (S.faults store) (S.faults result.store)) (λ ticket. IsFault ticket (B.last result.base) (B.faults base) (B.faults result.base)) outcome
         × Ends outcome result.status (O.faults out.old) (O.faults out.new) (O.tells out.new) (O.written out.old) (O.written out.new) }
 
     // The causes of statuses.
-    ensures outside { (result.status ≡ 2) ↔ IsNoShow (map string_bytes words.now) }
+    ensures outside { (result.status ≡ 2) ↔ IsNoCommand (map string_bytes words.now) }
     ensures device { result.status ≡ 5 → Rose (S.faults store) (S.faults result.store) ⊎ Rose (B.faults base) (B.faults result.base) }
     ensures sink { result.status ≡ 6 → Rose (O.faults out.old) (O.faults out.new) }
 
-    // Nothing is written to the store, and nothing is left in flight.
-    ensures store { OnlyReads (S.flies result.store []) (S.sectors store) (S.sectors result.store) (S.depth store) (S.depth result.store) (S.faults store) (S.faults result.store) (S.tells store) (S.tells result.store) (S.records store) (S.records result.store) (S.disk store) (S.disk result.store) }
+    // A made image is whole, and its making leaves no image or the whole one wherever it is cut off.
+    ensures made { (h : AnyHeader) → AsksFor (map string_bytes words.now) (B.sectors base) h → IsWhole result.status → S.tells result.store → S.records result.store → HasNewImage h (S.disk result.store) }
+    ensures safe { (h : AnyHeader) → AsksFor (map string_bytes words.now) (B.sectors base) h → S.tells result.store → S.records result.store → MakesSafely h (S.disk store) (S.disk result.store) }
+
+    // Nothing is written but where the words make an image that has room, and nothing is left in flight.
+    ensures unwritten { ((h : AnyHeader) → AsksFor (map string_bytes words.now) (B.sectors base) h → S.sectors store < need_of h) → OnlyReads (S.flies result.store []) (S.sectors store) (S.sectors result.store) (S.depth store) (S.depth result.store) (S.faults store) (S.faults result.store) (S.tells store) (S.tells result.store) (S.records store) (S.records result.store) (S.disk store) (S.disk result.store) }
+    ensures store { Leaves (S.flies result.store []) (S.sectors store) (S.sectors result.store) (S.depth store) (S.depth result.store) (S.faults store) (S.faults result.store) (S.tells store) (S.tells result.store) (S.records store) (S.records result.store) }
     ensures base { OnlyReadsBase (B.flies result.base []) (B.sectors base) (B.sectors result.base) (B.faults base) (B.faults result.base) (B.tells base) (B.tells result.base) (B.content base) (B.content result.base) }
     ensures told_before { O.tells out.new → O.tells out.old }
     ensures calm { O.faults out.old ≤ O.faults out.new }

@@ -4,12 +4,16 @@
 mod area;
 mod commands;
 mod ending;
+mod filling;
+mod making;
 mod opening;
 mod printing;
 mod showing;
 mod slots;
 #[cfg(test)]
+mod making_tests;
+#[cfg(test)]
 mod tests;
 
-pub use commands::still;
+pub use commands::{still, store_sectors};
 pub use ending::End;

@@ -3,7 +3,7 @@
 ghost use Rattle.std.specs.Prelude.{◌≡◌, ℕ, ◌≤◌, length, OnErr};
 ghost use Rattle.vd_io.specs.Streams.{Rose, Writes};
 ghost use Rattle.vd_top.specs.Statuses.{status_of_line};
-ghost use Rattle.vd_top.specs.Showing.{Refused, Shown};
+ghost use Rattle.vd_top.specs.Outcomes.{Says, Shown};
 ghost use Rattle.vd_top.specs.Ending.{Ends};
 
 use vd_io::sink::Sink;
@@ -41,10 +41,10 @@ fn status_of(line: Line) -> u8
 }
 
 /// Prints a line, and answers the status with which it ends the command.
-pub fn refuse<O: Sink>(out: &mut O, line: Line) -> u8
+pub fn say<O: Sink>(out: &mut O, line: Line) -> u8
     ensures told_before { O.tells out.new → O.tells out.old }
     ensures calm { O.faults out.old ≤ O.faults out.new }
-    ensures ends { Ends (Refused line) result (O.faults out.old) (O.faults out.new) (O.tells out.new) (O.written out.old) (O.written out.new) }
+    ensures ends { Ends (Says line) result (O.faults out.old) (O.faults out.new) (O.tells out.new) (O.written out.old) (O.written out.new) }
 {
     let status = status_of(line);
     match put_line(out, line) {

@@ -2,12 +2,13 @@
 
 ghost use Rattle.std.specs.Prelude.{◌≡◌, ℕ, ◌+◌, ◌^◌, ◌<◌, ◌≤◌, [], length, take, nat_lt};
 ghost use Rattle.vd_reading.specs.Quiet.{OnlyReads, OnlyReadsBase, IsFault};
-ghost use Rattle.vd_top.specs.Showing.{Outcome, outcome_of, open_line, Finds};
+ghost use Rattle.vd_top.specs.Outcomes.{Outcome};
+ghost use Rattle.vd_top.specs.Showing.{outcome_of, open_line, Finds};
 ghost use Rattle.vd_top.specs.Ending.{Ends};
 
 use crate::area::MOST;
 use crate::opening::{OpenError, open_fresh};
-use crate::printing::{print_sectors, refuse};
+use crate::printing::{print_sectors, say};
 use std::alloc::Global;
 use vd_device::{Base, Store};
 use vd_header::HeaderError;
@@ -90,10 +91,10 @@ pub fn show<S: Store, B: Base, O: Sink>(
         × Ends outcome result (O.faults out.old) (O.faults out.new) (O.tells out.new) (O.written out.old) (O.written out.new) }
 {
     let Ok(mut room) = vec![in alloc; Sector::filled(0); MOST as usize] else {
-        return refuse(out, Line::NoMemory);
+        return say(out, Line::NoMemory);
     };
     match find_sectors(store, base, first, count, room.as_mut_slice()) {
         Ok(()) => print_sectors(out, first, &room.as_slice()[..count as usize]),
-        Err(line) => refuse(out, line),
+        Err(line) => say(out, line),
     }
 }

@@ -10,7 +10,7 @@ use vd_law::entry::{Room, Sector};
 use vd_mem::{Keep, MemBase, MemStore, Rule};
 
 /// The header of a disk of 128 sectors with 96 of them tracked, blocks of 8, chunks of 4 blocks, 3 storage chunks and 4 slots.
-const HEADER: [u8; 56] = [
+pub(crate) const HEADER: [u8; 56] = [
     0x46, 0x56, 0x44, 0x50, 0x52, 0x4f, 0x46, 0x31, 2, 0, 0, 0, 8, 0, 0, 0, 4, 0, 0, 0, 3, 0, 0, 0,
     4, 0, 0, 0, 0, 0, 0, 0, 0x80, 0, 0, 0, 0, 0, 0, 0, 0x60, 0, 0, 0, 0, 0, 0, 0, 1, 0, 0, 0, 0, 0,
     0, 0,
@@ -32,7 +32,7 @@ fn change(sector: usize, byte: usize, value: u8) -> Alteration {
     }
 }
 
-fn words_of(alloc: Global, text: &str) -> Result<Vec<String>, Fail> {
+pub(crate) fn words_of(alloc: Global, text: &str) -> Result<Vec<String>, Fail> {
     let mut words = Vec::new(alloc);
     for word in text.split_whitespace() {
         words.push(String::from_str(alloc, word)?)?;
@@ -58,7 +58,7 @@ fn image(alloc: Global, sectors: usize, changes: &[Alteration]) -> Result<Vec<Se
 }
 
 /// A base of 96 sectors, each filled with its number.
-fn base(alloc: Global) -> Result<Vec<Sector>, Fail> {
+pub(crate) fn base(alloc: Global) -> Result<Vec<Sector>, Fail> {
     let mut content = Vec::new(alloc);
     for byte in 0..96u8 {
         content.push(Sector::filled(byte))?;

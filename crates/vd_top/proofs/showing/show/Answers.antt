@@ -1,11 +1,12 @@
 use Rattle.std.proofs.Common.{ap, length, ◌∙◌}
 use Rattle.vd_report.specs.declared.line.Line.TheVariants.{NoMemory}
-use Rattle.vd_top.specs.Showing.{Refused, Without_memory}
+use Rattle.vd_top.specs.Outcomes.{Says}
+use Rattle.vd_top.specs.Showing.{Without_memory}
 use Rattle.vd_top.proofs.ShowLaws.{whole_room, ends_shown}
 use Rattle.vd_top.proofs.showing.show.Goals as goal
 
 pub returns-in_default-clause-answer : goal.returns-in_default-clause-answer
-returns-in_default-clause-answer g c = (Refused NoMemory, Without_memory, c.refuse.ensures.ends)
+returns-in_default-clause-answer g c = (Says NoMemory, Without_memory, c.say.ensures.ends)
 
 pub returns-in-Ok-find_sectors-clause-answer : goal.returns-in-Ok-find_sectors-clause-answer
 returns-in-Ok-find_sectors-clause-answer g c =
@@ -13,4 +14,4 @@ returns-in-Ok-find_sectors-clause-answer g c =
     (_, c.in-Ok-find_sectors.ensures.found, ends_shown _ _ _ _ c.as_slice.result.now c.find_sectors.new.room (c.as_slice.ensures.value ∙ same) c.print_sectors.ensures.ends)
 
 pub returns-clause-answer : goal.returns-clause-answer
-returns-clause-answer g c = (_, c.in-Err.ensures.found, c.refuse-in-Err.ensures.ends)
+returns-clause-answer g c = (_, c.in-Err.ensures.found, c.say-in-Err.ensures.ends)

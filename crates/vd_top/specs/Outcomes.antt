@@ -1,0 +1,9 @@
+-- What became of a command.
+use Rattle.std.specs.Prelude.{ℕ, List}
+use Rattle.vd_law.specs.declared.entry.Sector.{Sector}
+use Rattle.vd_report.specs.declared.line.Line.{Line}
+
+-- it is one line, or sectors of the disk from `first` on
+pub data Outcome : Type 0 where
+  Says : Line → Outcome
+  Shown : (first : ℕ) → List Sector → Outcome

@@ -1,0 +1,233 @@
+//! Images made in memory, on stores that fail and that stop, and what crashes leave of them.
+
+use crate::commands::{still, store_sectors};
+use crate::ending::End;
+use crate::tests::{HEADER, base, words_of};
+use std::alloc::Global;
+use std::test::Fail;
+use vd_device::{Base, Store};
+use vd_io::mem_sink::MemSink;
+use vd_io::mem_source::MemSource;
+use vd_law::entry::{Event, Room, Sector};
+use vd_mem::{Chooser, Fuse, Keep, Kept, Lost, MemBase, MemStore, Mixed, Rule};
+
+const SMALL: &str = "make I P 128 8 4 3 4";
+
+/// The same with as many slots as there may be: its zeros take three tickets.
+const LONG: &str = "make I P 128 8 4 3 4096";
+
+/// A store in which each sector is filled with ff.
+fn old_store(alloc: Global, sectors: usize, rules: &[Rule]) -> Result<MemStore, Fail> {
+    let content = vec![in alloc; Sector::filled(0xff); sectors]?;
+    let room = Room {
+        events: 100,
+        sectors: 10_000,
+    };
+    Ok(MemStore::new(alloc, content, room, rules.to_vec(alloc)?)?)
+}
+
+/// What the words leave of a store, over a base of 96 sectors, and whether they print this text with this status.
+fn done<S: Store + Drop>(
+    alloc: Global,
+    words: &str,
+    store: S,
+    sink: &[u64],
+    text: &[u8],
+    status: u8,
+) -> Result<Option<S>, Fail> {
+    let words = words_of(alloc, words)?;
+    let base = MemBase::new(base(alloc)?, Vec::new(alloc));
+    if store.in_flight() != 0 || base.in_flight() != 0 {
+        return Ok(None);
+    }
+    let mut source = MemSource::new(Vec::new(alloc), Vec::new(alloc));
+    let mut out = MemSink::new(vec![in alloc; 0u8; 100]?, sink.to_vec(alloc)?);
+    let End { status: ended, store, .. } = still(alloc, words.as_slice(), &mut source, &mut out, store, base);
+    Ok(if ended == status && out.bytes() == text {
+        Some(store)
+    } else {
+        None
+    })
+}
+
+/// The sectors begin with the header of the small image, but for this number of slots, and then zeros up to the storage.
+fn is_new(sectors: &[Sector], slots: u16) -> bool {
+    let mut header = Sector::filled(0);
+    for (byte, value) in header.bytes.iter_mut().zip(&HEADER) {
+        *byte = *value;
+    }
+    let [low, high] = slots.to_le_bytes();
+    header.bytes[24] = low;
+    header.bytes[25] = high;
+    match sectors {
+        [first, rest @ ..] => {
+            *first == header
+                && rest
+                    .iter()
+                    .take(3 + slots as usize)
+                    .all(|sector| *sector == Sector::filled(0))
+        }
+        [] => false,
+    }
+}
+
+#[test]
+fn images_and_refusals(rt: HostRuntime) -> Result<(), Fail> {
+    let alloc = rt.alloc();
+    let rows: [(&str, usize, &[u8], u8); 7] = [
+        (SMALL, 104, b"made 104\n", 0),
+        (SMALL, 105, b"made 104\n", 0),
+        (SMALL, 103, b"too small 104 103\n", 3),
+        (SMALL, 0, b"too small 104 0\n", 3),
+        ("make I P 67108872 8 4 3 4", 104, b"bad words\n", 2),
+        ("make I P 128 8 4 5 4", 104, b"bad words\n", 2),
+        ("make J Q 131072 128 16 64 64", 131_141, b"made 131141\n", 0),
+    ];
+    for (words, sectors, text, status) in &rows {
+        let store = old_store(alloc, *sectors, &[])?;
+        assert!(rt; done(alloc, words, store, &[], text, *status)?.is_some(), "{words}");
+    }
+    Ok(())
+}
+
+#[test]
+fn bytes_of_a_new_image(rt: HostRuntime) -> Result<(), Fail> {
+    let alloc = rt.alloc();
+    let Some(store) = done(alloc, SMALL, old_store(alloc, 105, &[])?, &[], b"made 104\n", 0)? else {
+        panic!(rt; "not made");
+    };
+    assert!(rt; is_new(store.held(), 4));
+    assert!(rt; store.held().iter().skip(8).all(|sector| *sector == Sector::filled(0xff)));
+    let Some(store) = done(alloc, "show I P 95 2", store, &[], b"show 95 *5f *00\n", 0)? else {
+        panic!(rt; "not shown");
+    };
+
+    // an image is made anew over another, also where nothing of it can be told
+    let Some(store) = done(alloc, SMALL, store, &[1], b"", 6)? else {
+        panic!(rt; "not made");
+    };
+    assert!(rt; is_new(store.held(), 4));
+    Ok(())
+}
+
+/// How many sectors each write has, in order.
+fn written(alloc: Global, store: &MemStore) -> Result<Vec<usize>, Fail> {
+    let mut sizes = Vec::new(alloc);
+    for i in 0..store.log().len() {
+        if let Event::Issue { content, .. } = store.log().event(i) {
+            sizes.push(content.len())?;
+        }
+    }
+    Ok(sizes)
+}
+
+#[test]
+fn zeros_are_written_in_large_tickets(rt: HostRuntime) -> Result<(), Fail> {
+    let alloc = rt.alloc();
+    let Some(store) = done(alloc, LONG, old_store(alloc, 4196, &[])?, &[], b"made 4196\n", 0)? else {
+        panic!(rt; "not made");
+    };
+    assert!(rt; is_new(store.held(), 4096));
+    assert!(rt; written(alloc, &store)?.as_slice() == [1, 2048, 2048, 3, 1].as_slice());
+    Ok(())
+}
+
+/// Shows two sectors of what a crash leaves, and tells whether it is no image or the new one.
+fn is_whole_or_none<C: Chooser>(
+    alloc: Global,
+    store: MemStore,
+    chooser: &mut C,
+) -> Result<bool, Fail> {
+    let crashed = store.crash(chooser);
+    let (text, status): (&[u8], u8) = if is_new(crashed.start(), 4) {
+        (b"show 95 *5f *00\n", 0)
+    } else {
+        (b"not image\n", 3)
+    };
+    Ok(done(alloc, "show I P 95 2", crashed, &[], text, status)?.is_some())
+}
+
+/// Makes an image over sectors filled with ff, up to so many events of the store, and crashes.
+fn cut_off<C: Chooser>(
+    alloc: Global,
+    events: u64,
+    rules: &[Rule],
+    text: &[u8],
+    status: u8,
+    chooser: &mut C,
+) -> Result<bool, Fail> {
+    let store = Fuse::new(old_store(alloc, 104, rules)?, events);
+    match done(alloc, SMALL, store, &[], text, status)? {
+        Some(fuse) => is_whole_or_none(alloc, fuse.into_inner(), chooser),
+        None => Ok(false),
+    }
+}
+
+/// The same for each of many choosers.
+fn cut_off_each(
+    alloc: Global,
+    events: u64,
+    rules: &[Rule],
+    text: &[u8],
+    status: u8,
+) -> Result<bool, Fail> {
+    let mut whole = cut_off(alloc, events, rules, text, status, &mut Lost)?;
+    whole &= cut_off(alloc, events, rules, text, status, &mut Kept)?;
+    for number in 0..100 {
+        whole &= cut_off(alloc, events, rules, text, status, &mut Mixed::new(number))?;
+    }
+    Ok(whole)
+}
+
+/// What is said where the ticket of this number fails.
+const FAILED: [&[u8]; 6] = [
+    b"store fault 1\n",
+    b"store fault 2\n",
+    b"store fault 3\n",
+    b"store fault 4\n",
+    b"store fault 5\n",
+    b"store fault 6\n",
+];
+
+#[test]
+fn crashes_at_each_moment(rt: HostRuntime) -> Result<(), Fail> {
+    let alloc = rt.alloc();
+    for (ticket, text) in (0..).zip(FAILED) {
+        for events in 2 * ticket..2 * ticket + 2 {
+            assert!(rt; cut_off_each(alloc, events, &[], text, 5)?, "{events}");
+        }
+    }
+    assert!(rt; cut_off_each(alloc, 12, &[], b"made 104\n", 0)?);
+    Ok(())
+}
+
+#[test]
+fn crashes_after_each_failed_call(rt: HostRuntime) -> Result<(), Fail> {
+    let alloc = rt.alloc();
+    for (nth, text) in (1..).zip(FAILED) {
+        for keep in [Keep::Old, Keep::New] {
+            let rules = [Rule::FailNth { nth, keep }];
+            assert!(rt; cut_off_each(alloc, 100, &rules, text, 5)?, "{nth}");
+        }
+    }
+    Ok(())
+}
+
+#[test]
+fn sizes_of_stores(rt: HostRuntime) -> Result<(), Fail> {
+    let alloc = rt.alloc();
+    let rows = [
+        (SMALL, Some(104)),
+        (LONG, Some(4196)),
+        ("make J Q 131072 128 16 64 64", Some(131_141)),
+        ("make I P 67108864 128 64 8192 4096", Some(67_113_409)),
+        ("make I P 67108872 8 4 3 4", None),
+        ("make I P", None),
+        ("show I P 95 2", None),
+        ("", None),
+    ];
+    for (words, sectors) in &rows {
+        assert_eq!(rt; store_sectors(words_of(alloc, words)?.as_slice()), *sectors, "{words}");
+    }
+    Ok(())
+}
