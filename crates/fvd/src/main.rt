@@ -1,7 +1,7 @@
 //! The program: its words come from the command line, a trace from standard input, and its text goes to standard output.
 #![tactic(auto)]
 
-ghost use Rattle.std.specs.Prelude.{[], IfOk};
+ghost use Rattle.std.specs.Prelude.{◌≡◌, ℕ, [], IfOk, Some};
 ghost use Rattle.vd_file.specs.Standing.{AreFlying};
 
 use std::process::ExitCode;
@@ -43,7 +43,8 @@ fn open_devices(
     base: &str,
     made: Option<u64>,
 ) -> Result<(FileStore, FileBase), Unready>
-    ensures { IfOk result (λ devices. AreFlying devices.0 [] × AreFlying devices.1 []) }
+    ensures idle { IfOk result (λ devices. AreFlying devices.0 [] × AreFlying devices.1 []) }
+    ensures made { IfOk result (λ devices. (sectors : ℕ) → made ≡ Some sectors → devices.0.sectors ≡ sectors) }
 {
     let opened = FileStore::at(rt, store, made).map_err(|e| reason_of(e, 2))?;
     match FileBase::at(rt, base) {

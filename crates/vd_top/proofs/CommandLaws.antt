@@ -1,17 +1,16 @@
 -- What a command answers, and the causes of its status.
-use Rattle.std.proofs.Common.{ℕ, zero, suc, ◌≡◌, ◌≤◌, ◌⊎◌, min, inl, inr, List, Some, None, refl, sym, ◌∙◌, ap, subst, arith}
+use Rattle.std.proofs.Common.{ℕ, zero, suc, ◌≡◌, ◌⊎◌, min, inl, inr, List, Some, None, refl, sym, ◌∙◌, ap, subst, arith}
 use Rattle.std.specs.Prelude.{◌↔◌}
 use Rattle.vd_law.specs.declared.entry.Sector.{Sector}
 use Rattle.vd_format.specs.Headers.{IsValid}
 use Rattle.vd_format.specs.declared.header.Header.{Header}
-use Rattle.vd_format.specs.Layouts.{need_of}
 use Rattle.vd_command.specs.declared.command.Command.{Command}
 use Rattle.vd_command.specs.declared.command.Command.TheVariants.{Show, Make}
 use Rattle.vd_command.specs.Words.{Spells, made}
 use Rattle.vd_io.specs.Streams.{Rose}
 use Rattle.vd_reading.specs.Quiet.{IsFault}
 use Rattle.vd_top.specs.Outcomes.{Outcome, Says, Shown}
-use Rattle.vd_top.specs.Showing.{IsJudged, Without_memory, Store_failed, Base_failed, Found, IsNoShow}
+use Rattle.vd_top.specs.Showing.{IsJudged, Without_memory, Store_failed, Base_failed, Found}
 use Rattle.vd_top.specs.Making.{AsksFor, IsNoMake, new_header, MakingEnds, Too_few, Lacks_memory, Write_failed, Is_made}
 use Rattle.vd_top.specs.Tasks.{IsMaking}
 use Rattle.vd_top.specs.Commands.{IsNoCommand, Answers, Outside, Shows, Makes}

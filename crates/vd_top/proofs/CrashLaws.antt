@@ -1,5 +1,5 @@
 -- What a crash leaves of a new image that is being written.
-use Rattle.std.proofs.Common.{ℕ, zero, suc, ◌≡◌, ◌+◌, ◌-◌, ◌<◌, ◌≤◌, ◌⊎◌, inl, inr, List, [], ◌∷◌, ◌++◌, length, take, Some, None, refl, ap, sym, ◌∙◌, subst, arith, length-append, append-nil, lit<, lit≤}
+use Rattle.std.proofs.Common.{ℕ, zero, suc, ◌≡◌, ◌+◌, ◌-◌, ◌<◌, ◌≤◌, ◌⊎◌, inl, inr, List, [], ◌∷◌, ◌++◌, length, take, Some, refl, ap, sym, ◌∙◌, subst, arith, length-append, append-nil, lit<, lit≤}
 use Rattle.std.specs.Prelude.{slice_get}
 use Rattle.std.specs.List.{AllByRecursion}
 use Rattle.std.proofs.lemmas.List.{append_assoc, take-append-le}
@@ -19,7 +19,7 @@ use Rattle.vd_image.specs.Decoders.{this_version}
 use Rattle.vd_image.specs.CrashImages.{sectors_or, IsCrashImage}
 use Rattle.vd_image.specs.Made.{zero_sector, header_sector}
 use Rattle.vd_image.proofs.CrashImages.{at_inside, past_end}
-use Rattle.vd_top.specs.Putting.{IsPut, IsNoSuccess, Puts, MayHave, Holds, IsKept, EachFrom, Story, Begun, Blanked, Headed, IsWritten}
+use Rattle.vd_top.specs.Putting.{IsPut, IsNoSuccess, Puts, MayHave, IsKept, EachFrom, Story, Begun, Blanked, Headed, IsWritten}
 use Rattle.vd_top.specs.Images.{IsNewImage, IsNoImage, IsMaking, HasFlushed, MakesSafely, HasNewImage}
 use Rattle.vd_top.proofs.VersionLaws.{Fits, fits_weaker, Left, left_more}
 use Rattle.vd_top.proofs.PutLaws.{join, each_event, fits_inside, fits_outside}
@@ -164,7 +164,7 @@ safe_blanked h old mid new first more puts kept last = record {
   more = first ++ more;
   log = last.log ∙ ap (λ (l : List Entry). l ++ more) puts.log ∙ append_assoc old.log first more;
   writes = join (IsMaking h) first more (each_event (IsPut zero_sector 0 1) (IsMaking h) (making_zeros h 0 1 (omega arith)) first puts.only)
-  (each_event (IsPut zero_sector 1 (storage_start h)) (IsMaking h) (making_zeros h 1 (storage_start h) (omega arith)) more last.only);
+      (each_event (IsPut zero_sector 1 (storage_start h)) (IsMaking h) (making_zeros h 1 (storage_start h) (omega arith)) more last.only);
   safe = λ k image flushed crash. inl (blank_at first more mid new (storage_start h) k image kept last (reaches old mid new first more k puts.log kept last.log flushed) crash);
 }
 
@@ -177,15 +177,15 @@ safe_headed h old mid ready new first second more valid version room puts kept z
       more = first ++ (second ++ more);
       log = log ∙ ap (λ (l : List Entry). l ++ (second ++ more)) puts.log ∙ append_assoc old.log first (second ++ more);
       writes = join (IsMaking h) first (second ++ more) (each_event (IsPut zero_sector 0 1) (IsMaking h) (making_zeros h 0 1 (omega arith)) first puts.only)
-      (join (IsMaking h) second more (each_event (IsPut zero_sector 1 (storage_start h)) (IsMaking h) (making_zeros h 1 (storage_start h) (omega arith)) second zeros.only)
-      (each_event (IsPut (header_sector h) 0 1) (IsMaking h) (making_header h) more last.only));
+          (join (IsMaking h) second more (each_event (IsPut zero_sector 1 (storage_start h)) (IsMaking h) (making_zeros h 1 (storage_start h) (omega arith)) second zeros.only)
+          (each_event (IsPut (header_sector h) 0 1) (IsMaking h) (making_header h) more last.only));
       safe = λ k image flushed crash. (
-      let from = reaches old mid new first (second ++ more) k puts.log kept log flushed in
-      elim (leb_tells (length ready.log) k) [
-        | inl late ↦ header_at h more ready new k image valid version (let same = ap length (last.start ∙ zeros.start ∙ puts.start) in omega (arith, room, same))
-            (firm_after_puts (λ x. x ≡ zero_sector) zero_sector 1 (storage_start h) 0 second mid ready (inl (lit< tt)) zeros (kept.firm 0 (lit≤ tt) (lit< tt))) rest last late.1 crash
-        | inr early ↦ inl (blank_at first second mid ready (storage_start h) k image kept zeros from (earlier k image early.1 crash))
-      ]);
+          let from = reaches old mid new first (second ++ more) k puts.log kept log flushed in
+          elim (leb_tells (length ready.log) k) [
+            | inl late ↦ header_at h more ready new k image valid version (let same = ap length (last.start ∙ zeros.start ∙ puts.start) in omega (arith, room, same))
+                (firm_after_puts (λ x. x ≡ zero_sector) zero_sector 1 (storage_start h) 0 second mid ready (inl (lit< tt)) zeros (kept.firm 0 (lit≤ tt) (lit< tt))) rest last late.1 crash
+            | inr early ↦ inl (blank_at first second mid ready (storage_start h) k image kept zeros from (earlier k image early.1 crash))
+          ]);
     }
   where
     earlier : (k : ℕ) (image : List Sector) → k < length ready.log → IsCrashImage new.start (take k new.log) image → IsCrashImage ready.start (take k ready.log) image
@@ -213,12 +213,12 @@ story_start header zeros end old new (Headed first second more mid ready puts ke
 pub written_new : (h : Header) (d : Disk) → IsValid h → h.version ≡ this_version → need_of h ≤ length d.start → need_of h ≤ length d.held → IsWritten (header_sector h) zero_sector (storage_start h) d → HasNewImage h d
 written_new h d valid version start held written = record {
   held = new_image h d.held valid version held
-    (held_sector (header_sector h) d.held 0 (inr (omega (arith, held))) written.first_held)
-    (λ s low high. held_sector zero_sector d.held s (inl refl) (written.rest_held s low high));
+      (held_sector (header_sector h) d.held 0 (inr (omega (arith, held))) written.first_held)
+      (λ s low high. held_sector zero_sector d.held s (inl refl) (written.rest_held s low high));
   durable = λ image crash. (
-  let size = crash.size in
-  let first : At image 0 (sectors_or zero_sector image 0) = at_inside zero_sector image 0 (omega (arith, start, size)) in
-  new_image h image valid version (omega (arith, start, size))
-  (written.first (sectors_or zero_sector image 0) (crash.sectors 0 (sectors_or zero_sector image 0) first))
-  (λ s low high. image_sector (λ x. x ≡ zero_sector) d.start d.log image s crash refl (written.rest s low high)));
+      let size = crash.size in
+      let first : At image 0 (sectors_or zero_sector image 0) = at_inside zero_sector image 0 (omega (arith, start, size)) in
+      new_image h image valid version (omega (arith, start, size))
+      (written.first (sectors_or zero_sector image 0) (crash.sectors 0 (sectors_or zero_sector image 0) first))
+      (λ s low high. image_sector (λ x. x ≡ zero_sector) d.start d.log image s crash refl (written.rest s low high)));
 }

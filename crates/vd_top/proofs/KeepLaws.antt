@@ -1,5 +1,5 @@
 -- A range that was written, and then flushed.
-use Rattle.std.proofs.Common.{ℕ, ◌≡◌, ◌<◌, ◌≤◌, ◌⊎◌, List, [], ◌∷◌, ◌++◌, length, Result, Ok, Err, refl, ap, sym, ◌∙◌, subst}
+use Rattle.std.proofs.Common.{ℕ, ◌≡◌, List, [], ◌∷◌, ◌++◌, length, Result, Ok, Err, ap, sym, ◌∙◌, subst}
 use Rattle.std.specs.Prelude.{slice_get, ⊤}
 use Rattle.std.specs.List.{AllByRecursion}
 use Rattle.std.proofs.lemmas.List.{append_assoc}
@@ -8,7 +8,7 @@ use Rattle.vd_law.specs.declared.entry.Answer.TheVariants as answers
 use Rattle.vd_law.specs.Entries.{Flush, Entry, Ask, Reply, Past, ◌▸◌, past}
 use Rattle.vd_device.specs.Disks.{Disk}
 use Rattle.vd_device.specs.Now.{call_number, flush_entries}
-use Rattle.vd_top.specs.Putting.{IsPut, IsNoSuccess, Puts, MayHave, IsLaid, Lays, Syncs, IsKept, KeptBy, Keeps}
+use Rattle.vd_top.specs.Putting.{IsPut, IsNoSuccess, Puts, MayHave, IsLaid, Lays, Syncs, KeptBy, Keeps}
 use Rattle.vd_top.proofs.VersionLaws.{Since, Left, left_flushed}
 use Rattle.vd_top.proofs.PutLaws.{two_events, join, puts_twice}
 

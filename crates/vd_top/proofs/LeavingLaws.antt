@@ -1,5 +1,5 @@
 -- What commands leave of a store, one after another.
-use Rattle.std.proofs.Common.{ℕ, ◌≡◌, ◌≤◌, [], refl, ◌∙◌, arith}
+use Rattle.std.proofs.Common.{ℕ, ◌≡◌, refl, ◌∙◌, arith}
 use Rattle.vd_device.specs.Disks.{Disk}
 use Rattle.vd_reading.specs.Quiet.{IsReady, OnlyReads, IsAtRest}
 use Rattle.vd_top.specs.Leaving.{Leaves}

@@ -1,11 +1,11 @@
 -- A store whose header is new and whose sectors behind it, up to the storage, are zeros, is a new image.
-use Rattle.std.proofs.Common.{ℕ, ◌≡◌, ◌+◌, ◌*◌, ◌/◌, ◌<◌, ◌≤◌, ◌⊎◌, inl, inr, ◌==◌, Bool, true, false, List, length, Some, None, Ok, Err, refl, ap, sym, ◌∙◌, subst, arith}
-use Rattle.std.specs.Prelude.{nat_lt, if◌then◌else◌}
+use Rattle.std.proofs.Common.{ℕ, ◌≡◌, ◌<◌, ◌≤◌, inl, inr, Bool, List, length, Some, Err, refl, ap, sym, ◌∙◌, arith}
+use Rattle.std.specs.Prelude.{if◌then◌else◌}
 use Rattle.vd_law.specs.declared.entry.Sector.{Sector}
-use Rattle.vd_format.specs.Headers.{IsValid, header_of, spelling}
+use Rattle.vd_format.specs.Headers.{IsValid, header_of}
 use Rattle.vd_format.specs.Layouts.{storage_start, need_of}
 use Rattle.vd_format.specs.declared.header.HeaderError.TheVariants.{NotImage}
-use Rattle.vd_image.specs.Image.{Header, Image, Mapping, Record, background, unmapped, Maps, Gives, IsUnnamed, Counts, Fact, HasNoLater, DiskHas, IsApart, IsLocalBy, IsGoodMapping}
+use Rattle.vd_image.specs.Image.{Header, Image, Mapping, Record, background, Maps, Gives, IsUnnamed, HasNoLater, DiskHas}
 use Rattle.vd_image.specs.Layouts.{layout_of}
 use Rattle.vd_image.specs.Decoders.{format_of, this_version}
 use Rattle.vd_image.specs.Openings.{Opens}
@@ -14,7 +14,7 @@ use Rattle.vd_image.specs.Made.{zero_sector, header_sector, made}
 use Rattle.std.proofs.lemmas.Bool.{ne_eqb}
 use Rattle.vd_format.specs.Numbers.{has_magic}
 use Rattle.vd_image.proofs.Layouts.{parts_apart}
-use Rattle.vd_image.proofs.Made.{made_opens, made_slot_unread, made_maps, made_gives_none}
+use Rattle.vd_image.proofs.Made.{made_opens, made_slot_unread, made_gives_none}
 use Rattle.vd_top.specs.Images.{IsNewImage}
 
 -- the image has the made one's header, map and slots
@@ -85,9 +85,9 @@ pub like_new : (h : Header) (image : Image) → image 0 ≡ header_sector h → 
 like_new h image first rest = record {
   header = first;
   map = λ c within. (
-  rest ((layout_of h).map_at c) (omega arith) (omega (arith, within)) ∙ sym (made_more h ((layout_of h).map_at c) (omega arith)));
+      rest ((layout_of h).map_at c) (omega arith) (omega (arith, within)) ∙ sym (made_more h ((layout_of h).map_at c) (omega arith)));
   slots = λ k within. (
-  rest ((layout_of h).slot_at k) (omega arith) (omega (arith, within)) ∙ sym (made_more h ((layout_of h).slot_at k) (omega arith)));
+      rest ((layout_of h).slot_at k) (omega arith) (omega (arith, within)) ∙ sym (made_more h ((layout_of h).slot_at k) (omega arith)));
 }
 
 pub new_image : (h : Header) (sectors : List Sector) → IsValid h → h.version ≡ this_version → need_of h ≤ length sectors → sectors_or zero_sector sectors 0 ≡ header_sector h

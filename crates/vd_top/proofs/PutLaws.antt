@@ -1,26 +1,25 @@
 -- What writes of one content over a range leave, and a flush of them.
-use Rattle.std.proofs.Common.{ℕ, ◌≡◌, ◌+◌, ◌-◌, ◌<◌, ◌≤◌, ◌⊎◌, inl, inr, Bool, true, false, List, [], ◌∷◌, ◌++◌, length, drop, take, Option, Some, None, Result, Ok, Err, refl, ap, sym, ◌∙◌, subst, arith, append-nil}
+use Rattle.std.proofs.Common.{ℕ, ◌≡◌, ◌+◌, ◌-◌, ◌<◌, ◌≤◌, ◌⊎◌, inl, inr, Bool, List, [], ◌∷◌, ◌++◌, length, drop, take, Option, Some, None, Result, Ok, Err, refl, ap, sym, ◌∙◌, subst, arith, append-nil}
 use Rattle.std.specs.Prelude.{slice_get, slice_index_or, ⊤, OnOk, not, if◌then◌else◌}
-use Rattle.std.specs.List.{AllByRecursion, Contains, fold, filter, find}
+use Rattle.std.specs.List.{AllByRecursion, Contains, filter}
 use Rattle.std.proofs.lemmas.List.{append_assoc, take-append-drop}
 use Rattle.std.proofs.lemmas.Option.{slice_get-get_or, slice_get_within}
 use Rattle.vd_reading.proofs.BackgroundLaws.{slice_get_front}
 use Rattle.vd_law.specs.declared.entry.Sector.{Sector}
 use Rattle.vd_law.specs.declared.entry.CallId.{CallId}
-use Rattle.vd_law.specs.Entries.{Asked, Flush, Entry, Ask, Issue, Done, Broke, Seen, Reply, Past, nothing, ◌▸◌, past}
-use Rattle.vd_law.specs.Contents.{sector_in, written, Open, is_of, is_of_another, opened, open_writes, open_write, settled, could_after, could}
+use Rattle.vd_law.specs.Entries.{Entry, Ask, Issue, Done, Broke, Seen, Reply, Past, nothing, ◌▸◌, past}
+use Rattle.vd_law.specs.Contents.{sector_in, written, Open, is_of_another, opened, open_writes, settled, could_after, could}
 use Rattle.vd_law.proofs.RuleLaws.{past-append}
-use Rattle.vd_law.proofs.Appending.{past-push}
 use Rattle.vd_law.proofs.Opening.{same_call-refl}
 use Rattle.vd_law.proofs.Sectors.{sector_in-place, sector_in-at}
-use Rattle.vd_device.specs.Disks.{Disk, IsCalmAt, IsHonest, GrowsBy}
+use Rattle.vd_device.specs.Disks.{Disk, GrowsBy}
 use Rattle.vd_device.specs.Now.{call_number, write_entries, flush_entries, WritesBy}
 use Rattle.vd_device.proofs.Logs.{outside}
 use Rattle.std.proofs.lemmas.Bool.Decides.{leb_tells}
 use Rattle.vd_reading.specs.Quiet.{IsAtRest}
 use Rattle.vd_reading.proofs.QuietLaws.{flush_idle, held_after, rest_after}
-use Rattle.vd_top.specs.Putting.{AreAll, IsPut, IsNoSuccess, Puts, MayHave, HasDone, Holds, IsLaid, Lays, Syncs, IsKept, KeptBy, Keeps}
-use Rattle.vd_top.proofs.VersionLaws.{Only, only_one, Fits, Since, since_more, own_open, since_written}
+use Rattle.vd_top.specs.Putting.{AreAll, IsPut, IsNoSuccess, Puts, HasDone, IsLaid, Lays, Syncs}
+use Rattle.vd_top.proofs.VersionLaws.{only_one, Fits, Since, since_more, own_open, since_written}
 
 -- the log after two events
 pub two_events : (log : List Entry) (a b : Entry) → past (log ++ a ∷ b ∷ []) ≡ past log ▸ a ▸ b
@@ -89,13 +88,13 @@ laid_one v number first content (Ok done) old new all rest w =
     let log : past new.log ≡ past old.log ▸ Issue id first content ▸ Done id = ap past w.log ∙ two_events old.log (Issue id first content) (Done id) in
     record {
       done = λ s from to. (
-      subst (λ (q : Past). Since (λ x. x ≡ v) new.start q s) (sym log)
-      (since_written (λ x. x ≡ v) new.start (past old.log) id first content s v (covered v first content s all from to) refl));
+          subst (λ (q : Past). Since (λ x. x ≡ v) new.start q s) (sym log)
+          (since_written (λ x. x ≡ v) new.start (past old.log) id first content s v (covered v first content s all from to) refl));
       held = λ s from to x is. (
-      let own = own_open (past old.log) id first content s v (covered v first content s all from to) in
-      let could_be : could new.start new.log s ≡ v ∷ [] =
-      ap (λ (q : Past). could_after new.start q s) log ∙ ap (λ (o : Option Open). settled o (could_after new.start (past old.log ▸ Issue id first content) s)) own in
-      only_one (λ x. x ≡ v) v refl x (subst (λ (xs : List Sector). Contains xs x) could_be (w.honest s x is)));
+          let own = own_open (past old.log) id first content s v (covered v first content s all from to) in
+          let could_be : could new.start new.log s ≡ v ∷ [] =
+          ap (λ (q : Past). could_after new.start q s) log ∙ ap (λ (o : Option Open). settled o (could_after new.start (past old.log ▸ Issue id first content) s)) own in
+          only_one (λ x. x ≡ v) v refl x (subst (λ (xs : List Sector). Contains xs x) could_be (w.honest s x is)));
     }
 
 -- what holds of an answer that is done, of each sector and of a store that tells

@@ -1,7 +1,6 @@
 -- How far a new image was written.
-use Rattle.std.proofs.Common.{ℕ, zero, suc, ◌≡◌, ◌<◌, ◌≤◌, ◌⊎◌, inl, inr, List, [], ◌∷◌, ◌++◌, Some, None, Result, Ok, Err, refl, ap, sym, ◌∙◌, subst, arith, length, replicate, lit<, lit≤}
+use Rattle.std.proofs.Common.{ℕ, zero, suc, ◌≡◌, ◌<◌, ◌≤◌, ◌⊎◌, inr, List, [], ◌∷◌, Some, None, Result, Ok, Err, ap, sym, ◌∙◌, subst, arith, length, replicate, lit<, lit≤}
 use Rattle.std.specs.Prelude.{slice_get, ⊤, OnOk}
-use Rattle.std.specs.List.{AllByRecursion}
 use Rattle.vd_law.specs.declared.entry.Sector.{Sector}
 use Rattle.vd_law.specs.Entries.{Entry, past}
 use Rattle.vd_device.specs.Disks.{Disk}
@@ -11,7 +10,7 @@ use Rattle.std.proofs.lemmas.Option.{slice_get_within}
 use Rattle.vd_reading.proofs.BackgroundLaws.{slice_get_replicate}
 use Rattle.vd_image.specs.Made.{zero_sector, header_sector}
 use Rattle.vd_format.specs.Headers.{spelling}
-use Rattle.vd_top.specs.Putting.{AreAll, IsPut, Puts, MayHave, Holds, IsKept, Keeps, Story, Begun, Blanked, Headed, IsWritten}
+use Rattle.vd_top.specs.Putting.{AreAll, IsPut, Puts, IsKept, Keeps, Story, Begun, Blanked, Headed, IsWritten}
 use Rattle.vd_top.proofs.VersionLaws.{Fits, Left, left_more}
 use Rattle.vd_top.proofs.PutLaws.{each_event, fits_outside}
 

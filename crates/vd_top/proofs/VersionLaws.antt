@@ -1,5 +1,5 @@
 -- What one more event makes of the contents that a sector may have: each of them, or each since the last that was done, has P.
-use Rattle.std.proofs.Common.{ℕ, ◌≡◌, ◌+◌, ◌-◌, max, ◌<◌, ◌≤◌, ◌⊎◌, inl, inr, Bool, true, false, List, [], ◌∷◌, ◌++◌, length, drop, take, Option, Some, None, refl, ap, sym, ◌∙◌, subst, arith, length-append, append-nil}
+use Rattle.std.proofs.Common.{ℕ, ◌≡◌, ◌+◌, ◌-◌, max, ◌≤◌, inl, inr, Bool, List, [], ◌∷◌, ◌++◌, length, drop, take, Option, Some, None, refl, ap, sym, ◌∙◌, subst, arith, length-append, append-nil}
 use Rattle.std.specs.Prelude.{slice_get, if◌then◌else◌}
 use Rattle.std.specs.Option.{option_to_list}
 use Rattle.std.specs.List.{AllByRecursion, Contains, find}
@@ -8,15 +8,13 @@ use Rattle.std.proofs.lemmas.List.Elements.{Contains-append_cases, Contains-appe
 use Rattle.std.proofs.Math.Seq.{drop-append_seam}
 use Rattle.vd_law.specs.declared.entry.Sector.{Sector}
 use Rattle.vd_law.specs.declared.entry.CallId.{CallId}
-use Rattle.vd_law.specs.declared.entry.Answer.{Answer}
 use Rattle.vd_law.specs.declared.entry.Answer.TheVariants as answers
-use Rattle.vd_law.specs.Entries.{Asked, Flush, Entry, Ask, Issue, Done, Broke, Seen, Reply, same_call, Past, nothing, ◌▸◌, past}
+use Rattle.vd_law.specs.Entries.{Asked, Flush, Entry, Ask, Issue, Done, Broke, Seen, Reply, Past, ◌▸◌, past}
 use Rattle.vd_law.specs.Calls.{Progress, progress, before_ask}
-use Rattle.vd_law.specs.Contents.{sector_in, written, Open, is_of, opened, open_writes, open_write, number_of, last_done, is_flushed, firm_after, versions, may_after, may}
+use Rattle.vd_law.specs.Contents.{sector_in, written, is_of, opened, open_writes, open_write, number_of, last_done, is_flushed, firm_after, versions, may_after}
 use Rattle.vd_law.proofs.Appending.{past-push, either, last_done-le, firm-le}
 use Rattle.vd_law.proofs.Opening.{same_call-refl}
 use Rattle.vd_law.proofs.OpenLaws.{progress-own}
-use Rattle.vd_law.proofs.Sectors.{sector_in-place}
 
 -- P holds of each element
 abbrev pub Only : (Sector → Type 0) → List Sector → Type 0

@@ -1,10 +1,10 @@
 -- New images: what `make` leaves, also where it is cut off at any moment.
-use Rattle.std.specs.Prelude.{ℕ, ◌≡◌, ◌+◌, ◌<◌, ◌≤◌, ◌⊎◌, List, ◌∷◌, [], ◌++◌, length, take, Some, Err, slice_get}
+use Rattle.std.specs.Prelude.{ℕ, ◌≡◌, ◌+◌, ◌<◌, ◌≤◌, ◌⊎◌, List, ◌++◌, length, take, Some, Err, slice_get}
 use Rattle.std.specs.List.{AllByRecursion}
 use Rattle.vd_law.specs.declared.entry.Sector.{Sector}
 use Rattle.vd_law.specs.declared.entry.CallId.{CallId}
 use Rattle.vd_law.specs.declared.entry.Answer.TheVariants as answers
-use Rattle.vd_law.specs.Entries.{Entry, Ask, Issue, Done, Broke, Seen, Reply}
+use Rattle.vd_law.specs.Entries.{Entry, Issue, Seen, Reply}
 use Rattle.vd_format.specs.declared.header.Header.{Header}
 use Rattle.vd_format.specs.declared.header.HeaderError.TheVariants.{NotImage}
 use Rattle.vd_format.specs.Headers.{header_of}

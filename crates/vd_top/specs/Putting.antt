@@ -3,9 +3,8 @@ use Rattle.std.specs.Prelude.{ℕ, ◌≡◌, ◌+◌, ◌<◌, ◌≤◌, ◌�
 use Rattle.std.specs.List.{AllByRecursion, Contains}
 use Rattle.vd_law.specs.declared.entry.Sector.{Sector}
 use Rattle.vd_law.specs.declared.entry.CallId.{CallId}
-use Rattle.vd_law.specs.declared.entry.Answer.{Answer}
 use Rattle.vd_law.specs.declared.entry.Answer.TheVariants as answers
-use Rattle.vd_law.specs.Entries.{Asked, Flush, Entry, Ask, Issue, Done, Broke, Seen, Reply, past}
+use Rattle.vd_law.specs.Entries.{Entry, Issue, Seen, Reply, past}
 use Rattle.vd_law.specs.Contents.{last_done, versions, may}
 use Rattle.vd_device.specs.Disks.{Disk}
 use Rattle.vd_reading.specs.Quiet.{IsAtRest}
@@ -51,12 +50,12 @@ Holds v d s = (x : Sector) → slice_get d.held s ≡ Some x → x ≡ v
 abbrev pub EachFrom : (from to : ℕ) → (ℕ → Type 0) → Type 0
 EachFrom from to P = (s : ℕ) → from ≤ s → s < to → P s
 
--- the range is written, up to its next flush
+-- the range is written: it holds this, and a flush that succeeds leaves it so
 pub record IsLaid (v : Sector) (from to : ℕ) (d : Disk) : Type 0 where
   pub done : EachFrom from to (HasDone v d)
   pub held : EachFrom from to (Holds v d)
 
--- Writes of a range were tried: no flush is among them, and where they were done the range is written.
+-- Writes of a range were tried, and no flush succeeded among them.
 pub record Lays (v : Sector) (from to : ℕ) (old new : Disk) : Type 0 where
   pub more : List Entry
   pub puts : Puts v from to more old new

@@ -28,10 +28,7 @@ use vd_report::line::Line;
 /// What is to be done.
 #[derive(Clone, Copy, Drop)]
 enum Task {
-    Show {
-        first: u64,
-        count: u64,
-    },
+    Show { first: u64, count: u64 },
     Make(Header),
     /// The words are none of these.
     Nothing,

@@ -6,12 +6,12 @@ mod commands;
 mod ending;
 mod filling;
 mod making;
+#[cfg(test)]
+mod making_tests;
 mod opening;
 mod printing;
 mod showing;
 mod slots;
-#[cfg(test)]
-mod making_tests;
 #[cfg(test)]
 mod tests;
 

@@ -52,12 +52,7 @@ fn write_image<S: Store>(store: &mut S, zeros: &[Sector], header: &Header) -> Re
 }
 
 /// Makes the image with this header, prints its size or why it is not made, and answers the status.
-pub fn make<S: Store, O: Sink>(
-    alloc: Global,
-    out: &mut O,
-    store: &mut S,
-    header: &Header,
-) -> u8
+pub fn make<S: Store, O: Sink>(alloc: Global, out: &mut O, store: &mut S, header: &Header) -> u8
     requires store_idle { S.flies store.old [] }
     requires valid { IsValid header.now }
     requires version { header.now.version ≡ 2 }

@@ -1,4 +1,4 @@
-use Rattle.std.proofs.Common.{ℕ, ◌≡◌, sym, subst, ◌∙◌}
+use Rattle.std.proofs.Common.{sym, subst}
 use Rattle.vd_format.specs.declared.header.Header.{Header}
 use Rattle.vd_report.specs.declared.line.Line.TheVariants.{BadWords}
 use Rattle.vd_top.specs.Images.{MakesSafely, HasNewImage}

@@ -1,6 +1,5 @@
-use Rattle.std.proofs.Common.{ℕ, ◌≡◌, ◌+◌, ◌≤◌, take, length, ap, subst, sym, arith, length-take-le}
-use Rattle.vd_law.specs.declared.entry.Sector.{Sector}
-use Rattle.vd_top.specs.Putting.{AreAll, Lays, IsLaid}
+use Rattle.std.proofs.Common.{ℕ, ◌≡◌, ◌+◌, take, length, subst, arith, length-take-le}
+use Rattle.vd_top.specs.Putting.{IsLaid}
 use Rattle.vd_top.proofs.LeavingLaws.{leaves_twice, leaves_all}
 use Rattle.vd_top.proofs.PutLaws.{all_first, lays_none, lays_more, laid_none, laid_more}
 use Rattle.vd_top.proofs.filling.lay.Goals as goal
@@ -30,12 +29,12 @@ loop-at-preserved g c =
       ready = c.put.ensures.ready;
       leaves = leaves_twice c.loop-at.invariant.leaves c.put.ensures.leaves;
       lays = λ v all told. (
-      let before = c.put.ensures.leaves.told_before told in
-      lays_more v _ _ _ _ _ _ _ low (omega arith) (c.loop-at.invariant.lays v all before) (c.put.ensures.lays v (all_first v _ _ all) told));
+          let before = c.put.ensures.leaves.told_before told in
+          lays_more v _ _ _ _ _ _ _ low (omega arith) (c.loop-at.invariant.lays v all before) (c.put.ensures.lays v (all_first v _ _ all) told));
       laid = λ v all told. (
-      let before = c.put.ensures.leaves.told_before told in
-      subst (λ (k : ℕ). IsLaid v c.args.from (c.loop-at.at + k) (g.S.Store.disk c.put.new.store)) n
-      (laid_more v _ _ _ _ _ low (c.loop-at.invariant.laid v all before) (c.put.ensures.lays v (all_first v _ _ all) told) (c.in_ok-put.ensures.laid v (all_first v _ _ all) told)));
+          let before = c.put.ensures.leaves.told_before told in
+          subst (λ (k : ℕ). IsLaid v c.args.from (c.loop-at.at + k) (g.S.Store.disk c.put.new.store)) n
+          (laid_more v _ _ _ _ _ low (c.loop-at.invariant.laid v all before) (c.put.ensures.lays v (all_first v _ _ all) told) (c.in_ok-put.ensures.laid v (all_first v _ _ all) told)));
       low = omega arith;
       high = omega arith;
     }

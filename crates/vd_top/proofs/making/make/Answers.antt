@@ -1,7 +1,7 @@
-use Rattle.std.proofs.Common.{ℕ, ◌≡◌, ◌<◌, ◌≤◌, length, ap, sym, ◌∙◌, subst, arith}
+use Rattle.std.proofs.Common.{◌≡◌, length, ap, ◌∙◌, subst, arith}
 use Rattle.vd_report.specs.declared.line.Line.TheVariants.{NoMemory, TooSmall, StoreFault, Made}
 use Rattle.vd_top.specs.Outcomes.{Says}
-use Rattle.vd_top.specs.Making.{MakingEnds, Too_few, Lacks_memory, Write_failed, Is_made}
+use Rattle.vd_top.specs.Making.{Too_few, Lacks_memory, Write_failed, Is_made}
 use Rattle.vd_report.specs.declared.line.Line.{Line}
 use Rattle.vd_format.specs.Layouts.{need_of}
 use Rattle.vd_image.specs.Made.{zero_sector}
@@ -18,9 +18,11 @@ returns-then-have-need-clause-answer g c =
     let need = c.layout_of-need.ensures.need in
     let have = c.sectors_to_write-have.ensures.value in
     let small = c.if-have-need.true in
-    let line : TooSmall c.layout_of-need.result.need c.sectors_to_write-have.result ≡ TooSmall (need_of c.args.header.now) (g.S.Store.sectors c.args.store.now) = cc in
-    (Says (TooSmall (need_of c.args.header.now) (g.S.Store.sectors c.args.store.now)), Too_few (omega (arith, need, have, small)),
-    subst (λ (l : Line). Ends (Says l) c.say.result (g.O.Sink.faults c.args.out.now) (g.O.Sink.faults c.say.new.out) (g.O.Sink.tells c.say.new.out) (g.O.Sink.written c.args.out.now) (g.O.Sink.written c.say.new.out)) line c.say.ensures.ends)
+    let line : TooSmall c.layout_of-need.result.need c.sectors_to_write-have.result ≡ TooSmall (need_of c.args.header.now) (g.S.Store.sectors c.args.store.now) = cc in (
+      Says (TooSmall (need_of c.args.header.now) (g.S.Store.sectors c.args.store.now)),
+      Too_few (omega (arith, need, have, small)),
+      subst (λ (l : Line). Ends (Says l) c.say.result (g.O.Sink.faults c.args.out.now) (g.O.Sink.faults c.say.new.out) (g.O.Sink.tells c.say.new.out) (g.O.Sink.written c.args.out.now) (g.O.Sink.written c.say.new.out)) line c.say.ensures.ends,
+    )
 
 pub returns-in_default-clause-safe : goal.returns-in_default-clause-safe
 returns-in_default-clause-safe g c told recorded = nothing_safe _ _
@@ -58,9 +60,11 @@ pub returns-in-Ok-write_image-clause-answer : goal.returns-in-Ok-write_image-cla
 returns-in-Ok-write_image-clause-answer g c =
     let need = c.layout_of-need.ensures.need in
     let have = c.sectors_to_write-have.ensures.value in
-    let large = c.if-have-need.false in
-    (Says (Made (need_of c.args.header.now)), Is_made (omega (arith, need, have, large)),
-    subst (λ (l : Line). Ends (Says l) c.say-in-Ok-write_image.result (g.O.Sink.faults c.args.out.now) (g.O.Sink.faults c.say-in-Ok-write_image.new.out) (g.O.Sink.tells c.say-in-Ok-write_image.new.out) (g.O.Sink.written c.args.out.now) (g.O.Sink.written c.say-in-Ok-write_image.new.out)) (ap Made need) c.say-in-Ok-write_image.ensures.ends)
+    let large = c.if-have-need.false in (
+      Says (Made (need_of c.args.header.now)),
+      Is_made (omega (arith, need, have, large)),
+      subst (λ (l : Line). Ends (Says l) c.say-in-Ok-write_image.result (g.O.Sink.faults c.args.out.now) (g.O.Sink.faults c.say-in-Ok-write_image.new.out) (g.O.Sink.tells c.say-in-Ok-write_image.new.out) (g.O.Sink.written c.args.out.now) (g.O.Sink.written c.say-in-Ok-write_image.new.out)) (ap Made need) c.say-in-Ok-write_image.ensures.ends,
+    )
 
 pub returns-clause-safe : goal.returns-clause-safe
 returns-clause-safe g c told recorded =

@@ -1,7 +1,7 @@
-use Rattle.std.proofs.Common.{ℕ, ◌≡◌, Ok, Err, subst, ◌∷◌, []}
+use Rattle.std.proofs.Common.{ℕ, Ok, Err, subst}
 use Rattle.vd_format.specs.Layouts.{storage_start}
 use Rattle.vd_image.specs.Made.{zero_sector, header_sector}
-use Rattle.vd_top.specs.Putting.{AreAll, Keeps}
+use Rattle.vd_top.specs.Putting.{Keeps}
 use Rattle.vd_top.proofs.StoryLaws.{story_begun, story_blanked, story_headed, written_whole, all_one, header_is}
 use Rattle.vd_top.proofs.making.write_image.Goals as goal
 
@@ -27,8 +27,9 @@ returns-clause-story g c told =
 pub returns-clause-written : goal.returns-clause-written
 returns-clause-written g c =
     written_whole (header_sector c.args.header.now) zero_sector (storage_start c.args.header.now) c.fill-3.result _ _
-    (λ told. (let second = c.fill-3.ensures.leaves.told_before told in
-        (g.S.Store.disk c.fill.new.store,
-        subst (λ (end : ℕ). Keeps (Ok tt) zero_sector 1 end (g.S.Store.disk c.fill.new.store) (g.S.Store.disk c.fill-2.new.store)) c.layout_of.ensures.storage
-        (c.in_ok-fill-2.ensures.keeps zero_sector c.requires.zeros.0 second))))
+    (λ told. (let second = c.fill-3.ensures.leaves.told_before told in (
+      g.S.Store.disk c.fill.new.store,
+      subst (λ (end : ℕ). Keeps (Ok tt) zero_sector 1 end (g.S.Store.disk c.fill.new.store) (g.S.Store.disk c.fill-2.new.store)) c.layout_of.ensures.storage
+          (c.in_ok-fill-2.ensures.keeps zero_sector c.requires.zeros.0 second),
+    )))
     (λ told. c.fill-3.ensures.keeps (header_sector c.args.header.now) (all_one _ _ (header_is _ _ c.write_header.ensures.spelled)) told)
