@@ -21,28 +21,50 @@ lowest_is_some low from at h none = not_both low at (none at h.reached (slice_ge
 pub none_left : (low : List Bool) (from : ℕ) → length low ≤ 64 → NoneInWord low from → NoneFrom low from
 none_left low from few none i h inside = none i h (omega arith) inside
 
-module _ (low high : List Bool) (from : ℕ) (s : Summarizes low high) (none : NoneInWord low from) where
+module _ (low high : List Bool) (s : Summarizes low high) where
   -- what stands in a word without members is not marked
-  by_word : (i : ℕ) → i < length low → (slice_get high (i / 64) ≡ Some false) → slice_get low i ≡ Some false
+  by_word : (i : ℕ) → i < length low → slice_get high (i / 64) ≡ Some false → slice_get low i ≡ Some false
   by_word i inside f = unmarked low i inside (λ m. not_both high (i / 64) f (s.up i m))
 
+  word_has_one : (word : ℕ) → slice_get high word ≡ Some true → NoneInWord low (word * 64) → ⊥
+  word_has_one word up empty =
+      let w = s.down word up in
+      not_both low w.0 (empty w.0 (omega (arith, w.1)) (omega (arith, w.1)) (slice_get_within low w.0 true w.2)) w.2
+
+  pub none_at_all : NoneFrom high 0 → NoneFrom low 0
+  none_at_all empty i h inside = by_word i inside (empty (i / 64) (omega arith) (omega (arith, s.enough)))
+
+  module _ (word : ℕ) (lowest : IsLowest high 0 word) where
+    lowest_of_all : (at : ℕ) → IsLowest low (word * 64) at → IsLowest low 0 at
+    lowest_of_all at there = record {
+      is_marked = there.is_marked;
+      reached = omega arith;
+      below = λ i h k.
+          let inside : i < length low = omega (arith, slice_get_within low at true there.is_marked) in
+          ⊎_elim
+          (λ (l : i / 64 < word). by_word i inside (lowest.below (i / 64) (omega arith) l))
+          (λ (g : word ≤ i / 64). there.below i (omega arith) k)
+          (cases_lt (i / 64) word);
+    }
+
+    -- what the search in the lowest word that has a member answers
+    pub first_lowest : (o : Option ℕ) → IfSome o (IsLowest low (word * 64)) → IfSome o (IsLowest low 0)
+    first_lowest None found = found
+    first_lowest (Some at) found = lowest_of_all at found
+
+    pub first_none : (o : Option ℕ) → IfNone o (NoneInWord low (word * 64)) → IfSome o (IsLowest low (word * 64)) → IsNone o ↔ NoneFrom low 0
+    first_none None left found = absurd (word_has_one word lowest.is_marked left)
+    first_none (Some at) left found = (λ e. absurd (true≢false e), λ empty. absurd (lowest_is_some low 0 at (lowest_of_all at found) empty))
+
+module _ (low high : List Bool) (from : ℕ) (s : Summarizes low high) (none : NoneInWord low from) where
   pub none_above : NoneFrom high (from / 64 + 1) → NoneFrom low from
   none_above empty i h inside =
       ⊎_elim
       (λ (e : i / 64 ≡ from / 64). none i h e inside)
-      (λ (ne : i / 64 ≢ from / 64). by_word i inside (empty (i / 64) (omega arith) (omega (arith, s.enough))))
+      (λ (ne : i / 64 ≢ from / 64). by_word low high s i inside (empty (i / 64) (omega arith) (omega (arith, s.enough))))
       (cases_eq (i / 64) (from / 64))
 
   module _ (word : ℕ) (lowest : IsLowest high (from / 64 + 1) word) where
-    pub word_inside : word * 64 < length low
-    word_inside = omega (arith, s.needed, slice_get_within high word true lowest.is_marked)
-
-    -- that word has a member
-    pub word_has_one : NoneInWord low (word * 64) → ⊥
-    word_has_one empty =
-        let w = s.down word lowest.is_marked in
-        not_both low w.0 (empty w.0 (omega (arith, w.1)) (omega (arith, w.1)) (slice_get_within low w.0 true w.2)) w.2
-
     pub lowest_below : (at : ℕ) → IsLowest low (word * 64) at → at / 64 ≡ word * 64 / 64 → IsLowest low from at
     lowest_below at there same = record {
       is_marked = there.is_marked;
@@ -53,7 +75,7 @@ module _ (low high : List Bool) (from : ℕ) (s : Summarizes low high) (none : N
           (λ (e : i / 64 ≡ from / 64). none i h e inside)
           (λ (ne : i / 64 ≢ from / 64).
           ⊎_elim
-          (λ (l : i / 64 < word). by_word i inside (lowest.below (i / 64) (omega arith) l))
+          (λ (l : i / 64 < word). by_word low high s i inside (lowest.below (i / 64) (omega arith) l))
           (λ (g : word ≤ i / 64). there.below i (omega arith) k)
           (cases_lt (i / 64) word))
           (cases_eq (i / 64) (from / 64));
@@ -65,7 +87,7 @@ module _ (low high : List Bool) (from : ℕ) (s : Summarizes low high) (none : N
     searched_lowest (Some at) found same = lowest_below at found same
 
     pub searched_none : (o : Option ℕ) → IfNone o (NoneInWord low (word * 64)) → IfSome o (IsLowest low from) → IsNone o ↔ NoneFrom low from
-    searched_none None left found = absurd (word_has_one left)
+    searched_none None left found = absurd (word_has_one low high s word lowest.is_marked left)
     searched_none (Some at) left found = (λ e. absurd (true≢false e), λ empty. absurd (lowest_is_some low from at found empty))
 
 none_of : (o : Option ℕ) (P : Type 0) → is_some o ≡ false → IfNone o P → P

@@ -119,7 +119,11 @@ impl Marked {
         ensures lowest { IfSome result (IsLowest self.now 0) }
         ensures none { IsNone result ↔ NoneFrom self.now 0 }
     {
-        self.first_from(0)
+        let Above::Words(words) = &self.above else {
+            return self.flags.lowest_from(0);
+        };
+        let word = words.first()?;
+        self.flags.lowest_from(word * 64)
     }
 
     /// The lowest marked number from `from` on, None where none from there on is marked.
