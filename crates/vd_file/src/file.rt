@@ -2,6 +2,7 @@
 
 ghost use Rattle.std.specs.Prelude.{◌≡◌, ◌≤◌, ◌<◌, ◌^◌, length, vec_len, OnErr, IfOk, Some};
 
+use crate::bytes::arrays_of;
 use std::fs::{File, OpenOptions};
 use std::os::unix::fs::FileExt;
 use std::rt::Files;
@@ -105,17 +106,11 @@ impl SectorFile {
         gather(&self.file, first * SECTOR, self.room.as_mut_slice(), out)
     }
 
-    pub fn write(&mut self, first: u64, content: &[Sector]) -> io::Result<()>
-        requires place { first < 2 ^ 55 }
-        requires few { length content.now ≤ 2048 }
-        ensures sectors { self.new.sectors ≡ self.old.sectors }
+    pub fn write(&self, first: u64, content: &[Sector]) -> io::Result<()>
+        requires { first < 2 ^ 55 }
     {
-        scatter(
-            &self.file,
-            first * SECTOR,
-            self.room.as_mut_slice(),
-            content,
-        )
+        let bytes = arrays_of(content).as_flattened();
+        self.file.write_all_at(bytes, first * SECTOR)
     }
 
     pub fn sync(&self) -> io::Result<()> {
@@ -139,14 +134,4 @@ fn gather(file: &File, at: u64, room: &mut [[u8; 512]], out: &mut [Sector]) -> i
         sector.bytes = *bytes;
     }
     Ok(())
-}
-
-fn scatter(file: &File, at: u64, room: &mut [[u8; 512]], content: &[Sector]) -> io::Result<()>
-    requires { length content.now ≤ length room.old }
-{
-    let room = &mut room[..content.len()];
-    for (bytes, sector) in room.iter_mut().zip(content) {
-        *bytes = sector.bytes;
-    }
-    file.write_all_at(room.as_flattened(), at)
 }

@@ -2,6 +2,7 @@
 #![tactic(auto)]
 
 mod base;
+mod bytes;
 mod file;
 mod store;
 #[cfg(test)]

@@ -110,11 +110,10 @@ impl FileStore {
         Ticket::new(self.last, kind, first, count, mark)
     }
 
-    fn write(&mut self, first: u64, content: &[Sector]) -> bool
-        requires { IsRange self.old.sectors first (length content.now) }
-        ensures { self.new ≡ self.old }
+    fn write(&self, first: u64, content: &[Sector]) -> bool
+        requires { IsRange self.now.sectors first (length content.now) }
     {
-        match &mut self.file {
+        match &self.file {
             Some(file) => file.write(first, content).is_ok(),
             None => false,
         }
