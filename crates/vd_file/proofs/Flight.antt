@@ -1,8 +1,8 @@
 -- Tickets that come and go.
-use Rattle.std.proofs.Common.{ℕ, zero, suc, ◌≡◌, ◌+◌, ◌<◌, ◌≤◌, List, [], ◌∷◌, ◌++◌, length, refl, sym, ap, ◌∙◌, subst, arith, length-append}
+use Rattle.std.proofs.Common.{◌≡◌, ◌+◌, ◌<◌, List, [], ◌∷◌, ◌++◌, length, refl, arith, length-append}
 use Rattle.std.specs.List.{AllByRecursion}
 use Rattle.vd_device.specs.declared.ticket.Ticket.{Ticket}
-use Rattle.vd_device.specs.Tickets.{HasAmong, Puts, Takes, IsInFlight}
+use Rattle.vd_device.specs.Tickets.{Puts, Takes, IsInFlight}
 use Rattle.std.specs.Prelude.{Bool, true, false, IsFalse, if◌then◌else◌}
 use Rattle.vd_law.specs.declared.entry.Sector.{Sector}
 use Rattle.vd_device.specs.declared.settled.Waited.{Waited}
@@ -43,3 +43,7 @@ pub settles : (is_done : Bool) (answer : Waited) (t : Ticket) (out out' : List S
     → answer ≡ (if is_done then Done else Failed t.number) → (IsFalse is_done → out' ≡ out) → Takes t old new → Settles (settled_of answer) t out out' old new
 settles true answer t out out' old new e unread takes = rw e takes
 settles false answer t out out' old new e unread takes = rw e (refl, unread refl, takes)
+
+-- whether a flush failed is nothing to the tickets
+pub takes_on : (s s' : Standing) (unsure : Bool) (t : Ticket) → Takes t (AreFlying (record s { unsure = unsure })) (AreFlying s') → Takes t (AreFlying s) (AreFlying s')
+takes_on s s' unsure t takes others all among flying = takes others all among (record { many = flying.many; inside = flying.inside })

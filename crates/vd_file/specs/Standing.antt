@@ -1,5 +1,5 @@
 -- What is seen of a device over a file: its numbers, and nothing of what its sectors hold.
-use Rattle.std.specs.Prelude.{ℕ, ◌≡◌, List, length}
+use Rattle.std.specs.Prelude.{ℕ, ◌≡◌, Bool, false, List, length}
 use Rattle.std.specs.List.{AllByRecursion}
 use Rattle.vd_device.specs.declared.ticket.Ticket.{Ticket}
 use Rattle.vd_device.specs.declared.ticket.Kind.TheVariants.{Read}
@@ -13,10 +13,12 @@ pub record Standing : Type 0 where
   pub last : ℕ
   pub faults : ℕ
   pub events : ℕ
+  -- a flush failed
+  pub unsure : Bool
 
 -- a device of so many sectors that was not used yet
 abbrev pub unused : ℕ → Standing
-unused sectors = record { sectors = sectors; flying = 0; last = 0; faults = 0; events = 0 }
+unused sectors = record { sectors = sectors; flying = 0; last = 0; faults = 0; events = 0; unsure = false }
 
 -- what the ticket reads lies in a device of so many sectors
 abbrev pub ReadsInside : ℕ → Ticket → Type 0

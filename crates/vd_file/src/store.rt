@@ -1,8 +1,8 @@
 //! A store over a file.
 
-ghost use Rattle.std.specs.Prelude.{◌≡◌, ◌+◌, ◌-◌, ◌*◌, ◌^◌, ◌<◌, ◌≤◌, ℕ, [], length, Some, IfOk, IsFalse, if◌then◌else◌};
+ghost use Rattle.std.specs.Prelude.{◌≡◌, ◌+◌, ◌-◌, ◌*◌, ◌^◌, ◌<◌, ◌≤◌, ℕ, [], length, Some, IfOk, IsTrue, IsFalse, true, not, if◌then◌else◌};
 ghost use Rattle.vd_device.specs.Tickets.{IsRange, Puts, Takes, reads};
-ghost use Rattle.vd_device.specs.declared.ticket.Kind.TheVariants.{Read};
+ghost use Rattle.vd_device.specs.declared.ticket.Kind.TheVariants.{Read, Flush};
 ghost use Rattle.vd_device.specs.Calls.{next_number, Rose};
 ghost use Rattle.vd_device.specs.declared.settled.Waited.{Waited as AnyWaited};
 ghost use Rattle.vd_file.specs.Standing.{unused, ReadsInside, AreFlying};
@@ -41,7 +41,7 @@ impl Model for FileStore {
 
     ghost Value = { Standing };
 
-    ghost view = { λ s. record { sectors = s.sectors; flying = s.flying; last = s.last; faults = s.faults; events = s.events } };
+    ghost view = { λ s. record { sectors = s.sectors; flying = s.flying; last = s.last; faults = s.faults; events = s.events; unsure = s.unsure } };
 
     ghost invariant = { λ s. s.sectors < 2 ^ 55 };
 }
@@ -130,8 +130,11 @@ impl FileStore {
         }
     }
 
+    /// Once a flush failed, none is done.
     fn sync(&mut self) -> bool
-        ensures { self.new ≡ self.old }
+        ensures done { result ≡ not self.new.unsure }
+        ensures kept { IsTrue self.old.unsure → self.new.unsure ≡ true }
+        ensures after { self.new ≡ record self.old { unsure = self.new.unsure } }
     {
         let synced = match &self.file {
             Some(file) => file.sync().is_ok(),
@@ -146,7 +149,9 @@ impl FileStore {
         requires inside { ReadsInside self.old.sectors ticket.now }
         requires room { length out.old ≡ reads ticket.now }
         ensures unread { IsFalse result → out.new ≡ out.old }
-        ensures after { self.new ≡ self.old }
+        ensures flushed { ticket.now.kind ≡ Flush → result ≡ not self.new.unsure }
+        ensures kept { IsTrue self.old.unsure → self.new.unsure ≡ true }
+        ensures after { self.new ≡ record self.old { unsure = self.new.unsure } }
     {
         match ticket.kind() {
             Kind::Read => self.read(ticket.first(), out),

@@ -1,11 +1,11 @@
 -- `arrays_of` shares the bytes of the sectors, each at the place of its sector.
-use Rattle.std.proofs.Common.{◌≡◌, ℕ, ◌+◌, ◌*◌, ◌<◌, ◌^◌, List, [], ◌∷◌, length, map, refl, sym, subst, arith, add-zero}
+use Rattle.std.proofs.Common.{◌≡◌, ℕ, ◌+◌, ◌*◌, ◌<◌, ◌^◌, List, [], ◌∷◌, length, map, refl, sym, subst, add-zero}
 use Rattle.std.proofs.lemmas.List.{length-map}
 use Rattle.std.proofs.raw_atomic.Walks.{proved}
 use seplogic.Ra.Ura.{Ura}
 use base.Logic.{ent}
 use base.Fml.{Lft, flft, ftrue}
-use mir.Syntax.{named, w64}
+use mir.Syntax.{named}
 use mir.Val.{Val}
 use types.Logic.{Logic, sem}
 use contract.Running.{tables}
@@ -16,10 +16,9 @@ use types.ByLocal.{alloc_all, pass_all, free_all, look_at, look_in_at, get, get_
 use denote.Array.{Array}
 use denote.Builtin.{u8}
 use denote.Exit.{yes}
-use denote.Memory.{each_shared, shared_of, mem}
+use denote.Memory.{each_shared, shared_of}
 use denote.Opens.{unhide, hide}
 use denote.RattleType.{RattleType}
-use denote.Ref.{Bor}
 use denote.Signature.{plain, shr_slice_of}
 use denote.Slice.{ShrSlice, slice_val, shr_slice_vals, shr_slice_Tells}
 use denote.Steps.{nothing}

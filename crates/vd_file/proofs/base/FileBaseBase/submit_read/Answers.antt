@@ -1,4 +1,3 @@
-use Rattle.std.proofs.Common.{◌≡◌}
 use Rattle.vd_file.proofs.base.FileBaseBase.submit_read.Goals as goal
 
 pub returns-clause-flight : goal.returns-clause-flight

@@ -1,4 +1,4 @@
-use Rattle.std.proofs.Common.{◌≡◌, ◌+◌, ◌-◌, ◌<◌, ap, sym, arith, refl}
+use Rattle.std.proofs.Common.{ap, arith}
 use Rattle.vd_file.proofs.Flight.{taken}
 use Rattle.vd_file.proofs.store.FileStore.end.Goals as goal
 

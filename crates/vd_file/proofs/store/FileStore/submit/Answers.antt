@@ -1,4 +1,4 @@
-use Rattle.std.proofs.Common.{◌≡◌, ◌+◌, ◌-◌, ◌<◌, ap, sym, arith, refl, ◌∙◌}
+use Rattle.std.proofs.Common.{ap, sym, arith, ◌∙◌}
 use Rattle.vd_file.proofs.Flight.{put}
 use Rattle.vd_file.proofs.store.FileStore.submit.Goals as goal
 
