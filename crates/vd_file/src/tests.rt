@@ -59,7 +59,10 @@ fn a_store_keeps_what_is_written(rt: HostRuntime) -> Result<(), Fail> {
     let Ok(mut store) = FileStore::at(&rt, path, Some(2050)) else {
         panic!(rt; "not made");
     };
-    assert_eq!(rt; store.sectors(), 2050);
+    assert_eq!(rt;
+        (store.sectors(), fs::metadata(&rt, path)?.len()),
+        (2050, 2050 * 512)
+    );
     let content = [Sector::filled(0xaa), Sector::filled(0xbb)];
     assert_eq!(rt; write(&rt, &mut store, 2048, &content), Ok(()));
     assert_eq!(rt; write(&rt, &mut store, 0, &[Sector::filled(0x11)]), Ok(()));

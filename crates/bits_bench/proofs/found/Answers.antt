@@ -1,4 +1,3 @@
-use Rattle.std.proofs.Common.{◌≡◌}
 use Rattle.bits_bench.proofs.Single.{single_found, again}
 use Rattle.bits_bench.proofs.found.Goals as goal
 
