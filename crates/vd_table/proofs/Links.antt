@@ -105,6 +105,7 @@ module _ (storage owners : List (Option ℕ)) (free : List Bool) (l : IsLinked s
       unowned = new_unowned;
       all = rw length-set (omega (arith, l.all, count-set_false free p (omega (arith, l.each)) is_free, count-set_some storage chunk p none));
       few = rw length-set l.few;
+      short = rw length-set l.short;
     }
 
 get_none : (n i : ℕ) → i < n → slice_get (replicate {A = Option ℕ} n None) i ≡ Some None
@@ -114,8 +115,8 @@ not_some : (n i x : ℕ) → slice_get (replicate {A = Option ℕ} n None) i ≡
 not_some n i x h = none_some (sym (get_none n i (omega (arith, slice_get_within (replicate n None) i (Some x) h, length-replicate {A = Option ℕ} n None))) ∙ h)
 
 -- without any storage given
-pub empty-linked : (chunks storage : ℕ) → storage < 2 ^ 32 → IsLinked (replicate chunks None) (replicate storage None) (replicate storage true)
-empty-linked chunks storage few = record {
+pub empty-linked : (chunks storage : ℕ) → chunks < 2 ^ 32 → storage < 2 ^ 32 → IsLinked (replicate chunks None) (replicate storage None) (replicate storage true)
+empty-linked chunks storage short few = record {
   owner = λ chunk p h. absurd (not_some chunks chunk p h);
   owned = λ chunk p h. absurd (not_some storage p chunk h);
   each = rw (length-replicate, length-replicate) refl;
@@ -125,4 +126,5 @@ empty-linked chunks storage few = record {
   );
   all = omega (arith, count-full storage, sum_by-replicate (λ (o : Option ℕ). cond {A = ℕ} (is_some o) 1 0) chunks None, mul-zero chunks, length-replicate {A = Option ℕ} storage None);
   few = rw length-replicate few;
+  short = rw length-replicate short;
 }

@@ -23,7 +23,7 @@ pub struct Taken {
 /// Beside the storage chunk of each chunk it keeps the chunk of each storage chunk, and the set of the free ones.
 #[derive(Drop)]
 pub struct Table {
-    storage: Vec<Option<u32>>,
+    pub(crate) storage: Vec<Option<u32>>,
     owners: Vec<Option<u32>>,
     free: Marked,
 }

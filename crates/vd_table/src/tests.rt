@@ -1,6 +1,6 @@
-//! A table of four chunks and three storage chunks, and the largest one.
+//! Tables of a few chunks, and the largest one.
 
-ghost use Rattle.std.specs.Prelude.{◌≡◌, ◌<◌, length};
+ghost use Rattle.std.specs.Prelude.{◌≡◌, ◌+◌, ◌<◌, ◌≤◌, length};
 
 use crate::table::{Full, Table, Taken};
 use std::alloc::Global;
@@ -72,6 +72,52 @@ fn four_chunks_on_three(rt: HostRuntime) -> Result<(), Fail> {
             take(&mut table, 1)
         ),
         (Ok(()), Some(Ok(0)), Some(Ok(2)))
+    );
+    Ok(())
+}
+
+// What the run lacked, as an error where that is more than is free.
+fn take_run(table: &mut Table, from: u32, count: u32) -> Result<u32, u32>
+    requires { from + count ≤ length table.old.chunks }
+    ensures chunks { length table.new.chunks ≡ length table.old.chunks }
+    ensures storage { table.new.storage ≡ table.old.storage }
+{
+    let lacking = table.lacking(from, count);
+    if lacking > table.free() {
+        return Err(lacking);
+    }
+    table.take_run(from, count);
+    Ok(lacking)
+}
+
+#[test]
+fn runs_of_five_chunks_on_four(rt: HostRuntime) -> Result<(), Fail> {
+    let mut table = Table::new(rt.alloc(), 5, 4)?;
+    assert_eq!(rt; set(&mut table, 1, 0), Ok(()));
+    let lacking = [
+        take_run(&mut table, 0, 3),
+        take_run(&mut table, 0, 3),
+        take_run(&mut table, 3, 2),
+        take_run(&mut table, 2, 2),
+        take_run(&mut table, 5, 0),
+        take_run(&mut table, 0, 5),
+    ];
+    assert_eq!(rt; lacking, [Ok(2), Ok(0), Err(2), Ok(1), Ok(0), Err(1)]);
+    assert_eq!(rt;
+        [
+            table.get(0),
+            table.get(1),
+            table.get(2),
+            table.get(3),
+            table.get(4)
+        ],
+        [Some(1), Some(0), Some(2), Some(3), None]
+    );
+    table.reset();
+    assert_eq!(rt; take_run(&mut table, 1, 4), Ok(4));
+    assert_eq!(rt;
+        (table.get(0), table.get(1), table.get(4), table.free()),
+        (None, Some(0), Some(3), 0)
     );
     Ok(())
 }

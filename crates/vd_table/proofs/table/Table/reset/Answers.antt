@@ -7,4 +7,4 @@ invariant_of-self c =
     let t = c.self.inside in
     let e : c.fill.new.self.items ≡ replicate (length t.storage.items) None = search rules in
     let f : c.fill-2.new.self.items ≡ replicate (length t.owners.items) None = search rules in
-    rw (e, f, c.mark_all.ensures, c.self.invariant.each) (empty-linked (length t.storage.items) (length t.owners.items) c.self.invariant.few)
+    rw (e, f, c.mark_all.ensures, c.self.invariant.each) (empty-linked (length t.storage.items) (length t.owners.items) c.self.invariant.short c.self.invariant.few)

@@ -1,0 +1,12 @@
+pub mod Asking
+pub mod Devices
+pub mod Ending
+pub mod Entering
+pub mod Fetching
+pub mod Issuing
+pub mod Looking
+pub mod Opening
+pub mod Replying
+pub mod Seeing
+pub mod Settling
+pub mod Standing

@@ -1,0 +1,99 @@
+-- Entering a block keeps a core.
+use Rattle.std.proofs.Common.{◌≡◌, ℕ, ◌+◌, ◌*◌, ◌<◌, ◌≤◌, Bool, List, [], ◌∷◌, zero, suc, map, refl, sym, ◌∙◌, ap, subst, inl, inr, arith, Option, Some, None, slice_get}
+use Rattle.std.specs.Prelude.{if◌then◌else◌, Result, Ok, Err, IfErr, OnOk}
+use Rattle.std.proofs.Math.Nat.{mul-le-mul_left}
+use Rattle.std.proofs.lemmas.Bool.{cases_lt}
+use Rattle.vd_law.specs.declared.entry.Room.{Room}
+use Rattle.vd_law.specs.Histories.{Numbered}
+use Rattle.vd_device.specs.declared.ticket.Ticket.{Ticket}
+use Rattle.vd_device.specs.Disks.{Disk}
+use Rattle.vd_law.specs.declared.entry.Sector.{Sector}
+use Rattle.vd_regions.specs.declared.regions.Region.{Region}
+use Rattle.vd_regions.specs.declared.regions.Busy.{Busy}
+use Rattle.vd_table.specs.Tables.{Given}
+use Rattle.vd_passes.specs.declared.shape.Shape.{Shape}
+use Rattle.vd_passes.specs.declared.pass.Pass.{Pass}
+use Rattle.vd_passes.specs.declared.pass.Phase.TheVariants.{Asked as HasAsked}
+use Rattle.vd_passes.specs.Passes.{has_region, region_of}
+use Rattle.vd_passes.specs.Steps.{IsAt}
+use Rattle.vd_passes.proofs.Lists.{some-inj}
+use Rattle.vd_passes.proofs.Needing.{is_before_event, room-entered}
+use Rattle.vd_passes.proofs.Holding.{region_on}
+use Rattle.vd_passes.proofs.Entering.{enters-coherent, enters-faithful, enters-regions}
+use Rattle.vd_core.specs.Entering.{CanEnter, EntersBlock, IsKeptOut}
+use Rattle.vd_core.specs.Kept.{IsKept, IsTold}
+use Rattle.vd_core.proofs.Rooming.{room-same}
+
+below-blocks : (block b blocks s : ℕ) → block * b ≤ s → s < block * blocks → b < blocks
+below-blocks block b blocks s from to = elim (cases_lt b blocks) [
+  | inl less ↦ less
+  | inr more ↦ absurd (let h : block * blocks ≤ block * b = mul-le-mul_left block more in omega arith)
+]
+
+-- a pass with no region holds nothing
+map-there : (passes : List Pass) (i : ℕ) (p : Pass) → slice_get passes i ≡ Some p → slice_get (map region_of passes) i ≡ Some (region_of p)
+map-there [] i p there = cc
+map-there (q ∷ qs) zero p there = ap (λ (x : Pass). Some (region_of x)) (some-inj there)
+map-there (q ∷ qs) (suc i) p there = map-there qs i p there
+
+none-held : (p : Pass) → p.phase ≡ HasAsked → region_of p ≡ None
+none-held p is = ap (λ ph. if has_region ph then Some (region_on p.block p.write) else None) is
+
+module _ {shape : Shape} {table : Given} {fresh : List Bool} {regions : List (Option Region)} {passes : List Pass} {history : Numbered} {spare : Room} {sectors depth events base_sectors base_depth : ℕ} {flies base_flies : List Ticket → Type 0}
+    (kept : IsKept shape table fresh regions passes history spare sectors depth events base_sectors base_depth flies base_flies) (i : ℕ) (at : IsAt passes i (λ p. p.phase ≡ HasAsked)) where
+  pub can-enter : IsAt passes i (CanEnter shape table.chunks)
+  can-enter =
+      let p = at.0 in let co = kept.coherent in let stands = co.each i p at.1 in let is = at.2 in
+      let range = stands.range (λ e. absurd (cc)) in let left = stands.left is in (
+        p,
+        at.1,
+        record {
+          some = co.shaped.some;
+          small = co.shaped.small;
+          chunk = co.shaped.some_blocks;
+          left = left;
+          fits = let r = range.0 in let s = co.shaped.size in omega (arith, r, s);
+          few = kept.storage.few;
+          inside = λ b from. kept.storage.chunks b (below-blocks shape.block b shape.blocks (p.first + p.done) from (let r = range.0 in omega (arith, r, left)));
+          places = λ b x placed. let h = (co.placed.inside b x placed).1 in let n = co.shaped.bounded in omega (arith, h, n);
+        },
+      )
+
+  pub holds-nothing : slice_get regions i ≡ Some None
+  holds-nothing = ap (λ (rs : List (Option Region)). slice_get rs i) kept.held ∙ map-there passes i at.0 at.1 ∙ ap Some (none-held at.0 at.2)
+
+  module _ {regions' : List (Option Region)} {passes' : List Pass} where
+    entered-kept : EntersBlock shape table.chunks regions regions' i passes passes' → IsKept shape table fresh regions' passes' history spare sectors depth events base_sectors base_depth flies base_flies
+    entered-kept step =
+        let e = step.enters in let p = e.pass in let is = ap (λ (x : Pass). x.phase) (some-inj (sym e.there ∙ at.1)) ∙ at.2 in
+        record {
+          coherent = enters-coherent kept.coherent at e regions kept.held step.free;
+          held = step.regions_after ∙ sym (enters-regions kept.coherent at e regions kept.held step.free);
+          roomy = room-same kept.roomy i events e.there e.after (room-entered (kept.roomy.reserved i p e.there) (ap is_before_event is) e.block e.piece e.at) refl refl refl (omega arith);
+          storage = kept.storage;
+        }
+
+    kept-out-kept : (by : ℕ) → IsKeptOut shape regions regions' i passes passes' by → IsKept shape table fresh regions' passes' history spare sectors depth events base_sectors base_depth flies base_flies
+    kept-out-kept by out = rw (out.regions_same, out.passes_same) kept
+
+    pub enter-kept : (result : Result Unit Busy) → IfErr result (λ busy. IsKeptOut shape regions regions' i passes passes' busy.by) → OnOk result (EntersBlock shape table.chunks regions regions' i passes passes')
+        → IsKept shape table fresh regions' passes' history spare sectors depth events base_sectors base_depth flies base_flies
+    enter-kept (Ok v) busy enters = entered-kept enters
+    enter-kept (Err busy) out enters = kept-out-kept busy.by out
+
+  module _ {passes' : List Pass} {tells base_tells : Type 0} {disk : Disk} {last : ℕ} {base : List Sector} (was : tells → base_tells → IsTold shape table fresh passes history disk last base base_sectors) (regions' : List (Option Region)) where
+    entered-told : EntersBlock shape table.chunks regions regions' i passes passes' → tells → base_tells → IsTold shape table fresh passes' history disk last base base_sectors
+    entered-told step told base_told =
+        let before = was told base_told in
+        record { base_size = before.base_size; faithful = enters-faithful kept.coherent at step.enters regions kept.held step.free before.faithful }
+
+    pub enter-told : (result : Result Unit Busy) → IfErr result (λ busy. IsKeptOut shape regions regions' i passes passes' busy.by) → OnOk result (EntersBlock shape table.chunks regions regions' i passes passes')
+        → tells → base_tells → IsTold shape table fresh passes' history disk last base base_sectors
+    enter-told (Ok v) busy enters told base_told = entered-told enters told base_told
+    enter-told (Err busy) out enters told base_told = rw out.passes_same (was told base_told)
+
+-- the regions are those of the passes, before and after
+pub enters-mapped : (shape : Shape) (chunks : List (Option ℕ)) {regions regions' : List (Option Region)} (i : ℕ) (passes passes' : List Pass) (result : Result Unit Busy) → regions ≡ map region_of passes → regions' ≡ map region_of passes'
+    → OnOk result (EntersBlock shape chunks regions regions' i passes passes') → OnOk result (EntersBlock shape chunks (map region_of passes) (map region_of passes') i passes passes')
+enters-mapped shape chunks {regions} {regions'} i passes passes' result held held' enters =
+    subst (λ rs. OnOk result (EntersBlock shape chunks rs (map region_of passes') i passes passes')) held (subst (λ rs. OnOk result (EntersBlock shape chunks regions rs i passes passes')) held' enters)

@@ -1,0 +1,92 @@
+-- Issuing a piece keeps a core.
+use Rattle.std.proofs.Common.{◌≡◌, ℕ, ◌<◌, ◌≤◌, ◌⊎◌, Bool, true, List, [], ◌∷◌, refl, sym, ◌∙◌, ap, subst, inl, inr, arith, Option}
+use Rattle.vd_law.specs.declared.entry.Sector.{Sector}
+use Rattle.vd_law.specs.declared.entry.Room.{Room}
+use Rattle.vd_law.specs.Histories.{Numbered}
+use Rattle.vd_device.specs.declared.ticket.Ticket.{Ticket}
+use Rattle.vd_device.specs.Disks.{Disk}
+use Rattle.vd_regions.specs.declared.regions.Region.{Region}
+use Rattle.vd_table.specs.Tables.{Given}
+use Rattle.vd_passes.specs.declared.shape.Shape.{Shape}
+use Rattle.vd_passes.specs.declared.pass.Pass.{Pass}
+use Rattle.vd_passes.specs.declared.pass.Phase.TheVariants.{Held, Filled}
+use Rattle.vd_passes.specs.Needs.{sectors_left, pieces_left, events_needed, sectors_needed, HasRoom}
+use Rattle.vd_passes.specs.Steps.{IsAt, HasAskedWrite, Issues}
+use Rattle.vd_passes.proofs.Lists.{some-inj}
+use Rattle.vd_passes.proofs.Needing.{is_before_event, room-issued}
+use Rattle.vd_passes.proofs.Ready.{IsHolding, holding-region, can-write-asked}
+use Rattle.vd_passes.proofs.Issuing.{issues-coherent, issues-faithful}
+use Rattle.vd_passes.proofs.Holding.{issues-regions}
+use Rattle.vd_core.specs.Adding.{Extends}
+use Rattle.vd_core.specs.Devices.{Stays}
+use Rattle.vd_core.specs.Issuing.{CanIssue, IsWritable}
+use Rattle.vd_core.specs.Kept.{IsKept, IsTold}
+use Rattle.vd_core.proofs.Rooming.{can-add, room-used}
+
+-- a pass whose piece can be issued holds its region
+pub writable-holding : {shape : Shape} {fresh : List Bool} {p : Pass} → IsWritable shape fresh p → IsHolding p
+writable-holding {shape} {fresh} {p} w = elim w.way [
+  | inl held ↦ inl held.0
+  | inr filled ↦ inr filled
+]
+
+pub holding-before : (p : Pass) → IsHolding p → is_before_event p.phase ≡ true
+holding-before p (inl held) = ap is_before_event held
+holding-before p (inr filled) = ap is_before_event filled
+
+pub writing-at : {shape : Shape} {fresh : List Bool} (passes : List Pass) (i : ℕ) → IsAt passes i (IsWritable shape fresh) → IsAt passes i (λ p. ((p.phase ≡ Held) ⊎ (p.phase ≡ Filled)) × (p.write ≡ true))
+writing-at {shape} {fresh} passes i at = (at.0, at.1, (writable-holding at.2, at.2.write))
+
+-- it needs one event at least, and the sectors that are left
+holding-events : (block : ℕ) (p : Pass) → HasRoom block p → IsHolding p → 0 < p.events
+holding-events block p room (inl held) = let a = room.events in let e = ap (λ ph. events_needed ph p.write (pieces_left block p)) held in omega arith
+holding-events block p room (inr filled) = let a = room.events in let e = ap (λ ph. events_needed ph p.write (pieces_left block p)) filled in omega arith
+
+holding-sectors : (block : ℕ) (p : Pass) → HasRoom block p → IsHolding p → sectors_left p ≤ p.sectors
+holding-sectors block p room (inl held) = let a = room.sectors in let e = ap (λ ph. sectors_needed ph (sectors_left p) p.piece) held in omega arith
+holding-sectors block p room (inr filled) = let a = room.sectors in let e = ap (λ ph. sectors_needed ph (sectors_left p) p.piece) filled in omega arith
+
+module _ {shape : Shape} {table : Given} {fresh : List Bool} {regions : List (Option Region)} {passes : List Pass} {history : Numbered} {spare : Room} {sectors depth events base_sectors base_depth : ℕ} {flies base_flies : List Ticket → Type 0}
+    (kept : IsKept shape table fresh regions passes history spare sectors depth events base_sectors base_depth flies base_flies)
+    (i : ℕ) (content : List Sector) (at : IsAt passes i (IsWritable shape fresh)) (asked : HasAskedWrite history.log.entries i content) where
+  -- what is reserved suffices for the Issue of the piece
+  pub can-issue : IsAt passes i (CanIssue shape fresh sectors depth flies content history events)
+  can-issue =
+      let can = can-write-asked kept.coherent i content asked (writing-at passes i at) in
+      let p = can.0 in let holding = subst (λ (x : Pass). IsHolding x) (some-inj (sym at.1 ∙ can.1)) (writable-holding at.2) in
+      let way = subst (λ (x : Pass). IsWritable shape fresh x) (some-inj (sym at.1 ∙ can.1)) at.2 in
+      let piece = can.2.0.piece in let room = kept.roomy.reserved i p can.1 in (
+        p,
+        can.1,
+        record {
+          writable = can.2.0;
+          inside = let n = piece.no_more in let l = can.2.1 in omega (arith, n, l);
+          way = way.way;
+          room = can-add kept.roomy i p can.1 p.piece (holding-events shape.block p room holding) (let n = piece.no_more in let l = holding-sectors shape.block p room holding in omega (arith, n, l));
+        },
+      )
+
+  module _ {passes' : List Pass} {history' : Numbered} {last last' : ℕ} {flies' : List Ticket → Type 0} {tells tells' : Type 0} {disk disk' : Disk}
+      (step : Issues shape fresh content i passes passes' history.log.entries history'.log.entries flies flies' tells tells' disk disk' last last') where
+    pub issue-kept : {sectors' depth' events' : ℕ} → IsAt passes i (λ p. Extends (events ∷ []) p.piece history history') → Stays sectors sectors' depth depth' events events'
+        → IsKept shape table fresh regions passes' history' spare sectors' depth' events' base_sectors base_depth flies' base_flies
+    issue-kept {sectors'} {depth'} {events'} extends stays =
+        let p = step.pass in let there = step.there in
+        let holding = subst (λ (x : Pass). IsHolding x) (some-inj (sym at.1 ∙ there)) (writable-holding at.2) in
+        let piece = (kept.coherent.each i p there).piece (holding-region p holding) in
+        let used = room-issued piece (kept.roomy.reserved i p there) (holding-before p holding) step.ticket step.buffer in
+        let more = subst (λ (x : Pass). Extends (events ∷ []) x.piece history history') (some-inj (sym extends.1 ∙ there)) extends.2 in
+        record {
+          coherent = rw (stays.sectors_same, stays.depth_same) (issues-coherent content kept.coherent (writing-at passes i at) asked step);
+          held = kept.held ∙ sym (issues-regions (at.0, at.1, holding-region at.0 (writable-holding at.2)) step);
+          roomy = room-used kept.roomy i events' there step.after more used.0 used.1 refl stays.events_rise;
+          storage = rw stays.sectors_same kept.storage;
+        }
+
+    pub issue-told : {base_tells : Type 0} {base : List Sector} → (tells → base_tells → IsTold shape table fresh passes history disk last base base_sectors)
+        → tells' → base_tells → IsTold shape table fresh passes' history' disk' last' base base_sectors
+    issue-told {base_tells} {base} was told base_told =
+        record {
+          base_size = (was (step.told_before told) base_told).base_size;
+          faithful = issues-faithful content kept.coherent (writing-at passes i at) asked step (λ before. (was before base_told).faithful) told;
+        }

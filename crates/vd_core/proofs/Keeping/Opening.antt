@@ -1,0 +1,242 @@
+-- A core as it is made keeps what its type keeps.
+use Rattle.std.proofs.Common.{◌≡◌, ℕ, suc, ◌+◌, ◌-◌, ◌*◌, ◌/◌, ◌^◌, ◌<◌, ◌≤◌, Bool, true, false, List, [], ◌∷◌, ◌++◌, length, map, replicate, refl, sym, ◌∙◌, ap, subst, inl, arith, Option, None, Some, slice_get}
+use Rattle.std.specs.List.{sum_by, Contains}
+use Rattle.std.proofs.Math.Nat.{div-add-mod, div-le_self, div-mul-le_self, le-div_iff_mul-le, add-div_right, mul_assoc}
+use Rattle.std.specs.List.{All}
+use Rattle.std.specs.Option.{option_to_list}
+use Rattle.std.proofs.lemmas.List.Elements.{All-head}
+use Rattle.std.proofs.lemmas.List.Sums.{sum_by-cons}
+use Rattle.std.proofs.lemmas.List.FromFn.{length-map-range_with_len}
+use Rattle.std.proofs.lemmas.List.{length-replicate}
+use Rattle.std.proofs.lemmas.Option.{slice_get_within}
+use Rattle.vd_law.specs.declared.entry.Sector.{Sector}
+use Rattle.vd_law.specs.declared.entry.Room.{Room}
+use Rattle.vd_law.specs.Entries.{past}
+use Rattle.vd_law.specs.Contents.{Open, open_writes}
+use Rattle.vd_device.specs.declared.ticket.Ticket.{Ticket}
+use Rattle.vd_device.specs.Disks.{Disk, AreWrites, IsOneOf}
+use Rattle.vd_format.specs.declared.header.Header.{Header}
+use Rattle.vd_format.specs.Headers.{IsValid}
+use Rattle.vd_format.specs.Layouts.{blocks_of, chunks_of, need_of}
+use Rattle.vd_format.proofs.Rules.{block_within, chunk_within, size_within}
+use Rattle.vd_reading.specs.Background.{zero_sector, background, background_run}
+use Rattle.vd_reading.proofs.BackgroundLaws.{slice_get_replicate, slice_get_run}
+use Rattle.vd_table.specs.Tables.{Given}
+use Rattle.vd_passes.specs.declared.shape.Shape.{Shape}
+use Rattle.vd_passes.specs.declared.pass.Pass.{Pass}
+use Rattle.vd_passes.specs.declared.pass.Phase.TheVariants.{Idle}
+use Rattle.vd_passes.specs.Tracks.{track, writes, content_by}
+use Rattle.vd_passes.specs.Standings.{Standing, standing}
+use Rattle.vd_passes.specs.Places.{IsShape, place_of}
+use Rattle.vd_passes.specs.Passes.{has_region, region_of, ticket_of, tickets_of, fetches_of, writes_in, IsNew, HasTicket, StandsAs}
+use Rattle.vd_passes.specs.Coherent.{IsCoherent}
+use Rattle.vd_regions.specs.declared.regions.Region.{Region}
+use Rattle.vd_passes.proofs.Tracks.{track-writes, is-one}
+use Rattle.vd_passes.proofs.Holding.{region-none}
+use Rattle.vd_passes.proofs.Standing.{standing-nothing}
+use Rattle.vd_passes.proofs.PlacesGiven.{place-from}
+use Rattle.vd_passes.proofs.Needing.{room-idle}
+use Rattle.vd_core.specs.Kept.{IsRoomy, IsStorage, IsKept, IsTold, start_of}
+use Rattle.vd_core.specs.Opening.{shape_of, AreNew, empty_history}
+
+-- The shape of a header's disk.
+
+whole : (h : Header) → IsValid h → h.block * blocks_of h ≡ h.size
+whole h valid = let parts = div-add-mod h.size h.block in let rest = valid.whole_blocks in omega arith
+
+shaped : (h : Header) (sectors base_sectors : ℕ) → IsValid h → sectors < 2 ^ 64 → IsShape (shape_of h base_sectors) sectors base_sectors
+shaped h sectors base_sectors valid bounded =
+    let block = block_within h valid in let chunk = chunk_within h valid in let all = whole h valid in let size = size_within h valid in let tracked = valid.tracked in let slots = valid.some_slot in
+    record {
+      some = omega (arith, block.0);
+      small = block.1;
+      some_blocks = omega (arith, chunk.0);
+      few_blocks = chunk.1;
+      size = omega (arith, all, size);
+      tracked = omega (arith, all, tracked);
+      limit = refl;
+      header = omega (arith, slots);
+      bounded = bounded;
+    }
+
+-- No chunk has storage.
+
+abbrev none_of : ℕ → List (Option ℕ)
+none_of n = replicate n None
+
+nothing-there : (n i p : ℕ) → slice_get (none_of n) i ≡ Some (Some p) → ⊥
+nothing-there n i p there =
+    let within = slice_get_within (none_of n) i (Some p) there in let long : length (none_of n) ≡ n = length-replicate n None in
+    let read : slice_get (none_of n) i ≡ Some None = slice_get_replicate n None i (omega arith) in
+    let both : Some None ≡ Some (Some p) = sym read ∙ there in cc
+
+no-place : (shape : Shape) (n b x : ℕ) → place_of shape (none_of n) b ≡ Some x → ⊥
+no-place shape n b x at = let from = place-from shape (none_of n) b x at in nothing-there n (b / shape.chunk) from.0 from.1
+
+no-fresh : (n b : ℕ) → slice_get (replicate n false) b ≡ Some true → ⊥
+no-fresh n b there =
+    let within = slice_get_within (replicate n false) b true there in let long = length-replicate n false in
+    let read : slice_get (replicate n false) b ≡ Some false = slice_get_replicate n false b (omega arith) in
+    let both : Some false ≡ Some true = sym read ∙ there in cc
+
+-- Nobody holds or has anything.
+
+idle-regions : (passes : List Pass) → ((i : ℕ) (p : Pass) → slice_get passes i ≡ Some p → p.phase ≡ Idle) → map region_of passes ≡ replicate (length passes) None
+idle-regions [] idle = refl
+idle-regions (p ∷ passes) idle =
+    ap (λ (o : Option Region). o ∷ map region_of passes) (region-none p (ap has_region (idle 0 p refl)))
+    ∙ ap (λ (rs : List (Option Region)). None ∷ rs) (idle-regions passes (λ i. idle (suc i)))
+
+pub no-tickets : (passes : List Pass) → ((i : ℕ) (p : Pass) → slice_get passes i ≡ Some p → p.ticket ≡ None) → tickets_of passes ≡ []
+no-tickets [] none = refl
+no-tickets (p ∷ passes) none = ap (λ (o : Option Ticket). ticket_of o ++ tickets_of passes) (none 0 p refl) ∙ no-tickets passes (λ i. none (suc i))
+
+pub no-fetches : (passes : List Pass) → ((i : ℕ) (p : Pass) → slice_get passes i ≡ Some p → p.fetch ≡ None) → fetches_of passes ≡ []
+no-fetches [] none = refl
+no-fetches (p ∷ passes) none = ap (λ (o : Option Ticket). ticket_of o ++ fetches_of passes) (none 0 p refl) ∙ no-fetches passes (λ i. none (suc i))
+
+no-sum : (f : Pass → ℕ) (passes : List Pass) → ((i : ℕ) (p : Pass) → slice_get passes i ≡ Some p → f p ≡ 0) → sum_by f passes ≡ 0
+no-sum f [] none = refl
+no-sum f (p ∷ passes) none = let first = none 0 p refl in let rest = no-sum f passes (λ i. none (suc i)) in let step = sum_by-cons f p passes in omega (arith, first, rest, step)
+
+-- a pass that is new, in a history without entries
+new-stands : {buffer : List Sector} (shape : Shape) (fresh : List Bool) (places : ℕ → Option ℕ) (i : ℕ) (p : Pass) → IsNew buffer p → length buffer ≡ shape.block → StandsAs shape fresh places (standing [] i) p
+new-stands {buffer} shape fresh places i p new long = subst (λ (t : Standing). StandsAs shape fresh places t p) (sym (standing-nothing i)) (record {
+  call = sym new.call;
+  idle = λ is some. absurd (let c = new.call in omega arith);
+  busy = λ is. absurd (is new.phase);
+  unanswered = λ is. absurd (is new.phase);
+  done = λ is. absurd (is new.phase);
+  range = λ is. absurd (is new.phase);
+  pending = λ is. absurd (is new.phase);
+  whole = λ is. absurd (is new.phase);
+  ready = λ is. absurd (let other = sym new.phase ∙ is in cc);
+  write = λ is. absurd (let none = sym (ap writes_in new.phase) ∙ is in cc);
+  read = λ is. absurd (let other = sym new.phase ∙ is in cc);
+  left = λ is. absurd (let other = sym new.phase ∙ is in cc);
+  placed = λ is. absurd (is new.phase);
+  piece = λ is. absurd (let none = sym (ap has_region new.phase) ∙ is in cc);
+  at = λ is. absurd (let none = sym (ap has_region new.phase) ∙ is in cc);
+  ticket = subst (λ ph. HasTicket ph shape fresh p) (sym new.phase) (record { ticket = new.ticket; fetch = new.fetch });
+  buffer = ap length new.buffer_is ∙ long;
+})
+
+no-writes : (s : ℕ) → writes [] s ≡ []
+unfolding writes
+no-writes s = refl
+
+nobody-writes : (ws : List Open) (a : ℕ) → All (IsOneOf [] a) ws → ws ≡ []
+nobody-writes [] a all = refl
+nobody-writes (w ∷ ws) a all = absurd (let one = (All-head (IsOneOf [] a) w ws all).among in let within = one.1 in omega arith)
+
+-- nothing is being written where nothing is in flight
+quiet : (disk : Disk) (a : ℕ) → AreWrites [] disk → (track disk.start disk.log a).writes ≡ []
+unfolding writes
+quiet disk a none = track-writes disk.start disk.log a ∙ ap (map content_by) (nobody-writes (open_writes (past disk.log) a) a (none a))
+
+-- the chunk of a block of the disk is one of its chunks
+chunk-inside : (blocks chunk b : ℕ) → 1 ≤ chunk → b < blocks → b / chunk < (blocks + chunk - 1) / chunk
+chunk-inside blocks chunk b some inside =
+    let below = div-mul-le_self b chunk in
+    let less : b / chunk ≤ (blocks - 1) / chunk = (le-div_iff_mul-le {k = chunk} {x = b / chunk} {y = blocks - 1} some).1 (omega (arith, below, inside)) in
+    let more : ((blocks - 1) + chunk) / chunk ≡ (blocks - 1) / chunk + 1 = add-div_right (blocks - 1) some in
+    let same : blocks + chunk - 1 ≡ (blocks - 1) + chunk = omega arith in
+    let goal : b / chunk < ((blocks - 1) + chunk) / chunk = omega (arith, less, more) in
+    subst (λ (n : ℕ). b / chunk < n / chunk) (sym same) goal
+
+module _ (h : Header) (valid : IsValid h) (passes : List Pass) (count sectors depth events base_sectors base_depth : ℕ) (room : Room) (flies base_flies : List Ticket → Type 0)
+    (fits : need_of h ≤ sectors) (bounded : sectors < 2 ^ 64) (deep : 128 ≤ depth) (base_deep : 128 ≤ base_depth) (idle : flies []) (base_idle : base_flies [])
+    (few : count ≤ 64) (new : AreNew count h.block passes) (counted : room.events < 2 ^ 64) where
+  abbrev shape : Shape
+  shape = shape_of h base_sectors
+
+  abbrev table : Given
+  table = record { chunks = none_of (chunks_of h); storage = h.storage }
+
+  abbrev fresh : List Bool
+  fresh = replicate (blocks_of h) false
+
+  is-idle : (i : ℕ) (p : Pass) → slice_get passes i ≡ Some p → p.phase ≡ Idle
+  is-idle i p there = (new.each i p there).phase
+
+  coherent : IsCoherent shape fresh (place_of shape table.chunks) passes [] sectors depth base_sectors base_depth flies base_flies
+  coherent = record {
+    shaped = shaped h sectors base_sectors valid bounded;
+    size = length-replicate (blocks_of h) false;
+    placed = record { apart = λ b c x y at_b at_c. absurd (no-place shape (chunks_of h) b x at_b); inside = λ b x at. absurd (no-place shape (chunks_of h) b x at) };
+    fresh_placed = λ b is. absurd (no-fresh (blocks_of h) b is);
+    regular = record { in_turn = tt; in_place = tt; alone = tt; answered = tt };
+    few = let many = new.many in omega arith;
+    deep = deep;
+    base_deep = base_deep;
+    each = λ i p there. new-stands shape fresh (place_of shape table.chunks) i p (new.each i p there) (length-replicate h.block zero_sector);
+    apart = λ i j p q there_p there_q other has_p. absurd (let none = sym (ap has_region (is-idle i p there_p)) ∙ has_p in cc);
+    flight = subst flies (sym (no-tickets passes (λ i p there. (new.each i p there).ticket))) idle;
+    base_flight = subst base_flies (sym (no-fetches passes (λ i p there. (new.each i p there).fetch))) base_idle;
+    guest = λ s. inl (record { nobody = λ i p there w. let phase = w.phase in let other = sym (is-idle i p there) ∙ phase in cc; none = no-writes s });
+  }
+
+  roomy : IsRoomy h.block passes (empty_history room events) room events
+  roomy = record {
+    later = omega arith;
+    spare_events = let none = no-sum (λ (p : Pass). p.events) passes (λ i p there. (new.each i p there).events) in omega arith;
+    spare_sectors = let none = no-sum (λ (p : Pass). p.sectors) passes (λ i p there. (new.each i p there).sectors) in omega arith;
+    reserved = λ i p there. room-idle h.block p (is-idle i p there) (new.each i p there).events (new.each i p there).sectors;
+    calls = λ i p there. let none = (new.each i p there).call in omega arith;
+    bounded = counted;
+  }
+
+  storage : IsStorage shape table sectors
+  storage = record {
+    chunks = λ b inside. let long : length (none_of (chunks_of h)) ≡ chunks_of h = length-replicate (chunks_of h) None in let less = chunk-inside (blocks_of h) h.chunk b (chunk_within h valid).0 inside in omega arith;
+    few = let long : length (none_of (chunks_of h)) ≡ chunks_of h = length-replicate (chunks_of h) None in let less = div-le_self (blocks_of h + h.chunk - 1) h.chunk in let blocks = div-le_self h.size h.block in
+        let size = size_within h valid in let chunk = (chunk_within h valid).1 in omega arith;
+    one_to_one = record {
+      apart = λ a b p has_a has_b. absurd (nothing-there (chunks_of h) a p has_a);
+      inside = λ chunk p has. absurd (nothing-there (chunks_of h) chunk p has);
+    };
+    inside = let same : h.storage * (h.chunk * h.block) ≡ h.storage * h.chunk * h.block = sym (mul_assoc h.storage h.chunk h.block) in omega (arith, same, fits);
+  }
+
+  pub opened-kept : IsKept shape table fresh (replicate count None) passes (empty_history room events) room sectors depth events base_sectors base_depth flies base_flies
+  opened-kept = record {
+    coherent = coherent;
+    held = ap (λ (n : ℕ). replicate n None) (sym new.many) ∙ sym (idle-regions passes is-idle);
+    roomy = roomy;
+    storage = storage;
+  }
+
+  -- Where the devices tell: nothing is being written.
+  module _ (disk : Disk) (last : ℕ) (base : List Sector) (base_size : length base ≡ base_sectors) (writes_none : AreWrites [] disk) where
+    abbrev start : List Sector
+    start = start_of shape base
+
+    long : length start ≡ shape.block * shape.blocks
+    unfolding background_run
+    long = length-map-range_with_len (background base shape.tracked) 0 (shape.block * shape.blocks)
+
+    starts : (s : ℕ) → s < length start → (track start [] s).contents ≡ background base shape.tracked s ∷ []
+    unfolding track background_run
+    starts s inside = let size = long in
+        ap option_to_list (slice_get_run (background base shape.tracked) 0 (shape.block * shape.blocks) s (omega arith))
+        ∙ ap (λ (n : ℕ). background base shape.tracked n ∷ []) (let plain : 0 + s ≡ s = omega arith in plain)
+
+    pub opened-told : IsTold shape table fresh passes (empty_history room events) disk last base base_sectors
+    opened-told = record {
+      base_size = base_size;
+      faithful = record {
+        size = long;
+        shown = tt;
+        numbers = λ i p t there has. absurd (let none = sym (new.each i p there).ticket ∙ has in cc);
+        distinct = λ i j p q t u there_p there_q other has_t. absurd (let none = sym (new.each i p there_p).ticket ∙ has_t in cc);
+        stands = λ s inside. record {
+          local = λ b x in_b is. absurd (no-fresh (blocks_of h) b is);
+          other = λ b in_b is. subst (λ (cs : List Sector). Contains cs (background base shape.tracked s)) (sym (starts s inside)) (is-one (background base shape.tracked s));
+        };
+        filling = λ a. inl (record {
+          nobody = λ i p there w. let phase = w.phase in let other = sym (is-idle i p there) ∙ phase in cc;
+          none = quiet disk a writes_none;
+        });
+        buffers = λ i p there is. absurd (let other = sym (is-idle i p there) ∙ is in cc);
+      };
+    }

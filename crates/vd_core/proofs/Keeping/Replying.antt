@@ -1,0 +1,78 @@
+-- A reply keeps a core.
+use Rattle.std.proofs.Common.{◌≡◌, ℕ, Bool, false, List, [], ◌∷◌, refl, sym, ◌∙◌, ap, subst, arith, Option, Some, None, slice_get}
+use Rattle.std.specs.Prelude.{◌↔◌}
+use Rattle.vd_law.specs.declared.entry.Sector.{Sector}
+use Rattle.vd_law.specs.declared.entry.Room.{Room}
+use Rattle.vd_law.specs.declared.entry.Answer.{Answer}
+use Rattle.vd_law.specs.declared.entry.Answer.TheVariants.{Ok}
+use Rattle.vd_law.specs.Entries.{Entry}
+use Rattle.vd_law.specs.Histories.{Numbered}
+use Rattle.vd_device.specs.declared.ticket.Ticket.{Ticket}
+use Rattle.vd_device.specs.Disks.{Disk}
+use Rattle.vd_regions.specs.declared.regions.Region.{Region}
+use Rattle.vd_table.specs.Tables.{Given}
+use Rattle.vd_passes.specs.declared.shape.Shape.{Shape}
+use Rattle.vd_passes.specs.declared.pass.Pass.{Pass}
+use Rattle.vd_passes.specs.declared.pass.Phase.TheVariants.{Ready}
+use Rattle.vd_passes.specs.declared.pass.Fault.{Fault}
+use Rattle.vd_passes.specs.declared.pass.Fault.TheVariants as fault
+use Rattle.vd_passes.specs.Passes.{HasOutcome, answer_by}
+use Rattle.vd_passes.specs.Steps.{IsAt, Replies}
+use Rattle.vd_passes.proofs.Lists.{some-inj}
+use Rattle.vd_passes.proofs.Needing.{sum-part, room-reply, room-replied}
+use Rattle.vd_passes.proofs.Holding.{phase-at, replies-regions}
+use Rattle.vd_passes.proofs.Asking.{replies-coherent, replies-faithful}
+use Rattle.vd_core.specs.Adding.{Extends}
+use Rattle.vd_core.specs.Asking.{CanReply, IsOkWhereDone, freed}
+use Rattle.vd_core.specs.Kept.{IsRoomy, IsKept, IsTold}
+use Rattle.vd_core.proofs.Reserving.{room-shared}
+
+-- an answer is Ok exactly where all is done
+ok-where : (p : Pass) (broken : Bool) (f : Option Fault) → HasOutcome p broken f → (answer_by f p.done ≡ Ok) ↔ (p.done ≡ p.count)
+ok-where p broken None outcome = (λ is. outcome.0, λ is. refl)
+ok-where p broken (Some (fault.Store ticket)) outcome = (λ is. absurd (cc), λ is. absurd (let less = outcome.0 in omega arith))
+ok-where p broken (Some (fault.Base ticket)) outcome = (λ is. absurd (cc), λ is. absurd (let less = outcome.0 in omega arith))
+
+module _ {shape : Shape} {table : Given} {fresh : List Bool} {regions : List (Option Region)} {passes : List Pass} {history : Numbered} {spare : Room} {sectors depth events base_sectors base_depth : ℕ} {flies base_flies : List Ticket → Type 0}
+    (i : ℕ) (kept : IsKept shape table fresh regions passes history spare sectors depth events base_sectors base_depth flies base_flies) (at : IsAt passes i (λ p. p.phase ≡ Ready)) where
+  pub can-reply : IsAt passes i (CanReply passes history spare events)
+  can-reply =
+      let p = at.0 in let a = sum-part (λ (q : Pass). q.events) passes i p at.1 in let b = sum-part (λ (q : Pass). q.sectors) passes i p at.1 in
+      let c = kept.roomy.spare_events in let d = kept.roomy.spare_sectors in (
+        p,
+        at.1,
+        record {
+          few = kept.coherent.few;
+          some = room-reply (kept.roomy.reserved i p at.1) at.2;
+          part_events = omega (arith, a, c);
+          part_sectors = omega (arith, b, d);
+          later = kept.roomy.later;
+        },
+      )
+
+  ready-is : {p : Pass} → slice_get passes i ≡ Some p → p.phase ≡ Ready
+  ready-is {p} there = ap (λ (x : Pass). x.phase) (some-inj (sym there ∙ at.1)) ∙ at.2
+
+  pub reply-ok : {answer : Answer} {passes' : List Pass} {entries entries' : List Entry} → Replies answer i passes passes' entries entries' → IsAt passes i (IsOkWhereDone answer)
+  reply-ok {answer} {passes'} {entries} {entries'} step =
+      let p = step.pass in
+      (p, step.there, subst (λ (a : Answer). IsOkWhereDone a p) (sym step.is) (ok-where p _ p.fault ((kept.coherent.each i p step.there).ready (ready-is step.there))))
+
+  module _ {answer : Answer} {passes' : List Pass} {history' : Numbered} (step : Replies answer i passes passes' history.log.entries history'.log.entries) where
+    replied-roomy : {spare' : Room} → Extends (events ∷ []) 0 history history' → IsAt passes i (λ p. spare' ≡ freed p spare) → IsRoomy shape.block passes' history' spare' events
+    replied-roomy {spare'} extends left =
+        let p = step.pass in let some = room-reply (kept.roomy.reserved i p step.there) (ready-is step.there) in
+        let is : spare' ≡ freed p spare = left.2 ∙ ap (λ (x : Pass). freed x spare) (some-inj (sym left.1 ∙ step.there)) in
+        let c = ap (λ (r : Room). r.events) is in let d = ap (λ (r : Room). r.sectors) is in
+        room-shared kept.roomy i step.there step.after extends (room-replied shape.block p) spare' (omega (arith, c, some)) (omega (arith, d)) (omega arith) (omega arith)
+
+    pub reply-kept : {spare' : Room} → Extends (events ∷ []) 0 history history' → IsAt passes i (λ p. spare' ≡ freed p spare) → IsKept shape table fresh regions passes' history' spare' sectors depth events base_sectors base_depth flies base_flies
+    reply-kept {spare'} extends left = record {
+      coherent = replies-coherent kept.coherent at step;
+      held = kept.held ∙ sym (replies-regions (phase-at false Ready passes i refl at) step);
+      roomy = replied-roomy extends left;
+      storage = kept.storage;
+    }
+
+    pub reply-told : {disk : Disk} {last : ℕ} {base : List Sector} → IsTold shape table fresh passes history disk last base base_sectors → IsTold shape table fresh passes' history' disk last base base_sectors
+    reply-told {disk} {last} {base} told = record { base_size = told.base_size; faithful = replies-faithful kept.coherent at step told.faithful }

@@ -1,0 +1,15 @@
+pub mod Claiming
+pub mod Ended
+pub mod Entered
+pub mod Entries
+pub mod Keeping
+pub mod Moving
+pub mod NewPasses
+pub mod Picked
+pub mod Placed
+pub mod Reserving
+pub mod Rooming
+pub mod Seen
+pub mod Serving
+pub mod Settled
+pub mod Views

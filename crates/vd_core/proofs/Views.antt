@@ -1,0 +1,6 @@
+-- The parts of views that are the same.
+use Rattle.std.proofs.Common.{◌≡◌, ap}
+use Rattle.vd_core.specs.View.{View}
+
+pub same-history : {S B : Type 0} {a b : View S B} → a ≡ b → a.history ≡ b.history
+same-history {S} {B} {a} {b} same = ap (λ (v : View S B). v.history) same

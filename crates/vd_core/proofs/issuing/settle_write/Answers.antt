@@ -1,0 +1,57 @@
+use Rattle.std.proofs.Common.{[], refl, ◌∙◌, ap, slice_set}
+use Rattle.vd_device.specs.declared.settled.Settled.TheVariants.{NotYet, Failed}
+use Rattle.vd_passes.specs.declared.pass.Pass.{Pass}
+use Rattle.vd_core.proofs.Picked.{read-there}
+use Rattle.vd_core.proofs.Ended.{set-there, put-back, write-failed, tells-nothing-read, extends-none, broke-entry}
+use Rattle.vd_core.proofs.issuing.settle_write.Goals as goal
+
+pub returns-in-NotYet-clause-settled : goal.returns-in-NotYet-clause-settled
+returns-in-NotYet-clause-settled g c =
+    let at = c.requires.waiting in let q = c.index_mut-p.result.now in let taken = c.take_ticket-ticket.ensures in let late = c.in-NotYet.ensures in
+    let there = read-there c.args.passes.now.items c.args.pass at.0 q at.1 c.index_mut-p.ensures.value in (
+      NotYet c.in-NotYet.ticket,
+      refl,
+      record {
+        pass = q;
+        ticket = c.take_ticket-ticket.result;
+        there = there;
+        has = taken.ticket;
+        number = late.last;
+        settles = ([], c.settle.new.out, late.settles);
+        effect = (
+          refl,
+          ap (λ (x : Pass). slice_set c.args.passes.now.items c.args.pass x) (put-back q c.take_ticket-ticket.new.self c.put_ticket.new.self c.take_ticket-ticket.result c.in-NotYet.ticket taken.rest taken.ticket late.settles.0 c.put_ticket.ensures)
+              ∙ set-there c.args.passes.now.items c.args.pass q there,
+          refl,
+        );
+        told_before = late.told_before;
+        told = λ told. tells-nothing-read (NotYet c.in-NotYet.ticket) c.take_ticket-ticket.result c.settle.new.out _ _ late.settles.1 (late.told told);
+      },
+      extends-none c.args.history.now,
+      late.cause,
+    )
+
+pub returns-in-Failed-clause-settled : goal.returns-in-Failed-clause-settled
+returns-in-Failed-clause-settled g c =
+    let at = c.requires.waiting in let q = c.index_mut-p.result.now in let taken = c.take_ticket-ticket.ensures in let failed = c.in-Failed.ensures in (
+      Failed c.in-Failed.number,
+      refl,
+      record {
+        pass = q;
+        ticket = c.take_ticket-ticket.result;
+        there = read-there c.args.passes.now.items c.args.pass at.0 q at.1 c.index_mut-p.ensures.value;
+        has = taken.ticket;
+        number = failed.last;
+        settles = ([], c.settle.new.out, failed.settles);
+        effect = (
+          refl,
+          ap (λ (x : Pass). slice_set c.args.passes.now.items c.args.pass x)
+              (write-failed q c.take_ticket-ticket.new.self c.fail.new.self c.spend-in-Failed.new.self c.take_ticket-ticket.result.number c.in-Failed.number taken.rest failed.settles.0 c.fail.ensures c.spend-in-Failed.ensures),
+          broke-entry c.call_id-id.result c.args.pass q c.args.history.now.log.entries c.add-in-Failed.new.history.log.entries c.call_id-id.ensures.pass c.call_id-id.ensures.call c.add-in-Failed.ensures.entry,
+        );
+        told_before = failed.told_before;
+        told = λ told. tells-nothing-read (Failed c.in-Failed.number) c.take_ticket-ticket.result c.settle.new.out _ _ failed.settles.1 (failed.told told);
+      },
+      c.add-in-Failed.ensures.extends,
+      failed.cause,
+    )

@@ -1,0 +1,19 @@
+use Rattle.std.proofs.Common.{sym}
+use Rattle.vd_law.specs.Entries.{asked_of}
+use Rattle.vd_core.proofs.Keeping.Asking.{can-ask, ask-kept, ask-told}
+use Rattle.vd_core.proofs.state.Core.ask.Goals as goal
+
+pub ask_in_room-requires : goal.ask_in_room-requires
+ask_in_room-requires g c =
+    let at = rw (sym c.self.view_is) at c.requires.phase in
+    let inside = rw (sym c.self.view_is) at c.requires.inside in
+    record { can = can-ask (asked_of c.args.request) c.args.pass c.self.invariant.0 at c.requires.some inside }
+
+pub invariant_of-self : goal.invariant_of-self
+invariant_of-self g c =
+    let at = rw (sym c.self.view_is) at c.requires.phase in
+    let inside = rw (sym c.self.view_is) at c.requires.inside in
+    let kept = c.self.invariant.0 in (
+      ask-kept (asked_of c.args.request) c.args.pass kept at c.requires.some inside c.ask_in_room.ensures.ends,
+      λ tells base_tells. ask-told (asked_of c.args.request) c.args.pass kept at c.requires.some inside c.ask_in_room.ensures.ends (c.self.invariant.1 tells base_tells),
+    )

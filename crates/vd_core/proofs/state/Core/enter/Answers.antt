@@ -1,0 +1,21 @@
+use Rattle.std.proofs.Common.{sym}
+use Rattle.vd_core.proofs.Keeping.Entering.{can-enter, holds-nothing, enter-kept, enter-told, enters-mapped}
+use Rattle.vd_core.proofs.state.Core.enter.Goals as goal
+
+pub enter_block-requires-clause-can : goal.enter_block-requires-clause-can
+enter_block-requires-clause-can g c = let at = rw (sym c.self.view_is) at c.requires.phase in can-enter c.self.invariant.0 c.args.pass at
+
+pub enter_block-requires-clause-nothing : goal.enter_block-requires-clause-nothing
+enter_block-requires-clause-nothing g c = let at = rw (sym c.self.view_is) at c.requires.phase in holds-nothing c.self.invariant.0 c.args.pass at
+
+pub invariant_of-self : goal.invariant_of-self
+invariant_of-self g c =
+    let at = rw (sym c.self.view_is) at c.requires.phase in let done = c.enter_block.ensures in (
+      enter-kept c.self.invariant.0 c.args.pass at c.enter_block.result done.busy done.enters,
+      enter-told c.self.invariant.0 c.args.pass at c.self.invariant.1 c.enter_block.new.regions c.enter_block.result done.busy done.enters,
+    )
+
+pub returns-clause-enters : goal.returns-clause-enters
+returns-clause-enters g c =
+    let at = rw (sym c.self.view_is) at c.requires.phase in let done = c.enter_block.ensures in
+    rw (sym c.self.view_is) (enters-mapped c.self.inside.shape c.self.inside.table.chunks c.args.pass c.self.inside.passes.items c.enter_block.new.passes.items c.enter_block.result c.self.invariant.0.held (enter-kept c.self.invariant.0 c.args.pass at c.enter_block.result done.busy done.enters).held done.enters)

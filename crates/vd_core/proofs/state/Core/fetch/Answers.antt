@@ -1,0 +1,17 @@
+use Rattle.std.proofs.Common.{sym}
+use Rattle.vd_passes.proofs.Fetching.{can-read-base}
+use Rattle.vd_core.proofs.Keeping.Fetching.{fetch-kept, fetch-told}
+use Rattle.vd_core.proofs.state.Core.fetch.Goals as goal
+
+pub fetch_block-requires : goal.fetch_block-requires
+fetch_block-requires g c =
+    let at = rw (sym c.self.view_is) at c.requires.phase in
+    record { ready = can-read-base c.self.invariant.0.coherent c.args.pass (at.0, at.1, at.2.0) }
+
+pub invariant_of-self : goal.invariant_of-self
+invariant_of-self g c =
+    let at = rw (sym c.self.view_is) at c.requires.phase in let done = c.fetch_block.ensures in
+    (fetch-kept c.self.invariant.0 c.args.pass at done.fetches done.stays, fetch-told c.self.invariant.0 c.args.pass at done.fetches done.stays c.self.invariant.1)
+
+pub returns-clause-fetches : goal.returns-clause-fetches
+returns-clause-fetches g c = rw (sym c.self.view_is) c.fetch_block.ensures.fetches

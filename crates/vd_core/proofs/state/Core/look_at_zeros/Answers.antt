@@ -1,0 +1,22 @@
+use Rattle.std.proofs.Common.{sym}
+use Rattle.vd_core.proofs.Keeping.Devices.{region-within}
+use Rattle.vd_core.proofs.Keeping.Looking.{can-see-zeros, zeros-seen, zeros-kept, zeros-told}
+use Rattle.vd_core.proofs.state.Core.look_at_zeros.Goals as goal
+
+pub see_zeros-requires-clause-ready : goal.see_zeros-requires-clause-ready
+see_zeros-requires-clause-ready g c =
+    let at = rw (sym c.self.view_is) at c.requires.phase in
+    can-see-zeros c.self.invariant.0 c.args.pass (at.0, at.1, (at.2.0, at.2.1)) c.args.out.now at.2.3
+
+pub free-requires : goal.free-requires
+free-requires g c =
+    let at = rw (sym c.self.view_is) at c.requires.phase in
+    region-within c.self.inside.regions c.self.inside.passes.items c.args.pass at.0 c.self.invariant.0.held at.1
+
+pub invariant_of-self : goal.invariant_of-self
+invariant_of-self g c =
+    let at = rw (sym c.self.view_is) at c.requires.phase in let seen = c.see_zeros.ensures.sees in
+    let step = zeros-seen (at.0, at.1, at.2.2) seen in (
+      zeros-kept c.self.invariant.0 c.args.pass (at.0, at.1, (at.2.0, at.2.1)) step (seen.0, seen.1, seen.2.1) c.free.ensures.held,
+      zeros-told c.self.invariant.0 c.args.pass (at.0, at.1, (at.2.0, at.2.1)) step c.self.invariant.1,
+    )

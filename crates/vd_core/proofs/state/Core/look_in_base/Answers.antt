@@ -1,0 +1,18 @@
+use Rattle.std.proofs.Common.{sym}
+use Rattle.vd_core.proofs.Keeping.Looking.{can-look-in-base, base_look-kept, base_look-told}
+use Rattle.vd_core.proofs.state.Core.look_in_base.Goals as goal
+
+pub look_at_base-requires : goal.look_at_base-requires
+look_at_base-requires g c =
+    let at = rw (sym c.self.view_is) at c.requires.phase in
+    record { ready = can-look-in-base c.self.invariant.0 c.args.pass at }
+
+pub invariant_of-self : goal.invariant_of-self
+invariant_of-self g c =
+    let at = rw (sym c.self.view_is) at c.requires.phase in let done = c.look_at_base.ensures in (
+      base_look-kept c.self.invariant.0 c.args.pass (at.0, at.1, (at.2.0, at.2.1)) done.looks done.stays,
+      base_look-told c.self.invariant.0 c.args.pass (at.0, at.1, (at.2.0, at.2.1)) done.looks done.stays c.self.invariant.1,
+    )
+
+pub returns-clause-looks : goal.returns-clause-looks
+returns-clause-looks g c = rw (sym c.self.view_is) c.look_at_base.ensures.looks

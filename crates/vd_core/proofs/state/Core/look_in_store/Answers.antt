@@ -1,0 +1,16 @@
+use Rattle.std.proofs.Common.{sym}
+use Rattle.vd_core.proofs.Keeping.Looking.{can-look, look-kept, look-told}
+use Rattle.vd_core.proofs.state.Core.look_in_store.Goals as goal
+
+pub look_at_store-requires : goal.look_at_store-requires
+look_at_store-requires g c =
+    let at = rw (sym c.self.view_is) at c.requires.phase in
+    record { ready = can-look c.self.invariant.0 c.args.pass at }
+
+pub invariant_of-self : goal.invariant_of-self
+invariant_of-self g c =
+    let at = rw (sym c.self.view_is) at c.requires.phase in let done = c.look_at_store.ensures in
+    (look-kept c.self.invariant.0 c.args.pass at done.looks done.stays, look-told c.self.invariant.0 c.args.pass at done.looks c.self.invariant.1)
+
+pub returns-clause-looks : goal.returns-clause-looks
+returns-clause-looks g c = rw (sym c.self.view_is) c.look_at_store.ensures.looks

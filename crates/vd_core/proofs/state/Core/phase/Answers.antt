@@ -1,0 +1,6 @@
+use Rattle.std.proofs.Common.{sym}
+use Rattle.vd_core.proofs.Keeping.Standing.{standing}
+use Rattle.vd_core.proofs.state.Core.phase.Goals as goal
+
+pub returns-clause-stands : goal.returns-clause-stands
+returns-clause-stands g c = rw (sym c.self.view_is) (standing c.self.invariant.0 c.args.pass)

@@ -1,0 +1,20 @@
+use Rattle.std.proofs.Common.{sym}
+use Rattle.vd_core.proofs.Keeping.Replying.{can-reply, reply-ok, reply-kept, reply-told}
+use Rattle.vd_core.proofs.state.Core.reply.Goals as goal
+
+pub reply_in_room-requires : goal.reply_in_room-requires
+reply_in_room-requires g c =
+    let at = rw (sym c.self.view_is) at c.requires.phase in
+    record { can = can-reply c.args.pass c.self.invariant.0 at }
+
+pub invariant_of-self : goal.invariant_of-self
+invariant_of-self g c =
+    let at = rw (sym c.self.view_is) at c.requires.phase in let done = c.reply_in_room.ensures in (
+      reply-kept c.args.pass c.self.invariant.0 at done.replies done.extends done.left,
+      λ tells base_tells. reply-told c.args.pass c.self.invariant.0 at done.replies (c.self.invariant.1 tells base_tells),
+    )
+
+pub returns-clause-ok : goal.returns-clause-ok
+returns-clause-ok g c =
+    let at = rw (sym c.self.view_is) at c.requires.phase in
+    rw (sym c.self.view_is) (reply-ok c.args.pass c.self.invariant.0 at c.reply_in_room.ensures.replies)

@@ -1,0 +1,24 @@
+use Rattle.std.proofs.Common.{sym, ap, ◌∙◌}
+use Rattle.vd_core.specs.declared.outcome.Outcome.{Outcome}
+use Rattle.vd_core.specs.Outcomes.{released}
+use Rattle.vd_core.proofs.Keeping.Devices.{region-within}
+use Rattle.vd_core.proofs.Keeping.Seeing.{waiting-for-base-look, settle_base_look-kept, settle_base_look-told}
+use Rattle.vd_core.proofs.state.Core.settle_base.Goals as goal
+
+pub settle_base_look-outcome-requires-clause-waiting : goal.settle_base_look-outcome-requires-clause-waiting
+settle_base_look-outcome-requires-clause-waiting g c =
+    let at = rw (sym c.self.view_is) at c.requires.phase in
+    waiting-for-base-look c.self.invariant.0 c.args.pass c.args.out.now at
+
+pub release-requires : goal.release-requires
+release-requires g c =
+    let at = rw (sym c.self.view_is) at c.requires.phase in
+    region-within c.self.inside.regions c.self.inside.passes.items c.args.pass at.0 c.self.invariant.0.held at.1
+
+pub invariant_of-self : goal.invariant_of-self
+invariant_of-self g c =
+    let at = rw (sym c.self.view_is) at c.requires.phase in let done = c.settle_base_look-outcome.ensures in
+    let after = c.release.ensures.regions ∙ ap (λ (o : Outcome). released o c.args.pass c.self.inside.regions) done.settled.1 in (
+      settle_base_look-kept c.self.invariant.0 c.args.pass (at.0, at.1, at.2.0) done.settled.2 done.stays done.settled.3 after,
+      settle_base_look-told c.self.invariant.0 c.args.pass (at.0, at.1, at.2.0) done.settled.2 done.stays c.self.invariant.1,
+    )

@@ -1,0 +1,24 @@
+use Rattle.std.proofs.Common.{sym, ap, ◌∙◌}
+use Rattle.vd_core.specs.declared.outcome.Outcome.{Outcome}
+use Rattle.vd_core.specs.Outcomes.{released_failed}
+use Rattle.vd_core.proofs.Keeping.Devices.{region-within}
+use Rattle.vd_core.proofs.Keeping.Fetching.{waiting-block, settle_fetch-kept, settle_fetch-told}
+use Rattle.vd_core.proofs.state.Core.settle_fetch.Goals as goal
+
+pub settle_block-outcome-requires : goal.settle_block-outcome-requires
+settle_block-outcome-requires g c =
+    let at = rw (sym c.self.view_is) at c.requires.phase in
+    record { waiting = waiting-block c.self.invariant.0 c.args.pass at }
+
+pub release_failed-requires : goal.release_failed-requires
+release_failed-requires g c =
+    let at = rw (sym c.self.view_is) at c.requires.phase in
+    region-within c.self.inside.regions c.self.inside.passes.items c.args.pass at.0 c.self.invariant.0.held at.1
+
+pub invariant_of-self : goal.invariant_of-self
+invariant_of-self g c =
+    let at = rw (sym c.self.view_is) at c.requires.phase in let done = c.settle_block-outcome.ensures in
+    let released = c.release_failed.ensures.regions ∙ ap (λ (o : Outcome). released_failed o c.args.pass c.self.inside.regions) done.settled.1 in (
+      settle_fetch-kept c.self.invariant.0 c.args.pass at done.settled.2 done.stays c.release_failed.new.regions released,
+      settle_fetch-told c.self.invariant.0 c.args.pass at done.settled.2 done.stays c.self.invariant.1,
+    )

@@ -1,0 +1,110 @@
+-- A request is asked.
+use Rattle.std.specs.Prelude.{ℕ, ◌≡◌, ◌↔◌, ◌⊎◌, ◌+◌, ◌-◌, ◌/◌, ◌^◌, ◌<◌, ◌≤◌, List, [], ◌∷◌, Option, None, Some, length}
+use Rattle.vd_law.specs.declared.entry.Room.{Room}
+use Rattle.vd_law.specs.declared.entry.Answer.{Answer}
+use Rattle.vd_law.specs.declared.entry.Answer.TheVariants.{Ok, NoRoom, Full}
+use Rattle.vd_law.specs.Entries.{Asked, Write}
+use Rattle.vd_law.specs.Logs.{asked_content}
+use Rattle.vd_law.specs.Histories.{Numbered, last_number}
+use Rattle.vd_law.specs.Rules.{IsInside}
+use Rattle.vd_table.specs.Tables.{Given, Has, IsOneToOne, used}
+use Rattle.vd_table.specs.Runs.{lacking, TakesRun}
+use Rattle.vd_passes.specs.declared.shape.Shape.{Shape}
+use Rattle.vd_passes.specs.declared.pass.Pass.{Pass}
+use Rattle.vd_passes.specs.Needs.{need_of, sectors_of}
+use Rattle.vd_passes.specs.Steps.{IsAt, Asks, AsksFull}
+use Rattle.vd_core.specs.Adding.{Extends}
+
+-- the first chunk of a write's range
+abbrev pub run_from : Shape → Asked → ℕ
+run_from shape (Write first content) = first / shape.block / shape.chunk
+run_from shape _ = 0
+
+-- the number of its chunks
+abbrev pub run_count : Shape → Asked → ℕ
+run_count shape (Write first content) = (first + length content - 1) / shape.block / shape.chunk + 1 - first / shape.block / shape.chunk
+run_count shape _ = 0
+
+-- each of these chunks has storage now, the least that was free where it had none, and nothing else changed
+pub record Claims (table table' : Given) (from count : ℕ) : Type 0 where
+  pub enough : lacking table from count + used table ≤ table.storage
+  pub takes : TakesRun table from count table'
+  pub kept : (chunk p : ℕ) → Has table chunk p → Has table' chunk p
+  pub all : (chunk : ℕ) → from ≤ chunk → chunk < from + count → (p : ℕ) × Has table' chunk p
+  pub chunks : length table'.chunks ≡ length table.chunks
+  pub storage : table'.storage ≡ table.storage
+  pub one_to_one : IsOneToOne table'
+
+-- the room suffices
+abbrev pub Suffices : (need left : Room) → Type 0
+Suffices need left = (need.events ≤ left.events) × (need.sectors ≤ left.sectors)
+
+-- the request needs more than the room that is left
+abbrev pub Exceeds : (need left : Room) → Type 0
+Exceeds need left = (left.events < need.events) ⊎ (left.sectors < need.sectors)
+
+-- the room without what was used or reserved of it
+abbrev pub without : Room → (events sectors : ℕ) → Room
+without left events sectors = record { events = left.events - events; sectors = left.sectors - sectors }
+
+-- the room with what a pass leaves of its own, once its Reply is added
+abbrev pub freed : Pass → Room → Room
+freed p left = record { events = left.events + (p.events - 1); sectors = left.sectors + p.sectors }
+
+-- A pass can ask the request, if the spare room suffices: numbers are within their limits, and the spare room is part of what is left.
+pub record CanAsk (shape : Shape) (table : Given) (passes : List Pass) (history : Numbered) (spare : Room) (events : ℕ) (request : Asked) (i : ℕ) : Type 0 where
+  pub some_block : 0 < shape.block
+  pub small_block : shape.block ≤ 128
+  pub some_chunk : 0 < shape.chunk
+  pub few : length passes ≤ 64
+  pub there : IsAt passes i (λ p. p.call + history.log.left.events < 2 ^ 64)
+  pub some : 0 < sectors_of request
+  pub range : IsInside (2 ^ 26) request
+  pub run : run_from shape request + run_count shape request ≤ length table.chunks
+  pub spare_events : spare.events ≤ history.log.left.events
+  pub spare_sectors : spare.sectors ≤ history.log.left.sectors
+  pub later : last_number history.opened history.numbers ≤ events
+
+-- A pass can have its Reply: one event at least is reserved for it, and this and the spare room are part of what is left.
+pub record CanReply (passes : List Pass) (history : Numbered) (spare : Room) (events : ℕ) (p : Pass) : Type 0 where
+  pub few : length passes ≤ 64
+  pub some : 0 < p.events
+  pub part_events : spare.events + p.events ≤ history.log.left.events
+  pub part_sectors : spare.sectors + p.sectors ≤ history.log.left.sectors
+  pub later : last_number history.opened history.numbers ≤ events
+
+-- the answer is Ok exactly where all sectors of the request are done
+abbrev pub IsOkWhereDone : Answer → Pass → Type 0
+IsOkWhereDone answer p = (answer ≡ Ok) ↔ (p.done ≡ p.count)
+
+-- nothing of these has changed
+pub record IsSame (table table' : Given) (passes passes' : List Pass) (history history' : Numbered) (left left' : Room) : Type 0 where
+  pub table_same : table' ≡ table
+  pub passes_same : passes' ≡ passes
+  pub history_same : history' ≡ history
+  pub left_same : left' ≡ left
+
+-- the write is answered Full
+pub record EndsFull (request : Asked) (needed free : ℕ) (shape : Shape) (i : ℕ) (table table' : Given) (passes passes' : List Pass) (history history' : Numbered) (left left' : Room) (events : ℕ) : Type 0 where
+  pub enough : Suffices (need_of shape.block request) left
+  pub needed_is : needed ≡ lacking table (run_from shape request) (run_count shape request)
+  pub free_is : free + used table ≡ table.storage
+  pub fewer : free < needed
+  pub table_same : table' ≡ table
+  pub asks : AsksFull request needed free i passes passes' history.log.entries history'.log.entries
+  pub extends : Extends (events ∷ events ∷ []) (length (asked_content request)) history history'
+  pub left_after : left' ≡ without left 2 (length (asked_content request))
+
+-- the request is asked, and its room reserved
+pub record EndsAsked (request : Asked) (shape : Shape) (i : ℕ) (table table' : Given) (passes passes' : List Pass) (history history' : Numbered) (left left' : Room) (events : ℕ) : Type 0 where
+  pub enough : Suffices (need_of shape.block request) left
+  pub claims : Claims table table' (run_from shape request) (run_count shape request)
+  pub asks : Asks request ((need_of shape.block request).events - 1) ((need_of shape.block request).sectors - length (asked_content request)) i passes passes' history.log.entries history'.log.entries
+  pub extends : Extends (events ∷ []) (length (asked_content request)) history history'
+  pub left_after : left' ≡ without left (need_of shape.block request).events (need_of shape.block request).sectors
+
+abbrev pub AskEnds : Option Answer → (request : Asked) (shape : Shape) (i : ℕ) (table table' : Given) (passes passes' : List Pass) (history history' : Numbered) (left left' : Room) (events : ℕ) → Type 0
+AskEnds result request shape i table table' passes passes' history history' left left' events =
+    (Exceeds (need_of shape.block request) left × (result ≡ Some (NoRoom left.events left.sectors)) × IsSame table table' passes passes' history history' left left')
+    ⊎ ((needed : ℕ) × (free : ℕ) × (result ≡ Some (Full needed free)) × EndsFull request needed free shape i table table' passes passes' history history' left left' events)
+    ⊎ ((result ≡ None) × EndsAsked request shape i table table' passes passes' history history' left left' events)

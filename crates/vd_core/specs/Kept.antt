@@ -1,0 +1,51 @@
+-- What the type of a core keeps.
+use Rattle.std.specs.Prelude.{ℕ, ◌≡◌, ◌+◌, ◌*◌, ◌/◌, ◌^◌, ◌<◌, ◌≤◌, Bool, List, Option, map, length, Some, slice_get}
+use Rattle.std.specs.List.{sum_by}
+use Rattle.vd_law.specs.declared.entry.Sector.{Sector}
+use Rattle.vd_law.specs.declared.entry.Room.{Room}
+use Rattle.vd_law.specs.Histories.{Numbered, last_number}
+use Rattle.vd_device.specs.declared.ticket.Ticket.{Ticket}
+use Rattle.vd_device.specs.Disks.{Disk}
+use Rattle.vd_regions.specs.declared.regions.Region.{Region}
+use Rattle.vd_table.specs.Tables.{Given, IsOneToOne}
+use Rattle.vd_reading.specs.Background.{background, background_run}
+use Rattle.vd_passes.specs.declared.shape.Shape.{Shape}
+use Rattle.vd_passes.specs.declared.pass.Pass.{Pass}
+use Rattle.vd_passes.specs.Places.{place_of}
+use Rattle.vd_passes.specs.Needs.{HasRoom}
+use Rattle.vd_passes.specs.Passes.{region_of}
+use Rattle.vd_passes.specs.Coherent.{IsCoherent, IsFaithful}
+
+-- The room in the history: each pass has reserved what its request may still need, the spare room is what is left beside that,
+-- and the numbers of the entries are not above the store's number of events.
+pub record IsRoomy (block : ℕ) (passes : List Pass) (history : Numbered) (spare : Room) (events : ℕ) : Type 0 where
+  pub later : last_number history.opened history.numbers ≤ events
+  pub spare_events : spare.events + sum_by (λ (p : Pass). p.events) passes ≡ history.log.left.events
+  pub spare_sectors : spare.sectors + sum_by (λ (p : Pass). p.sectors) passes ≡ history.log.left.sectors
+  pub reserved : (i : ℕ) (p : Pass) → slice_get passes i ≡ Some p → HasRoom block p
+  pub calls : (i : ℕ) (p : Pass) → slice_get passes i ≡ Some p → p.call + history.log.left.events ≤ history.log.room.events
+  pub bounded : history.log.room.events < 2 ^ 64
+
+-- The table has a place for each chunk of the disk, and the storage lies in the store.
+pub record IsStorage (shape : Shape) (table : Given) (sectors : ℕ) : Type 0 where
+  pub chunks : (b : ℕ) → b < shape.blocks → b / shape.chunk < length table.chunks
+  pub few : length table.chunks < 2 ^ 32
+  pub one_to_one : IsOneToOne table
+  pub inside : shape.storage_at + table.storage * (shape.chunk * shape.block) ≤ sectors
+
+-- what is kept whatever the devices tell
+pub record IsKept (shape : Shape) (table : Given) (fresh : List Bool) (regions : List (Option Region)) (passes : List Pass) (history : Numbered) (spare : Room)
+    (sectors depth events base_sectors base_depth : ℕ) (flies base_flies : List Ticket → Type 0) : Type 0 where
+  pub coherent : IsCoherent shape fresh (place_of shape table.chunks) passes history.log.entries sectors depth base_sectors base_depth flies base_flies
+  pub held : regions ≡ map region_of passes
+  pub roomy : IsRoomy shape.block passes history spare events
+  pub storage : IsStorage shape table sectors
+
+-- the guest's disk at opening: no block is local
+abbrev pub start_of : Shape → (base : List Sector) → List Sector
+start_of shape base = background_run base shape.tracked 0 (shape.block * shape.blocks)
+
+-- and what is kept where both devices tell
+pub record IsTold (shape : Shape) (table : Given) (fresh : List Bool) (passes : List Pass) (history : Numbered) (disk : Disk) (last : ℕ) (base : List Sector) (base_sectors : ℕ) : Type 0 where
+  pub base_size : length base ≡ base_sectors
+  pub faithful : IsFaithful (start_of shape base) (background base shape.tracked) shape fresh (place_of shape table.chunks) passes history.log.entries disk last

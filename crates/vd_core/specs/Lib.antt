@@ -1,0 +1,12 @@
+pub mod Adding
+pub mod Outcomes
+pub mod Devices
+pub mod Issuing
+pub mod Fetching
+pub mod Looking
+pub mod Entering
+pub mod View
+pub mod Kept
+pub mod Asking
+pub mod Opening
+pub mod Moves

@@ -1,0 +1,68 @@
+-- What a step of a pass leaves of a core, for whoever drives it.
+use Rattle.std.specs.Prelude.{ℕ, ◌≡◌, ◌≢◌, ◌+◌, ◌-◌, ◌*◌, ◌<◌, ◌≤◌, Bool, true, false, List, ◌++◌, Some, slice_get, slice_set}
+use Rattle.std.specs.List.{AllByRecursion}
+use Rattle.vd_law.specs.declared.entry.Room.{Room}
+use Rattle.vd_law.specs.Entries.{Entry, Ask}
+use Rattle.vd_passes.specs.declared.pass.Pass.{Pass}
+use Rattle.vd_passes.specs.declared.pass.Phase.{Phase}
+use Rattle.vd_passes.specs.declared.pass.Phase.TheVariants.{Idle, Asked, Held, Fetching, Filled, Issuing, Looking, Ready}
+use Rattle.vd_passes.specs.Needs.{pieces_left}
+use Rattle.vd_passes.specs.declared.shape.Shape.{Shape}
+use Rattle.vd_passes.specs.Passes.{has_region, writes_in, IsPiece, answer_of}
+use Rattle.vd_core.specs.declared.outcome.Step.{Step}
+use Rattle.vd_core.specs.declared.outcome.Step.TheVariants.{Again, Late, Busy, Ended}
+
+abbrev pub IsNoAsk : Entry → Type 0
+IsNoAsk (Ask id request) = ⊥
+IsNoAsk _ = Unit {0}
+
+-- how many steps a pass in this phase makes at most until it is idle, with so many pieces left
+abbrev pub steps_in : Phase → (write : Bool) → (pieces : ℕ) → ℕ
+steps_in Idle write pieces = 0
+steps_in Asked true pieces = 5 * pieces + 1
+steps_in Asked false pieces = 3 * pieces + 1
+steps_in Held true pieces = 5 * pieces
+steps_in Held false pieces = 3 * pieces
+steps_in Fetching write pieces = 5 * pieces - 1
+steps_in Filled write pieces = 5 * pieces - 2
+steps_in Issuing write pieces = 5 * pieces - 3
+steps_in Looking write pieces = 3 * pieces - 1
+steps_in Ready write pieces = 1
+
+abbrev pub steps_left : (block : ℕ) → Pass → ℕ
+steps_left block p = steps_in p.phase p.write (pieces_left block p)
+
+-- A step of one pass: no other pass changes, it serves the request that it served, and no entry is an Ask.
+pub record Moves (i : ℕ) (p p' : Pass) (passes passes' : List Pass) (entries entries' : List Entry) : Type 0 where
+  pub there : slice_get passes i ≡ Some p
+  pub after : passes' ≡ slice_set passes i p'
+  pub write : p'.write ≡ p.write
+  pub count : p'.count ≡ p.count
+  pub call : p'.call ≡ p.call
+  pub more : List Entry
+  pub none_asked : AllByRecursion IsNoAsk more
+  pub entries_after : entries' ≡ entries ++ more
+
+-- What the step's answer says: the pass goes on and has fewer steps left, nothing changed, or it has had its reply.
+abbrev pub Tells : Step → (block i : ℕ) → (p p' : Pass) → (passes passes' : List Pass) → Type 0
+Tells Again block i p p' passes passes' = (p'.phase ≢ Idle) × (steps_left block p' < steps_left block p)
+Tells Late block i p p' passes passes' = passes' ≡ passes
+Tells (Busy by) block i p p' passes passes' = passes' ≡ passes
+Tells (Ended answer) block i p p' passes passes' = (p'.phase ≡ Idle) × (answer ≡ answer_of p) × (steps_left block p' < steps_left block p)
+
+-- one step of a driver
+pub record Drives (step : Step) (block i : ℕ) (passes passes' : List Pass) (entries entries' : List Entry) (left left' : Room) : Type 0 where
+  pub pass : Pass
+  pub pass' : Pass
+  pub moves : Moves i pass pass' passes passes' entries entries'
+  pub tells : Tells step block i pass pass' passes passes'
+  pub events_left : left.events ≤ left'.events
+  pub sectors_left : left.sectors ≤ left'.sectors
+
+-- How a pass of a disk of this shape stands: what its phase says of its request and of its piece.
+pub record IsStanding (shape : Shape) (p : Pass) : Type 0 where
+  pub some : 0 < shape.block
+  pub write : writes_in p.phase ≡ true → p.write ≡ true
+  pub read : p.phase ≡ Looking → p.write ≡ false
+  pub left : p.phase ≡ Asked → p.done < p.count
+  pub piece : has_region p.phase ≡ true → IsPiece shape p

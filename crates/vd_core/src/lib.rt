@@ -1,0 +1,19 @@
+//! The core of a disk: passes whose steps keep one legal history over a store and a base.
+#![tactic(auto)]
+
+mod adding;
+mod asking;
+mod entering;
+mod fetching;
+mod issuing;
+mod looking;
+mod opening;
+mod outcome;
+mod reads;
+mod requests;
+mod state;
+mod writes;
+
+pub use opening::{Closed, Unopened};
+pub use outcome::Step;
+pub use state::Core;

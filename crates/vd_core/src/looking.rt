@@ -1,0 +1,190 @@
+//! The read of a piece: from the store where its block is fresh, else from the base, with zeros where that has nothing.
+
+ghost use Rattle.std.specs.Prelude.{◌≡◌, ◌⊎◌, ◌+◌, ◌-◌, ◌*◌, ◌^◌, ◌++◌, [], ◌∷◌, ◌<◌, ◌≤◌, length, replicate, None, Some, slice_get};
+ghost use Rattle.vd_device.specs.declared.ticket.Kind.TheVariants.{Read};
+ghost use Rattle.vd_device.specs.declared.settled.Settled.{Settled as AnySettled};
+ghost use Rattle.vd_device.specs.Calls.{IsCalm, IsCaused};
+ghost use Rattle.vd_device.specs.Tickets.{IsInFlight};
+ghost use Rattle.vd_passes.specs.Buffers.{BufferSettled};
+ghost use Rattle.vd_reading.specs.Background.{zero_sector};
+ghost use Rattle.vd_passes.specs.Laying.{below};
+ghost use Rattle.vd_passes.specs.Steps.{IsAt, CanRead, CanReadBase, IsWaiting, IsWaitingForBase, Looks, LooksAtBase, Sees, SeesZeros, LookSettled, BaseLookSettled};
+ghost use Rattle.vd_core.specs.Adding.{CanAdd, Extends};
+ghost use Rattle.vd_core.specs.Outcomes.{outcome_of, read_numbers_of, read_sectors_of};
+ghost use Rattle.vd_core.specs.Devices.{Stays, BaseStays};
+
+use crate::adding::{add, call_id};
+use crate::fetching::below;
+use crate::outcome::Outcome;
+use vd_device::{Base, Settled, Store, Ticket};
+use vd_law::entry::{Event, Sector};
+use vd_law::history::History;
+use vd_passes::buffer::clear;
+use vd_passes::pass::{Fault, Pass};
+use vd_passes::shape::Shape;
+
+/// Submits the read of a pass's piece from its place in the store.
+pub(crate) fn look_at_store<S: Store>(
+    store: &mut S,
+    shape: &Shape,
+    passes: &mut Vec<Pass>,
+    pass: usize,
+)
+    requires ready { IsAt passes.old.items pass (CanRead shape.now (S.sectors store.old) (S.depth store.old) (S.flies store.old)) }
+    ensures looks { Looks shape.now pass passes.old.items passes.new.items (S.flies store.old) (S.flies store.new) (S.tells store.old) (S.tells store.new) (S.disk store.old) (S.disk store.new) (S.last store.old) (S.last store.new) }
+    ensures calm { IsCalm (S.faults store.old) (S.faults store.new) (S.late store.old) (S.late store.new) }
+    ensures stays { Stays (S.sectors store.old) (S.sectors store.new) (S.depth store.old) (S.depth store.new) (S.events store.old) (S.events store.new) }
+{
+    let p = &mut passes[pass];
+    let at = p.at + (p.first + p.done - shape.block * p.block);
+    let ticket = store.submit_read(at, p.piece);
+    p.begin_look(ticket);
+}
+
+/// Submits the read of what the base has of a pass's piece.
+pub(crate) fn look_at_base<B: Base>(
+    base: &mut B,
+    shape: &Shape,
+    passes: &mut Vec<Pass>,
+    pass: usize,
+)
+    requires ready { IsAt passes.old.items pass (λ p. CanReadBase shape.now (B.sectors base.old) (B.depth base.old) (B.flies base.old) p × (0 < below shape.now.limit (p.first + p.done) p.piece)) }
+    ensures looks { LooksAtBase shape.now pass passes.old.items passes.new.items (B.flies base.old) (B.flies base.new) }
+    ensures calm { IsCalm (B.faults base.old) (B.faults base.new) (B.late base.old) (B.late base.new) }
+    ensures stays { BaseStays (B.sectors base.old) (B.sectors base.new) (B.depth base.old) (B.depth base.new) (B.tells base.old) (B.tells base.new) (B.content base.old) (B.content base.new) }
+{
+    let p = &mut passes[pass];
+    let first = p.first + p.done;
+    let ticket = base.submit_read(first, below(shape, first, p.piece));
+    p.begin_base_look(ticket);
+}
+
+/// Sees the zeros of a piece of which the base has nothing.
+pub(crate) fn see_zeros<S: Store>(
+    store: &S,
+    passes: &mut Vec<Pass>,
+    history: &mut History,
+    pass: usize,
+    out: &mut [Sector],
+)
+    requires ready { IsAt passes.old.items pass (λ p. (p.done + p.piece ≤ length out.old) × (p.first + p.count ≤ 2 ^ 26) × (p.done + p.piece ≤ p.count) × (p.ticket ≡ None) × (p.fetch ≡ None) × CanAdd p.piece history.old (S.events store.now)) }
+    requires few { length passes.old.items ≤ 64 }
+    ensures sees { IsAt passes.old.items pass (λ p. Sees (replicate p.piece zero_sector) pass passes.old.items passes.new.items history.old.log.entries history.new.log.entries out.old out.new
+        × Extends (S.events store.now ∷ []) p.piece history.old history.new) }
+{
+    let p = &mut passes[pass];
+    let from = p.done as usize;
+    let part = &mut out[from..from + p.piece as usize];
+    clear(part);
+    let event = Event::Seen {
+        id: call_id(pass, p.call),
+        first: p.first + p.done,
+        content: part,
+    };
+    add(store, history, event);
+    p.end_piece();
+    p.spend(1, p.piece);
+}
+
+/// Settles the read of a pass's piece from the store. Where it is done its place in `out` has what was read.
+pub(crate) fn settle_store_look<S: Store>(
+    store: &mut S,
+    shape: &Shape,
+    passes: &mut Vec<Pass>,
+    history: &mut History,
+    pass: usize,
+    out: &mut [Sector],
+) -> Outcome
+    requires waiting { IsAt passes.old.items pass (λ p. (w : IsWaiting Read shape.now (S.flies store.old) p) × (w.ticket.count ≡ p.piece) × (p.done + p.piece ≤ length out.old) × CanAdd p.piece history.old (S.events store.old)) }
+    requires few { length passes.old.items ≤ 64 }
+    ensures settled { (answer : AnySettled) × (result ≡ outcome_of answer) × LookSettled answer pass passes.old.items passes.new.items history.old.log.entries history.new.log.entries
+        (S.flies store.old) (S.flies store.new) (S.tells store.old) (S.tells store.new) (S.disk store.old) (S.disk store.new) (S.last store.old) (S.last store.new) out.old out.new
+        × IsAt passes.old.items pass (λ p. Extends (read_numbers_of answer (S.events store.new)) (read_sectors_of answer p.piece) history.old history.new)
+        × IsCaused answer (S.faults store.old) (S.faults store.new) (S.late store.old) (S.late store.new) }
+    ensures stays { Stays (S.sectors store.old) (S.sectors store.new) (S.depth store.old) (S.depth store.new) (S.events store.old) (S.events store.new) }
+{
+    let p = &mut passes[pass];
+    let id = call_id(pass, p.call);
+    let first = p.first + p.done;
+    let from = p.done as usize;
+    let part = &mut out[from..from + p.piece as usize];
+    let ticket = p.take_ticket();
+    match store.settle(ticket, part) {
+        Settled::Done => {
+            let content = part;
+            add(store, history, Event::Seen { id, first, content });
+            p.end_piece();
+            p.spend(1, p.piece);
+            Outcome::Done
+        }
+        Settled::NotYet(ticket) => {
+            p.put_ticket(ticket);
+            Outcome::Late
+        }
+        Settled::Failed(number) => {
+            p.fail(Fault::Store(number));
+            Outcome::Failed
+        }
+    }
+}
+
+/// Settles a base read at the front of a part, and makes the rest of it zeros.
+fn settle_part<B: Base>(base: &mut B, ticket: Ticket, part: &mut [Sector]) -> Settled
+    requires mine { IsInFlight (B.flies base.old) ticket }
+    requires kind { ticket.kind ≡ Read }
+    requires fits { ticket.count ≤ length part.old }
+    ensures settled { BufferSettled result ticket part.old part.new (B.flies base.old) (B.flies base.new) (B.tells base.new) (B.content base.new) }
+    ensures cause { IsCaused result (B.faults base.old) (B.faults base.new) (B.late base.old) (B.late base.new) }
+    ensures stays { BaseStays (B.sectors base.old) (B.sectors base.new) (B.depth base.old) (B.depth base.new) (B.tells base.old) (B.tells base.new) (B.content base.old) (B.content base.new) }
+{
+    let count = ticket.count() as usize;
+    let (front, back) = part.split_at_mut(count);
+    let answer = base.settle(ticket, front);
+    if let Settled::Done = &answer {
+        clear(back);
+    }
+    answer
+}
+
+/// Settles the read of a pass's piece from the base. Where it is done its place in `out` has what was read, and zeros behind it.
+pub(crate) fn settle_base_look<S: Store, B: Base>(
+    store: &S,
+    base: &mut B,
+    shape: &Shape,
+    passes: &mut Vec<Pass>,
+    history: &mut History,
+    pass: usize,
+    out: &mut [Sector],
+) -> Outcome
+    requires waiting { IsAt passes.old.items pass (λ p. (w : IsWaitingForBase shape.now (B.flies base.old) p) × (w.ticket.count ≤ p.piece) × (p.done + p.piece ≤ length out.old) × CanAdd p.piece history.old (S.events store.now)) }
+    requires few { length passes.old.items ≤ 64 }
+    ensures settled { (answer : AnySettled) × (result ≡ outcome_of answer) × BaseLookSettled answer shape.now pass passes.old.items passes.new.items history.old.log.entries history.new.log.entries
+        (B.flies base.old) (B.flies base.new) (B.tells base.new) (B.content base.new) out.old out.new
+        × IsAt passes.old.items pass (λ p. Extends (read_numbers_of answer (S.events store.now)) (read_sectors_of answer p.piece) history.old history.new)
+        × IsCaused answer (B.faults base.old) (B.faults base.new) (B.late base.old) (B.late base.new) }
+    ensures stays { BaseStays (B.sectors base.old) (B.sectors base.new) (B.depth base.old) (B.depth base.new) (B.tells base.old) (B.tells base.new) (B.content base.old) (B.content base.new) }
+{
+    let p = &mut passes[pass];
+    let id = call_id(pass, p.call);
+    let first = p.first + p.done;
+    let from = p.done as usize;
+    let part = &mut out[from..from + p.piece as usize];
+    let ticket = p.take_fetch();
+    match settle_part(base, ticket, part) {
+        Settled::Done => {
+            let content = part;
+            add(store, history, Event::Seen { id, first, content });
+            p.end_piece();
+            p.spend(1, p.piece);
+            Outcome::Done
+        }
+        Settled::NotYet(ticket) => {
+            p.put_fetch(ticket);
+            Outcome::Late
+        }
+        Settled::Failed(number) => {
+            p.fail(Fault::Base(number));
+            Outcome::Failed
+        }
+    }
+}

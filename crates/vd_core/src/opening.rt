@@ -1,0 +1,242 @@
+//! A core is made over two devices, and taken apart.
+
+ghost use Rattle.std.specs.Prelude.{ℕ, ◌≡◌, ◌+◌, ◌*◌, ◌^◌, ◌<◌, ◌≤◌, ◌++◌, [], ◌∷◌, None, false, replicate, min, IfOk, IfErr, length, slice_get, Some, vec_capacity};
+ghost use Rattle.vd_format.specs.Headers.{IsValid};
+ghost use Rattle.vd_format.specs.Layouts.{blocks_of, chunks_of, storage_start, need_of};
+ghost use Rattle.vd_passes.specs.declared.pass.Pass.{Pass as AnyPass};
+ghost use Rattle.vd_passes.specs.declared.pass.Phase.TheVariants.{Idle};
+ghost use Rattle.vd_law.specs.Rules.{IsRegular, IsLegal};
+ghost use Rattle.vd_passes.specs.Passes.{IsNew};
+ghost use Rattle.vd_core.specs.Opening.{shape_of, AreNew, IsOpened, empty_history};
+
+use crate::state::Core;
+use std::alloc::Global;
+use vd_bits::bits::Bits;
+use vd_device::{Base, Store};
+use vd_format::Header;
+use vd_header::layout_of;
+use vd_law::entry::{NoMemory, Room};
+use vd_law::history::History;
+use vd_passes::buffer::Buffer;
+use vd_passes::pass::Pass;
+use vd_passes::shape::Shape;
+use vd_regions::regions::Regions;
+use vd_table::table::Table;
+
+/// The devices of a core for which there was no memory.
+pub struct Unopened<S, B> {
+    pub store: S,
+    pub base: B,
+}
+
+/// What a core leaves.
+pub struct Closed<S, B> {
+    pub store: S,
+    pub base: B,
+    pub history: History,
+}
+
+/// The shape of the disk of an image with this header, over a base of so many sectors.
+fn shape_of(header: &Header, base_sectors: u64) -> Shape
+    requires { IsValid header.now }
+    ensures { result ≡ shape_of header.now base_sectors }
+{
+    let layout = layout_of(header);
+    Shape {
+        block: header.block.into(),
+        chunk: header.chunk.into(),
+        blocks: layout.blocks.into(),
+        tracked: header.tracked,
+        limit: base_sectors.min(header.tracked),
+        storage_at: layout.storage_at,
+    }
+}
+
+/// Ends passes with nothing in flight.
+fn end_passes(passes: Vec<Pass>) {
+    let mut passes = passes;
+    while let Some(p) = passes.pop() {
+        let Pass {
+            phase: _,
+            call: _,
+            write: _,
+            first: _,
+            count: _,
+            done: _,
+            block: _,
+            piece: _,
+            at: _,
+            fault: _,
+            ticket,
+            fetch,
+            events: _,
+            sectors: _,
+            buffer: _,
+        } = p;
+        if let Some(ticket) = ticket {
+            ticket.spend();
+        }
+        if let Some(fetch) = fetch {
+            fetch.spend();
+        }
+    }
+    passes.destroy_empty();
+}
+
+/// The parts of a core that take memory, but for its passes.
+#[derive(Drop)]
+struct Parts {
+    table: Table,
+    fresh: Bits,
+    regions: Regions,
+    history: History,
+}
+
+/// The parts for an image with this header, in which no block is local, opened when its store has had so many events.
+fn new_parts(
+    alloc: Global,
+    header: &Header,
+    passes: u32,
+    room: Room,
+    events: u64,
+) -> Result<Parts, NoMemory>
+    requires header { IsValid header.now }
+    requires some { 0 < passes }
+    requires most { passes ≤ 64 }
+    ensures table { IfOk result (λ parts. parts.table ≡ record { chunks = replicate (chunks_of header.now) None; storage = header.now.storage }) }
+    ensures fresh { IfOk result (λ parts. parts.fresh ≡ record { chunk = header.now.chunk; bits = replicate (blocks_of header.now) false }) }
+    ensures regions { IfOk result (λ parts. parts.regions ≡ replicate passes None) }
+    ensures history { IfOk result (λ parts. parts.history ≡ empty_history room events) }
+{
+    let layout = layout_of(header);
+    let mut history = History::new(alloc, room)?;
+    history.open_at(events);
+    Ok(Parts {
+        table: Table::new(alloc, layout.chunks, header.storage)?,
+        fresh: Bits::new(alloc, layout.blocks, header.chunk)?,
+        regions: Regions::new(alloc, passes)?,
+        history,
+    })
+}
+
+fn push_pass(passes: &mut Vec<Pass>, buffer: Buffer)
+    requires { length passes.old.items < vec_capacity passes.old }
+    ensures pass { (p : AnyPass) × IsNew buffer p × (passes.new.items ≡ passes.old.items ++ p ∷ []) }
+    ensures room { vec_capacity passes.old ≤ vec_capacity passes.new }
+{
+    match passes.push(Pass::new(buffer)) {
+        Ok(()) => {}
+        Err(_) => unreachable!(),
+    }
+}
+
+/// So many passes that have asked nothing yet.
+fn new_passes(alloc: Global, count: u32, block: usize) -> Result<Vec<Pass>, NoMemory>
+    ensures { IfOk result (λ passes. AreNew count block passes.items) }
+{
+    let mut passes = Vec::with_capacity(alloc, count as usize)?;
+    for _ in 0..count {
+        match Buffer::zeros(alloc, block) {
+            Ok(buffer) => push_pass(&mut passes, buffer),
+            Err(_) => {
+                end_passes(passes);
+                return Err(NoMemory);
+            }
+        }
+    }
+    Ok(passes)
+}
+
+/// So much room.
+fn room_of(events: u64, sectors: u64) -> Room
+    ensures room { result ≡ record { events = events; sectors = sectors } }
+    ensures bounded { events < 2 ^ 64 }
+{
+    Room { events, sectors }
+}
+
+impl<S: Store, B: Base> Core<S, B> {
+    /// A core over the store of an image with this header, in which no block is local and no journal record counts, and over
+    /// its base, with 1 to 64 passes and room for a history. Nothing is in flight on either device. Want of memory hands both back.
+    pub fn new(
+        alloc: Global,
+        store: S,
+        base: B,
+        header: &Header,
+        passes: u32,
+        room: Room,
+    ) -> Result<Core<S, B>, Unopened<S, B>>
+        requires header { IsValid header.now }
+        requires fits { need_of header.now ≤ S.sectors store }
+        requires idle { S.flies store [] }
+        requires base_idle { B.flies base [] }
+        requires some { 0 < passes }
+        requires most { passes ≤ 64 }
+        ensures back { IfErr result (λ refused. (refused.store ≡ store) × (refused.base ≡ base)) }
+        ensures opened { IfOk result (λ core. IsOpened header.now passes room store base (B.sectors base) (S.events store) core) }
+    {
+        let _known = (
+            store.sectors(),
+            store.depth(),
+            store.in_flight(),
+            base.depth(),
+        );
+        let shape = shape_of(header, base.sectors());
+        let spare = room_of(room.events, room.sectors);
+        match new_parts(alloc, header, passes, room, store.events()) {
+            Err(NoMemory) => Err(Unopened { store, base }),
+            Ok(parts) => match new_passes(alloc, passes, shape.block as usize) {
+                Err(NoMemory) => Err(Unopened { store, base }),
+                Ok(passes) => {
+                    let Parts {
+                        table,
+                        fresh,
+                        regions,
+                        history,
+                    } = parts;
+                    Ok(Core {
+                        store,
+                        base,
+                        shape,
+                        table,
+                        fresh,
+                        regions,
+                        passes,
+                        history,
+                        spare,
+                    })
+                }
+            },
+        }
+    }
+
+    /// Takes the core apart, once all passes are idle. Nothing is in flight on either device.
+    pub fn finish(self) -> Closed<S, B>
+        requires idle { (i : ℕ) (p : AnyPass) → slice_get self.passes i ≡ Some p → p.phase ≡ Idle }
+        ensures store { result.store ≡ self.store }
+        ensures base { result.base ≡ self.base }
+        ensures history { result.history ≡ self.history }
+        ensures calm { S.flies result.store [] }
+        ensures base_calm { B.flies result.base [] }
+        ensures regular { IsRegular (self.shape.block * self.shape.blocks) result.history.log.entries }
+        ensures legal { S.tells result.store → B.tells result.base → IsLegal self.start result.history.log.entries }
+    {
+        let Core {
+            store,
+            base,
+            shape: _,
+            table: _,
+            fresh: _,
+            regions: _,
+            passes,
+            history,
+            spare: _,
+        } = self;
+        end_passes(passes);
+        Closed {
+            store,
+            base,
+            history,
+        }
+    }
+}

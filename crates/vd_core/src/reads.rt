@@ -1,0 +1,160 @@
+//! The steps of a read: a pass that holds its block looks at its piece.
+
+ghost use Rattle.std.specs.Prelude.{◌≡◌, ◌⊎◌, ◌+◌, ◌*◌, ◌<◌, ◌≤◌, [], ◌∷◌, true, false, None, Some, IsSome, length, slice_get};
+ghost use Rattle.vd_device.specs.declared.settled.Settled.{Settled as AnySettled};
+ghost use Rattle.vd_device.specs.Calls.{IsCalm, IsCaused};
+ghost use Rattle.vd_passes.specs.declared.pass.Phase.TheVariants.{Held, Looking};
+ghost use Rattle.vd_passes.specs.Laying.{below};
+ghost use Rattle.vd_passes.specs.Steps.{IsAt, Looks, LooksAtBase, SeesZeros, LookSettled, BaseLookSettled};
+ghost use Rattle.vd_core.specs.Adding.{Extends};
+ghost use Rattle.vd_core.specs.Devices.{Stays};
+ghost use Rattle.vd_core.specs.Outcomes.{outcome_of, read_numbers_of, read_sectors_of, step_of};
+ghost use Rattle.vd_core.specs.Looking.{IsReader, LooksSomewhere, SettlesLook};
+
+use crate::fetching::below;
+use crate::looking::{look_at_base, look_at_store, see_zeros, settle_base_look, settle_store_look};
+use crate::outcome::{Step, release};
+use crate::state::Core;
+use vd_device::{Base, Store};
+use vd_law::entry::Sector;
+
+impl<S: Store, B: Base> Core<S, B> {
+    /// The look at a piece whose block is fresh.
+    fn look_in_store(&mut self, pass: u32)
+        requires phase { IsAt self.old.passes pass (λ p. IsReader p × (slice_get self.old.fresh p.block ≡ Some true)) }
+        ensures looks { Looks self.old.shape pass self.old.passes self.new.passes (S.flies self.old.store) (S.flies self.new.store) (S.tells self.old.store) (S.tells self.new.store) (S.disk self.old.store) (S.disk self.new.store) (S.last self.old.store) (S.last self.new.store) }
+        ensures calm { IsCalm (S.faults self.old.store) (S.faults self.new.store) (S.late self.old.store) (S.late self.new.store) }
+        ensures stays { Stays (S.sectors self.old.store) (S.sectors self.new.store) (S.depth self.old.store) (S.depth self.new.store) (S.events self.old.store) (S.events self.new.store) }
+        ensures others { self.new ≡ record self.old { store = self.new.store; passes = self.new.passes } }
+    {
+        look_at_store(
+            &mut self.store,
+            &self.shape,
+            &mut self.passes,
+            pass as usize,
+        );
+    }
+
+    /// The look at a piece of which the base has something.
+    fn look_in_base(&mut self, pass: u32)
+        requires phase { IsAt self.old.passes pass (λ p. IsReader p × (slice_get self.old.fresh p.block ≡ Some false) × (0 < below self.old.shape.limit (p.first + p.done) p.piece)) }
+        ensures looks { LooksAtBase self.old.shape pass self.old.passes self.new.passes (B.flies self.old.base) (B.flies self.new.base) }
+        ensures calm { IsCalm (B.faults self.old.base) (B.faults self.new.base) (B.late self.old.base) (B.late self.new.base) }
+        ensures others { self.new ≡ record self.old { base = self.new.base; passes = self.new.passes; start = self.new.start } }
+        ensures told_before { B.tells self.new.base → B.tells self.old.base }
+        ensures start { B.tells self.new.base → self.new.start ≡ self.old.start }
+    {
+        look_at_base(&mut self.base, &self.shape, &mut self.passes, pass as usize);
+    }
+
+    /// The look at a piece that is zeros.
+    fn look_at_zeros(&mut self, pass: u32, out: &mut [Sector])
+        requires phase { IsAt self.old.passes pass (λ p. IsReader p × (slice_get self.old.fresh p.block ≡ Some false) × (below self.old.shape.limit (p.first + p.done) p.piece ≡ 0) × (p.count ≡ length out.old)) }
+        ensures sees { SeesZeros self.old.shape pass self.old.passes self.new.passes self.old.history.log.entries self.new.history.log.entries out.old out.new }
+        ensures extends { IsAt self.old.passes pass (λ p. Extends (S.events self.old.store ∷ []) p.piece self.old.history self.new.history) }
+        ensures others { self.new ≡ record self.old { passes = self.new.passes; history = self.new.history } }
+    {
+        see_zeros(
+            &self.store,
+            &mut self.passes,
+            &mut self.history,
+            pass as usize,
+            out,
+        );
+        self.regions.free(pass);
+    }
+
+    /// Looks at the piece of a read that holds its block: submits the read of a fresh block's piece to the store, else that of
+    /// what the base has of the piece; where it has nothing the piece of `out` is zeros at once, and the piece has ended.
+    pub fn look(&mut self, pass: u32, out: &mut [Sector])
+        requires phase { IsAt self.old.passes pass (λ p. IsReader p × (p.count ≡ length out.old)) }
+        ensures looks { LooksSomewhere self.old.shape self.old.fresh pass self.old.passes self.new.passes self.old.history self.new.history out.old out.new (S.events self.old.store)
+            (S.flies self.old.store) (S.flies self.new.store) (S.tells self.old.store) (S.tells self.new.store) (S.disk self.old.store) (S.disk self.new.store) (S.last self.old.store) (S.last self.new.store) (B.flies self.old.base) (B.flies self.new.base) }
+        ensures calm { IsCalm (S.faults self.old.store) (S.faults self.new.store) (S.late self.old.store) (S.late self.new.store) }
+        ensures base_calm { IsCalm (B.faults self.old.base) (B.faults self.new.base) (B.late self.old.base) (B.late self.new.base) }
+        ensures stays { Stays (S.sectors self.old.store) (S.sectors self.new.store) (S.depth self.old.store) (S.depth self.new.store) (S.events self.old.store) (S.events self.new.store) }
+        ensures store_same { IsAt self.old.passes pass (λ p. slice_get self.old.fresh p.block ≡ Some false → self.new.store ≡ self.old.store) }
+        ensures base_same { IsAt self.old.passes pass (λ p. (slice_get self.old.fresh p.block ≡ Some true) ⊎ (below self.old.shape.limit (p.first + p.done) p.piece ≡ 0) → self.new.base ≡ self.old.base) }
+        ensures others { self.new ≡ record self.old { store = self.new.store; base = self.new.base; passes = self.new.passes; history = self.new.history; start = self.new.start } }
+        ensures told_before { S.tells self.new.store → S.tells self.old.store }
+        ensures base_told_before { B.tells self.new.base → B.tells self.old.base }
+        ensures start { B.tells self.new.base → self.new.start ≡ self.old.start }
+    {
+        let p = &self.passes[pass as usize];
+        let count = below(&self.shape, p.first + p.done, p.piece);
+        if self.fresh.get(p.block as u32) {
+            self.look_in_store(pass);
+        } else if count > 0 {
+            self.look_in_base(pass);
+        } else {
+            self.look_at_zeros(pass, out);
+        }
+    }
+
+    /// Settles a look in the store.
+    fn settle_store(&mut self, pass: u32, out: &mut [Sector]) -> Step
+        requires phase { IsAt self.old.passes pass (λ p. (p.phase ≡ Looking) × IsSome p.ticket × (p.count ≡ length out.old)) }
+        ensures settled { (answer : AnySettled) × (result ≡ step_of (outcome_of answer)) × LookSettled answer pass self.old.passes self.new.passes self.old.history.log.entries self.new.history.log.entries
+            (S.flies self.old.store) (S.flies self.new.store) (S.tells self.old.store) (S.tells self.new.store) (S.disk self.old.store) (S.disk self.new.store) (S.last self.old.store) (S.last self.new.store) out.old out.new
+            × IsAt self.old.passes pass (λ p. Extends (read_numbers_of answer (S.events self.new.store)) (read_sectors_of answer p.piece) self.old.history self.new.history)
+            × IsCaused answer (S.faults self.old.store) (S.faults self.new.store) (S.late self.old.store) (S.late self.new.store) }
+        ensures stays { Stays (S.sectors self.old.store) (S.sectors self.new.store) (S.depth self.old.store) (S.depth self.new.store) (S.events self.old.store) (S.events self.new.store) }
+        ensures others { self.new ≡ record self.old { store = self.new.store; passes = self.new.passes; history = self.new.history } }
+    {
+        let outcome = settle_store_look(
+            &mut self.store,
+            &self.shape,
+            &mut self.passes,
+            &mut self.history,
+            pass as usize,
+            out,
+        );
+        release(&mut self.regions, pass, outcome)
+    }
+
+    /// Settles a look in the base.
+    fn settle_base(&mut self, pass: u32, out: &mut [Sector]) -> Step
+        requires phase { IsAt self.old.passes pass (λ p. (p.phase ≡ Looking) × (p.ticket ≡ None) × (p.count ≡ length out.old)) }
+        ensures settled { (answer : AnySettled) × (result ≡ step_of (outcome_of answer)) × BaseLookSettled answer self.old.shape pass self.old.passes self.new.passes self.old.history.log.entries self.new.history.log.entries
+            (B.flies self.old.base) (B.flies self.new.base) (B.tells self.new.base) (B.content self.new.base) out.old out.new
+            × IsAt self.old.passes pass (λ p. Extends (read_numbers_of answer (S.events self.old.store)) (read_sectors_of answer p.piece) self.old.history self.new.history)
+            × IsCaused answer (B.faults self.old.base) (B.faults self.new.base) (B.late self.old.base) (B.late self.new.base) }
+        ensures others { self.new ≡ record self.old { base = self.new.base; passes = self.new.passes; history = self.new.history; start = self.new.start } }
+        ensures told_before { B.tells self.new.base → B.tells self.old.base }
+        ensures start { B.tells self.new.base → self.new.start ≡ self.old.start }
+    {
+        let outcome = settle_base_look(
+            &self.store,
+            &mut self.base,
+            &self.shape,
+            &mut self.passes,
+            &mut self.history,
+            pass as usize,
+            out,
+        );
+        release(&mut self.regions, pass, outcome)
+    }
+
+    /// Settles the look of a pass. Where it is done the piece's place in `out` has what was seen; where it failed the pass is
+    /// ready with the fault of the device that was read.
+    pub fn settle_look(&mut self, pass: u32, out: &mut [Sector]) -> Step
+        requires phase { IsAt self.old.passes pass (λ p. (p.phase ≡ Looking) × (p.count ≡ length out.old)) }
+        ensures settled { (answer : AnySettled) × (result ≡ step_of (outcome_of answer)) × SettlesLook answer self.old.shape pass self.old.passes self.new.passes self.old.history self.new.history out.old out.new (S.events self.new.store)
+            (S.flies self.old.store) (S.flies self.new.store) (S.tells self.old.store) (S.tells self.new.store) (S.disk self.old.store) (S.disk self.new.store) (S.last self.old.store) (S.last self.new.store)
+            (B.flies self.old.base) (B.flies self.new.base) (B.tells self.new.base) (B.content self.new.base)
+            (S.faults self.old.store) (S.faults self.new.store) (S.late self.old.store) (S.late self.new.store) (B.faults self.old.base) (B.faults self.new.base) (B.late self.old.base) (B.late self.new.base) }
+        ensures stays { Stays (S.sectors self.old.store) (S.sectors self.new.store) (S.depth self.old.store) (S.depth self.new.store) (S.events self.old.store) (S.events self.new.store) }
+        ensures store_same { IsAt self.old.passes pass (λ p. p.ticket ≡ None → self.new.store ≡ self.old.store) }
+        ensures base_same { IsAt self.old.passes pass (λ p. IsSome p.ticket → self.new.base ≡ self.old.base) }
+        ensures others { self.new ≡ record self.old { store = self.new.store; base = self.new.base; passes = self.new.passes; history = self.new.history; start = self.new.start } }
+        ensures told_before { S.tells self.new.store → S.tells self.old.store }
+        ensures base_told_before { B.tells self.new.base → B.tells self.old.base }
+        ensures start { B.tells self.new.base → self.new.start ≡ self.old.start }
+    {
+        if self.passes[pass as usize].ticket.is_some() {
+            self.settle_store(pass, out)
+        } else {
+            self.settle_base(pass, out)
+        }
+    }
+}

@@ -1,0 +1,114 @@
+//! The steps of a write: a pass enters a block, fills its buffer with it where it must, and issues its piece.
+
+ghost use Rattle.std.specs.Prelude.{◌≡◌, ◌≢◌, ◌⊎◌, ◌+◌, ◌*◌, ◌<◌, ◌≤◌, [], ◌∷◌, true, false, map, Some, IfErr, OnErr, OnOk, length, slice_get};
+ghost use Rattle.vd_device.specs.declared.settled.Settled.{Settled as AnySettled};
+ghost use Rattle.vd_device.specs.Calls.{IsCalm, IsCaused};
+ghost use Rattle.vd_passes.specs.declared.pass.Phase.TheVariants.{Asked, Held, Fetching, Filled, Issuing};
+ghost use Rattle.vd_passes.specs.Passes.{region_of};
+ghost use Rattle.vd_passes.specs.Steps.{IsAt, HasAskedWrite, FetchSettled, Issues, WriteSettled};
+ghost use Rattle.vd_core.specs.Adding.{Extends};
+ghost use Rattle.vd_core.specs.Outcomes.{outcome_of, numbers_of, step_of};
+ghost use Rattle.vd_core.specs.Devices.{Stays};
+ghost use Rattle.vd_core.specs.Entering.{IsKeptOut, EntersBlock};
+ghost use Rattle.vd_core.specs.Fetching.{FetchesBlock};
+ghost use Rattle.vd_core.specs.Issuing.{IsWritable};
+
+use crate::entering::enter_block;
+use crate::fetching::{fetch_block, settle_block};
+use crate::issuing::{issue_piece, settle_write};
+use crate::outcome::{Step, release, release_failed};
+use crate::state::Core;
+use vd_device::{Base, Store};
+use vd_law::entry::Sector;
+use vd_regions::regions::Busy;
+
+impl<S: Store, B: Base> Core<S, B> {
+    /// Gives a pass that has asked the region of its next piece's block, to itself for a write, else shared. Busy comes
+    /// exactly where another pass holds the block and one of the two writes, by the lowest such pass; then nothing changes.
+    pub fn enter(&mut self, pass: u32) -> Result<(), Busy>
+        requires phase { IsAt self.old.passes pass (λ p. p.phase ≡ Asked) }
+        ensures busy { IfErr result (λ busy. IsKeptOut self.old.shape (map region_of self.old.passes) (map region_of self.new.passes) pass self.old.passes self.new.passes busy.by) }
+        ensures enters { OnOk result (EntersBlock self.old.shape self.old.table.chunks (map region_of self.old.passes) (map region_of self.new.passes) pass self.old.passes self.new.passes) }
+        ensures others { self.new ≡ record self.old { passes = self.new.passes } }
+    {
+        enter_block(
+            &self.shape,
+            &self.table,
+            &mut self.regions,
+            &mut self.passes,
+            pass as usize,
+        )
+    }
+
+    /// Submits the base read of the block of a write's piece, or fills the buffer at once where the base has nothing of the
+    /// block. The block isn't fresh.
+    pub fn fetch(&mut self, pass: u32)
+        requires phase { IsAt self.old.passes pass (λ p. (p.phase ≡ Held) × (p.write ≡ true) × (slice_get self.old.fresh p.block ≡ Some false)) }
+        ensures fetches { FetchesBlock self.old.shape pass self.old.passes self.new.passes (B.flies self.old.base) (B.flies self.new.base) }
+        ensures calm { IsCalm (B.faults self.old.base) (B.faults self.new.base) (B.late self.old.base) (B.late self.new.base) }
+        ensures others { self.new ≡ record self.old { base = self.new.base; passes = self.new.passes; start = self.new.start } }
+        ensures told_before { B.tells self.new.base → B.tells self.old.base }
+        ensures start { B.tells self.new.base → self.new.start ≡ self.old.start }
+    {
+        fetch_block(&mut self.base, &self.shape, &mut self.passes, pass as usize);
+    }
+
+    /// Settles that read. Where it failed the pass is ready with a base fault. `out`, which is empty for a write, is left as it is.
+    pub fn settle_fetch(&mut self, pass: u32, out: &mut [Sector]) -> Step
+        requires phase { IsAt self.old.passes pass (λ p. p.phase ≡ Fetching) }
+        ensures settled { (answer : AnySettled) × (result ≡ step_of (outcome_of answer)) × FetchSettled answer self.old.shape pass self.old.passes self.new.passes (B.flies self.old.base) (B.flies self.new.base) (B.tells self.new.base) (B.content self.new.base)
+            × IsCaused answer (B.faults self.old.base) (B.faults self.new.base) (B.late self.old.base) (B.late self.new.base) }
+        ensures out { out.new ≡ out.old }
+        ensures others { self.new ≡ record self.old { base = self.new.base; passes = self.new.passes; start = self.new.start } }
+        ensures told_before { B.tells self.new.base → B.tells self.old.base }
+        ensures start { B.tells self.new.base → self.new.start ≡ self.old.start }
+    {
+        let _ = out;
+        let outcome = settle_block(&mut self.base, &self.shape, &mut self.passes, pass as usize);
+        release_failed(&mut self.regions, pass, outcome)
+    }
+
+    /// Issues the piece of a write whose whole content this is, and submits the store's write: of the piece where the block is
+    /// fresh or the piece is all of it, else of the block in the buffer with the piece laid over it.
+    pub fn issue(&mut self, pass: u32, content: &[Sector])
+        requires phase { IsAt self.old.passes pass (IsWritable self.old.shape self.old.fresh) }
+        requires content { HasAskedWrite self.old.history.log.entries pass content.now }
+        ensures issues { Issues self.old.shape self.old.fresh content.now pass self.old.passes self.new.passes self.old.history.log.entries self.new.history.log.entries
+            (S.flies self.old.store) (S.flies self.new.store) (S.tells self.old.store) (S.tells self.new.store) (S.disk self.old.store) (S.disk self.new.store) (S.last self.old.store) (S.last self.new.store) }
+        ensures extends { IsAt self.old.passes pass (λ p. Extends (S.events self.old.store ∷ []) p.piece self.old.history self.new.history) }
+        ensures calm { IsCalm (S.faults self.old.store) (S.faults self.new.store) (S.late self.old.store) (S.late self.new.store) }
+        ensures stays { Stays (S.sectors self.old.store) (S.sectors self.new.store) (S.depth self.old.store) (S.depth self.new.store) (S.events self.old.store) (S.events self.new.store) }
+        ensures others { self.new ≡ record self.old { store = self.new.store; passes = self.new.passes; history = self.new.history } }
+    {
+        issue_piece(
+            &mut self.store,
+            &self.shape,
+            &self.fresh,
+            &mut self.passes,
+            &mut self.history,
+            pass as usize,
+            content,
+        );
+    }
+
+    /// Settles the write of a pass. Where it is done its block is fresh; where it failed the pass is ready with a store fault.
+    pub fn settle_issue(&mut self, pass: u32) -> Step
+        requires phase { IsAt self.old.passes pass (λ p. p.phase ≡ Issuing) }
+        ensures settled { (answer : AnySettled) × (result ≡ step_of (outcome_of answer)) × WriteSettled answer pass self.old.fresh self.new.fresh self.old.passes self.new.passes self.old.history.log.entries self.new.history.log.entries
+            (S.flies self.old.store) (S.flies self.new.store) (S.tells self.old.store) (S.tells self.new.store) (S.disk self.old.store) (S.disk self.new.store) (S.last self.old.store) (S.last self.new.store)
+            × Extends (numbers_of answer (S.events self.new.store)) 0 self.old.history self.new.history
+            × IsCaused answer (S.faults self.old.store) (S.faults self.new.store) (S.late self.old.store) (S.late self.new.store) }
+        ensures stays { Stays (S.sectors self.old.store) (S.sectors self.new.store) (S.depth self.old.store) (S.depth self.new.store) (S.events self.old.store) (S.events self.new.store) }
+        ensures others { self.new ≡ record self.old { store = self.new.store; fresh = self.new.fresh; passes = self.new.passes; history = self.new.history } }
+    {
+        let outcome = settle_write(
+            &mut self.store,
+            &self.shape,
+            &mut self.fresh,
+            &mut self.passes,
+            &mut self.history,
+            pass as usize,
+        );
+        release(&mut self.regions, pass, outcome)
+    }
+}

@@ -1,0 +1,378 @@
+-- Asking and replying keep a core coherent, and true to its devices.
+use Rattle.std.proofs.Common.{◌≡◌, ◌≢◌, ℕ, ◌+◌, ◌*◌, ◌<◌, ◌≤◌, ◌==◌, Bool, true, false, List, [], ◌∷◌, ◌++◌, length, refl, sym, ◌∙◌, ap, subst, inl, inr, arith, Option, Some, None, slice_get, slice_set}
+use Rattle.std.specs.List.{Contains}
+use Rattle.std.proofs.lemmas.Bool.{eq-eqb, eqb-true, cases_Bool}
+use Rattle.std.proofs.lemmas.List.{append_assoc}
+use Rattle.vd_law.specs.declared.entry.Sector.{Sector}
+use Rattle.vd_law.specs.declared.entry.CallId.{CallId}
+use Rattle.vd_law.specs.declared.entry.Answer.{Answer}
+use Rattle.vd_law.specs.declared.entry.Answer.TheVariants.{Full}
+use Rattle.vd_law.specs.Entries.{Asked, Read, Write, Flush, Entry, Ask, Reply, past}
+use Rattle.vd_law.specs.Calls.{Progress, unasked, gone_on}
+use Rattle.vd_law.specs.Rules.{Each, IsInside, IsReply, IsRegular, IsShown}
+use Rattle.vd_device.specs.declared.ticket.Ticket.{Ticket}
+use Rattle.vd_device.specs.Disks.{Disk}
+use Rattle.vd_passes.specs.declared.shape.Shape.{Shape}
+use Rattle.vd_passes.specs.declared.pass.Pass.{Pass}
+use Rattle.vd_passes.specs.declared.pass.Phase.TheVariants.{Idle, Issuing, Ready}
+use Rattle.vd_passes.specs.declared.pass.Fault.{Fault}
+use Rattle.vd_passes.specs.declared.pass.Fault.TheVariants as fault
+use Rattle.vd_passes.specs.Standings.{Standing, standing}
+use Rattle.vd_passes.specs.Places.{ArePlaces, Extends}
+use Rattle.vd_passes.specs.Tracks.{Track, track, writes}
+use Rattle.vd_passes.specs.Needs.{sectors_of}
+use Rattle.vd_passes.specs.Coherent.{IsCoherent, IsFaithful, StandsFor}
+use Rattle.vd_passes.specs.Steps.{IsAt, HasAskedWrite, Asks, AsksFull, Replies}
+use Rattle.vd_passes.proofs.Tracks.{track-more, track-writes, ask-same, reply-same}
+use Rattle.vd_passes.proofs.Standing.{last_of, next_of, standing-other, standing-own, standing-ask, regular-ask, regular-reply, shown-push}
+use Rattle.vd_passes.proofs.Lists.{some-inj, tickets-same, fetches-same}
+use Rattle.vd_passes.proofs.Growing.{grown-coherent, grown-faithful}
+use Rattle.vd_passes.proofs.Calm.{calm-coherent, calm-faithful, apart-free}
+use Rattle.vd_passes.specs.Passes.{has_region, writes_in, call_of, IsRequestOf, HasNone, HasTicket, pending_of, HasOutcome, StandsAs, after_ask, after_reply, answer_by}
+
+-- each block that a write touches has a place
+abbrev pub IsPlaced : (block : ℕ) → (ℕ → Option ℕ) → Asked → Type 0
+IsPlaced block places (Read first count) = Unit {0}
+IsPlaced block places (Write first content) = (b : ℕ) → block * b < first + length content → first < block * b + block → (x : ℕ) × (places b ≡ Some x)
+IsPlaced block places Flush = Unit {0}
+
+-- How a call stands that has asked its request alone.
+abbrev pub asked_for : ℕ → Asked → Standing
+asked_for call request = record { call = call; progress = record unasked { asked = Some request } }
+
+pub stands-asked : {shape : Shape} {fresh : List Bool} {places : ℕ → Option ℕ} {t : Standing} {p : Pass} (r : Asked) (events sectors : ℕ) → StandsAs shape fresh places t p → p.phase ≡ Idle
+    → 0 < sectors_of r → IsInside (shape.block * shape.blocks) r → IsPlaced shape.block places r → StandsAs shape fresh places (asked_for (p.call + 1) r) (after_ask p r events sectors)
+stands-asked {shape} {fresh} {places} {t} {p} (Read first count) events sectors stands idle some inside placed =
+    let none : HasNone p = subst (λ ph. HasTicket ph shape fresh p) idle stands.ticket in record {
+      call = refl;
+      idle = λ e. absurd (cc);
+      busy = λ e. (Read first count, refl, (refl, refl, refl));
+      unanswered = λ e. refl;
+      done = λ e. refl;
+      range = λ e. (inside, omega arith);
+      pending = λ e. refl;
+      whole = λ e f. (refl, refl);
+      ready = λ e. absurd (cc);
+      write = λ e. absurd (cc);
+      read = λ e. absurd (cc);
+      left = λ e. some;
+      placed = λ e w. absurd (cc);
+      piece = λ e. absurd (cc);
+      at = λ e. absurd (cc);
+      ticket = record { ticket = none.ticket; fetch = none.fetch };
+      buffer = stands.buffer;
+    }
+stands-asked {shape} {fresh} {places} {t} {p} (Write first content) events sectors stands idle some inside placed =
+    let none : HasNone p = subst (λ ph. HasTicket ph shape fresh p) idle stands.ticket in record {
+      call = refl;
+      idle = λ e. absurd (cc);
+      busy = λ e. (Write first content, refl, (refl, refl, refl));
+      unanswered = λ e. refl;
+      done = λ e. refl;
+      range = λ e. (inside, omega arith);
+      pending = λ e. refl;
+      whole = λ e f. (refl, refl);
+      ready = λ e. absurd (cc);
+      write = λ e. absurd (cc);
+      read = λ e. absurd (cc);
+      left = λ e. some;
+      placed = λ e w b from to. placed b from to;
+      piece = λ e. absurd (cc);
+      at = λ e. absurd (cc);
+      ticket = record { ticket = none.ticket; fetch = none.fetch };
+      buffer = stands.buffer;
+    }
+stands-asked {shape} {fresh} {places} {t} {p} Flush events sectors stands idle some inside placed = absurd (omega arith)
+
+-- A pass whose last call has its reply.
+pub stands-idle : {shape : Shape} {fresh : List Bool} {places : ℕ → Option ℕ} (t : Standing) (p : Pass) → p.phase ≡ Idle → t.call ≡ p.call → t.progress.answered ≡ true → HasNone p → length p.buffer ≡ shape.block → StandsAs shape fresh places t p
+stands-idle {shape} {fresh} {places} t p idle call answered none buffer = record {
+  call = call;
+  idle = λ e f. answered;
+  busy = λ e. absurd (e idle);
+  unanswered = λ e. absurd (e idle);
+  done = λ e. absurd (e idle);
+  range = λ e. absurd (e idle);
+  pending = λ e. absurd (e idle);
+  whole = λ e. absurd (e idle);
+  ready = λ e. absurd (cc);
+  write = λ e. absurd (let w = ap writes_in idle in cc);
+  read = λ e. absurd (cc);
+  left = λ e. absurd (cc);
+  placed = λ e. absurd (e idle);
+  piece = λ e. absurd (let h = ap has_region idle in cc);
+  at = λ e. absurd (let h = ap has_region idle in cc);
+  ticket = subst (λ ph. HasTicket ph shape fresh p) (sym idle) none;
+  buffer = buffer;
+}
+
+-- What a pass that is ready replies answers its request.
+
+equal : (a b : ℕ) → a ≡ b → (a == b) ≡ true
+equal a b same = eq-eqb a b same
+
+unequal : (a b : ℕ) → a < b → (a == b) ≡ false
+unequal a b less = elim (cases_Bool (a == b)) [ inl h ↦ absurd (let e = eqb-true a b h in omega arith) | inr h ↦ h ]
+
+pub answers : (p : Pass) (r : Asked) (c : Progress) (f : Option Fault) → IsRequestOf p r → c.done ≡ p.done → c.pending ≡ 0 → HasOutcome p c.broken f → IsReply r c (answer_by f p.done)
+answers p (Read first count) c None is done none outcome = record { none_open = none; all_done = sym (equal c.done count (done ∙ outcome.0 ∙ sym is.2)); broken = tt; fits = tt }
+answers p (Read first count) c (Some (fault.Store ticket)) is done none outcome = record { none_open = none; all_done = sym (unequal c.done count (let less = outcome.0 in let e = is.2 in omega arith)); broken = tt; fits = sym done }
+answers p (Read first count) c (Some (fault.Base ticket)) is done none outcome = record { none_open = none; all_done = sym (unequal c.done count (let less = outcome.0 in let e = is.2 in omega arith)); broken = tt; fits = sym done }
+answers p (Write first content) c None is done none outcome = record { none_open = none; all_done = sym (equal c.done (length content) (done ∙ outcome.0 ∙ sym is.2)); broken = sym outcome.1; fits = tt }
+answers p (Write first content) c (Some (fault.Store ticket)) is done none outcome = record { none_open = none; all_done = sym (unequal c.done (length content) (let less = outcome.0 in let e = is.2 in omega arith)); broken = sym (outcome.1 ∙ is.0); fits = sym done }
+answers p (Write first content) c (Some (fault.Base ticket)) is done none outcome = record { none_open = none; all_done = sym (unequal c.done (length content) (let less = outcome.0 in let e = is.2 in omega arith)); broken = sym outcome.1; fits = sym done }
+answers p Flush c f is done none outcome = absurd is
+
+-- and that its store is too full answers a write that has done nothing
+pub answers-full : (first : ℕ) (content : List Sector) (needed free : ℕ) → 0 < length content → IsReply (Write first content) (record unasked { asked = Some (Write first content) }) (Full needed free)
+answers-full first content needed free some = record { none_open = refl; all_done = sym (unequal 0 (length content) some); broken = refl; fits = refl }
+
+-- A step of a pass with entries that tell no content, where it has nothing in flight before or after it.
+module _ {shape : Shape} {fresh : List Bool} {places : ℕ → Option ℕ} {passes : List Pass} {history : List Entry} {sectors depth base_sectors base_depth : ℕ} {flies base_flies : List Ticket → Type 0}
+    (co : IsCoherent shape fresh places passes history sectors depth base_sectors base_depth flies base_flies) (i : ℕ) (p : Pass) (there : slice_get passes i ≡ Some p) (none : HasNone p) (before : p.phase ≢ Issuing)
+    (p' : Pass) (none' : HasNone p') (after : has_region p'.phase ≡ false) (history' : List Entry)
+    (same : (start : List Sector) (s : ℕ) → track start history' s ≡ track start history s) where
+  not-after : p'.phase ≢ Issuing
+  not-after e = absurd (let h = ap has_region e in cc)
+
+  quiet : (s : ℕ) → writes history' s ≡ writes history s
+  quiet s = sym (track-writes [] history' s) ∙ ap (λ (t : Track). t.writes) (same [] s) ∙ track-writes [] history s
+
+  pub wordless-coherent : IsRegular (shape.block * shape.blocks) history' → ((j : ℕ) → j ≢ i → standing history' j ≡ standing history j) → StandsAs shape fresh places (standing history' i) p'
+      → IsCoherent shape fresh places (slice_set passes i p') history' sectors depth base_sectors base_depth flies base_flies
+  wordless-coherent regular others next = calm-coherent co i p there before p' not-after history' quiet flies base_flies regular others next
+      (λ k r at ne. apart-free p' r after)
+      (subst flies (sym (tickets-same passes i p p' there (none'.ticket ∙ sym none.ticket))) co.flight)
+      (subst base_flies (sym (fetches-same passes i p p' there (none'.fetch ∙ sym none.fetch))) co.base_flight)
+
+  pub wordless-faithful : {start : List Sector} {rest : ℕ → Sector} {disk : Disk} {last : ℕ} → IsFaithful start rest shape fresh places passes history disk last → Each (IsShown start) (past history')
+      → IsFaithful start rest shape fresh places (slice_set passes i p') history' disk last
+  wordless-faithful {start} {rest} {disk} {last} fa shown = calm-faithful co i p there before p' not-after history' quiet fa disk last (omega arith) shown
+      (λ t is. absurd (let e = sym is ∙ none'.ticket in cc))
+      (λ a. refl)
+      (λ s inside. subst (λ (g : Track). StandsFor shape.block fresh places rest s g (track disk.start disk.log)) (sym (same start s)) (fa.stands s inside))
+      (λ a w v among. subst (λ (g : Track). Contains g.contents v) (sym (same start w.sector)) among)
+      (λ is. absurd (let h = ap has_region is in cc))
+
+-- one more entry that tells no content
+same-after-ask : (history : List Entry) (id : CallId) (request : Asked) (start : List Sector) (s : ℕ) → track start (history ++ Ask id request ∷ []) s ≡ track start history s
+same-after-ask history id request start s = track-more start history (Ask id request) s ∙ ask-same s (track start history s) id request
+
+same-after-reply : (history : List Entry) (id : CallId) (answer : Answer) (start : List Sector) (s : ℕ) → track start (history ++ Reply id answer ∷ []) s ≡ track start history s
+same-after-reply history id answer start s = track-more start history (Reply id answer) s ∙ reply-same s (track start history s) id answer
+
+-- The call that a pass asks is the next one of its number, and the one that it serves the last.
+next-is : {shape : Shape} {fresh : List Bool} {places : ℕ → Option ℕ} (history : List Entry) (i : ℕ) {p : Pass} → StandsAs shape fresh places (standing history i) p → next_of history i ≡ record { pass = i; call = p.call + 1 }
+next-is {shape} {fresh} {places} history i {p} stands = ap (λ (n : ℕ). record { pass = i; call = n + 1 }) stands.call
+
+last-is : {shape : Shape} {fresh : List Bool} {places : ℕ → Option ℕ} (history : List Entry) (i : ℕ) {p : Pass} → StandsAs shape fresh places (standing history i) p → last_of history i ≡ call_of i p
+last-is {shape} {fresh} {places} history i {p} stands = ap (λ (n : ℕ). record { pass = i; call = n }) stands.call
+
+-- What an Ask leaves of the histories' other passes, and makes of its own.
+module _ {shape : Shape} {fresh : List Bool} {places : ℕ → Option ℕ} (history : List Entry) (i : ℕ) {p : Pass} (stands : StandsAs shape fresh places (standing history i) p)
+    (regular : IsRegular (shape.block * shape.blocks) history) (idle : p.phase ≡ Idle) (request : Asked) (inside : IsInside (shape.block * shape.blocks) request) where
+  regular-asked : IsRegular (shape.block * shape.blocks) (history ++ Ask (record { pass = i; call = p.call + 1 }) request ∷ [])
+  regular-asked = subst (λ (id : CallId). IsRegular (shape.block * shape.blocks) (history ++ Ask id request ∷ [])) (next-is history i stands)
+      (regular-ask i request regular (λ some. stands.idle idle (subst (λ (n : ℕ). 0 < n) stands.call some)) inside)
+
+  standing-asked : standing (history ++ Ask (record { pass = i; call = p.call + 1 }) request ∷ []) i ≡ asked_for (p.call + 1) request
+  standing-asked = ap (λ (id : CallId). standing (history ++ Ask id request ∷ []) i) (sym (next-is history i stands)) ∙ standing-ask (shape.block * shape.blocks) history i request regular
+      ∙ ap (λ (n : ℕ). asked_for (n + 1) request) stands.call
+
+  others-asked : (j : ℕ) → j ≢ i → standing (history ++ Ask (record { pass = i; call = p.call + 1 }) request ∷ []) j ≡ standing history j
+  others-asked j ne = standing-other history (Ask (record { pass = i; call = p.call + 1 }) request) j (λ e. ne (sym e))
+
+after-none : (p : Pass) (r : Asked) (events sectors : ℕ) → HasNone p → HasNone (after_ask p r events sectors)
+after-none p (Read first count) events sectors none = record { ticket = none.ticket; fetch = none.fetch }
+after-none p (Write first content) events sectors none = record { ticket = none.ticket; fetch = none.fetch }
+after-none p Flush events sectors none = none
+
+after-region : (p : Pass) (r : Asked) (events sectors : ℕ) → 0 < sectors_of r → has_region (after_ask p r events sectors).phase ≡ false
+after-region p (Read first count) events sectors some = refl
+after-region p (Write first content) events sectors some = refl
+after-region p Flush events sectors some = absurd (omega arith)
+
+after-call : (p : Pass) (r : Asked) (events sectors : ℕ) → 0 < sectors_of r → (after_ask p r events sectors).call ≡ p.call + 1
+after-call p (Read first count) events sectors some = refl
+after-call p (Write first content) events sectors some = refl
+after-call p Flush events sectors some = absurd (omega arith)
+
+-- A pass asks a read or a write, for which blocks may have got their places.
+module _ {shape : Shape} {fresh : List Bool} {places places' : ℕ → Option ℕ} {passes passes' : List Pass} {history history' : List Entry} {sectors depth base_sectors base_depth events_left sectors_left i : ℕ} {flies base_flies : List Ticket → Type 0}
+    (request : Asked) (co : IsCoherent shape fresh places passes history sectors depth base_sectors base_depth flies base_flies) (at : IsAt passes i (λ p. p.phase ≡ Idle))
+    (some : 0 < sectors_of request) (inside : IsInside (shape.block * shape.blocks) request)
+    (extends : Extends places places') (placed : ArePlaces shape.block shape.storage_at sectors places') (has : IsPlaced shape.block places' request)
+    (step : Asks request events_left sectors_left i passes passes' history history') where
+  abbrev asking : Pass
+  asking = step.pass
+
+  abbrev asked : Pass
+  asked = after_ask asking request events_left sectors_left
+
+  asking-idle : asking.phase ≡ Idle
+  asking-idle = ap (λ (x : Pass). x.phase) (some-inj (sym step.there ∙ at.1)) ∙ at.2
+
+  grown : IsCoherent shape fresh places' passes history sectors depth base_sectors base_depth flies base_flies
+  grown = grown-coherent co places' extends placed
+
+  asking-stands : StandsAs shape fresh places' (standing history i) asking
+  asking-stands = grown.each i asking step.there
+
+  asking-none : HasNone asking
+  asking-none = subst (λ ph. HasTicket ph shape fresh asking) asking-idle asking-stands.ticket
+
+  asking-not : asking.phase ≢ Issuing
+  asking-not e = let a = asking-idle in cc
+
+  abbrev ask-id : CallId
+  ask-id = record { pass = i; call = asking.call + 1 }
+
+  ask-history : history' ≡ history ++ Ask ask-id request ∷ []
+  ask-history = step.event ∙ ap (λ (n : ℕ). history ++ Ask (record { pass = i; call = n }) request ∷ []) (after-call asking request events_left sectors_left some)
+
+  pub asks-coherent : IsCoherent shape fresh places' passes' history' sectors depth base_sectors base_depth flies base_flies
+  asks-coherent = rw (step.after, ask-history)
+      (wordless-coherent grown i asking step.there asking-none asking-not asked (after-none asking request events_left sectors_left asking-none) (after-region asking request events_left sectors_left some)
+      (history ++ Ask ask-id request ∷ []) (same-after-ask history ask-id request)
+      (regular-asked history i asking-stands grown.regular asking-idle request inside)
+      (others-asked history i asking-stands grown.regular asking-idle request inside)
+      (subst (λ (t : Standing). StandsAs shape fresh places' t asked) (sym (standing-asked history i asking-stands grown.regular asking-idle request inside))
+      (stands-asked request events_left sectors_left asking-stands asking-idle some inside has)))
+
+  pub asks-faithful : {start : List Sector} {rest : ℕ → Sector} {disk : Disk} {last : ℕ} → IsFaithful start rest shape fresh places passes history disk last → IsFaithful start rest shape fresh places' passes' history' disk last
+  asks-faithful {start} {rest} {disk} {last} fa = rw (step.after, ask-history)
+      (wordless-faithful grown i asking step.there asking-none asking-not asked (after-none asking request events_left sectors_left asking-none) (after-region asking request events_left sectors_left some)
+      (history ++ Ask ask-id request ∷ []) (same-after-ask history ask-id request)
+      (grown-faithful co places' extends fa)
+      (shown-push start history (Ask ask-id request) fa.shown tt))
+
+  -- after the ask of a write its content is the one that was asked
+  pub asks-content : (first : ℕ) (content : List Sector) → request ≡ Write first content → HasAskedWrite history' i content
+  asks-content first content is = (first, rw ask-history (ap (λ (t : Standing). t.progress.asked) (standing-asked history i asking-stands grown.regular asking-idle request inside) ∙ ap Some is))
+
+-- A pass asks a write for which too little storage is free.
+module _ {shape : Shape} {fresh : List Bool} {places : ℕ → Option ℕ} {passes passes' : List Pass} {history history' : List Entry} {sectors depth base_sectors base_depth needed free i : ℕ} {flies base_flies : List Ticket → Type 0}
+    (first : ℕ) (content : List Sector) (co : IsCoherent shape fresh places passes history sectors depth base_sectors base_depth flies base_flies) (at : IsAt passes i (λ p. p.phase ≡ Idle))
+    (some : 0 < length content) (inside : first + length content ≤ shape.block * shape.blocks)
+    (step : AsksFull (Write first content) needed free i passes passes' history history') where
+  abbrev full-pass : Pass
+  full-pass = step.pass
+
+  abbrev refused : Pass
+  refused = record full-pass { call = full-pass.call + 1 }
+
+  full-idle : full-pass.phase ≡ Idle
+  full-idle = ap (λ (x : Pass). x.phase) (some-inj (sym step.there ∙ at.1)) ∙ at.2
+
+  full-stands : StandsAs shape fresh places (standing history i) full-pass
+  full-stands = co.each i full-pass step.there
+
+  full-none : HasNone full-pass
+  full-none = subst (λ ph. HasTicket ph shape fresh full-pass) full-idle full-stands.ticket
+
+  full-not : full-pass.phase ≢ Issuing
+  full-not e = let a = full-idle in cc
+
+  abbrev full-id : CallId
+  full-id = record { pass = i; call = full-pass.call + 1 }
+
+  abbrev full-asked : List Entry
+  full-asked = history ++ Ask full-id (Write first content) ∷ []
+
+  abbrev full-reply : Entry
+  full-reply = Reply full-id (Full needed free)
+
+  full-history : history' ≡ full-asked ++ full-reply ∷ []
+  full-history = step.event ∙ sym (append_assoc history (Ask full-id (Write first content) ∷ []) (full-reply ∷ []))
+
+  full-standing : standing full-asked i ≡ asked_for (full-pass.call + 1) (Write first content)
+  full-standing = standing-asked history i full-stands co.regular full-idle (Write first content) inside
+
+  full-last : last_of full-asked i ≡ full-id
+  full-last = ap (λ (t : Standing). record { pass = i; call = t.call }) full-standing
+
+  full-regular : IsRegular (shape.block * shape.blocks) (full-asked ++ full-reply ∷ [])
+  full-regular = subst (λ (id : CallId). IsRegular (shape.block * shape.blocks) (full-asked ++ Reply id (Full needed free) ∷ [])) full-last
+      (regular-reply i (Write first content) (Full needed free) (regular-asked history i full-stands co.regular full-idle (Write first content) inside)
+      (record { asked = ap (λ (t : Standing). t.progress.asked) full-standing; unanswered = ap (λ (t : Standing). t.progress.answered) full-standing })
+      (subst (λ (t : Standing). IsReply (Write first content) t.progress (Full needed free)) (sym full-standing) (answers-full first content needed free some)))
+
+  full-after : standing (full-asked ++ full-reply ∷ []) i ≡ record { call = full-pass.call + 1; progress = gone_on (asked_for (full-pass.call + 1) (Write first content)).progress full-reply }
+  full-after = standing-own full-asked full-reply i (sym full-last) tt ∙ ap (λ (t : Standing). record t { progress = gone_on t.progress full-reply }) full-standing
+
+  full-others : (j : ℕ) → j ≢ i → standing (full-asked ++ full-reply ∷ []) j ≡ standing history j
+  full-others j ne = standing-other full-asked full-reply j (λ e. ne (sym e)) ∙ others-asked history i full-stands co.regular full-idle (Write first content) inside j ne
+
+  full-same : (start : List Sector) (s : ℕ) → track start (full-asked ++ full-reply ∷ []) s ≡ track start history s
+  full-same start s = same-after-reply full-asked full-id (Full needed free) start s ∙ same-after-ask history full-id (Write first content) start s
+
+  refused-none : HasNone refused
+  refused-none = record { ticket = full-none.ticket; fetch = full-none.fetch }
+
+  refused-region : has_region refused.phase ≡ false
+  refused-region = ap has_region full-idle
+
+  pub asks_full-coherent : IsCoherent shape fresh places passes' history' sectors depth base_sectors base_depth flies base_flies
+  asks_full-coherent = rw (step.after, full-history)
+      (wordless-coherent co i full-pass step.there full-none full-not refused refused-none refused-region (full-asked ++ full-reply ∷ []) full-same full-regular full-others
+      (subst (λ (t : Standing). StandsAs shape fresh places t refused) (sym full-after) (stands-idle _ refused full-idle refl refl refused-none full-stands.buffer)))
+
+  pub asks_full-faithful : {start : List Sector} {rest : ℕ → Sector} {disk : Disk} {last : ℕ} → IsFaithful start rest shape fresh places passes history disk last → IsFaithful start rest shape fresh places passes' history' disk last
+  asks_full-faithful {start} {rest} {disk} {last} fa = rw (step.after, full-history)
+      (wordless-faithful co i full-pass step.there full-none full-not refused refused-none refused-region (full-asked ++ full-reply ∷ []) full-same fa
+      (shown-push start full-asked full-reply (shown-push start history (Ask full-id (Write first content)) fa.shown tt) tt))
+
+-- A pass that is ready has its reply.
+module _ {shape : Shape} {fresh : List Bool} {places : ℕ → Option ℕ} {passes passes' : List Pass} {history history' : List Entry} {sectors depth base_sectors base_depth i : ℕ} {flies base_flies : List Ticket → Type 0} {answer : Answer}
+    (co : IsCoherent shape fresh places passes history sectors depth base_sectors base_depth flies base_flies) (at : IsAt passes i (λ p. p.phase ≡ Ready))
+    (step : Replies answer i passes passes' history history') where
+  abbrev ready-pass : Pass
+  ready-pass = step.pass
+
+  abbrev replied : Pass
+  replied = after_reply ready-pass
+
+  was-ready : ready-pass.phase ≡ Ready
+  was-ready = ap (λ (x : Pass). x.phase) (some-inj (sym step.there ∙ at.1)) ∙ at.2
+
+  was-busy : ready-pass.phase ≢ Idle
+  was-busy e = let a = was-ready in cc
+
+  ready-stands : StandsAs shape fresh places (standing history i) ready-pass
+  ready-stands = co.each i ready-pass step.there
+
+  ready-none : HasNone ready-pass
+  ready-none = subst (λ ph. HasTicket ph shape fresh ready-pass) was-ready ready-stands.ticket
+
+  ready-not : ready-pass.phase ≢ Issuing
+  ready-not e = let a = was-ready in cc
+
+  abbrev reply : Entry
+  reply = Reply (call_of i ready-pass) answer
+
+  reply-regular : IsRegular (shape.block * shape.blocks) (history ++ reply ∷ [])
+  reply-regular =
+      let b = ready-stands.busy was-busy in
+      subst (λ (id : CallId). IsRegular (shape.block * shape.blocks) (history ++ Reply id answer ∷ [])) (last-is history i ready-stands)
+      (regular-reply i b.0 answer co.regular (record { asked = b.1; unanswered = ready-stands.unanswered was-busy })
+      (subst (λ (a : Answer). IsReply b.0 (standing history i).progress a) (sym step.is)
+      (answers ready-pass b.0 (standing history i).progress ready-pass.fault b.2 (ready-stands.done was-busy)
+      (ready-stands.pending was-busy ∙ ap (λ ph. pending_of ph ready-pass.piece) was-ready) (ready-stands.ready was-ready))))
+
+  reply-after : standing (history ++ reply ∷ []) i ≡ record (standing history i) { progress = gone_on (standing history i).progress reply }
+  reply-after = standing-own history reply i (sym (last-is history i ready-stands)) tt
+
+  replied-none : HasNone replied
+  replied-none = record { ticket = ready-none.ticket; fetch = ready-none.fetch }
+
+  pub replies-coherent : IsCoherent shape fresh places passes' history' sectors depth base_sectors base_depth flies base_flies
+  replies-coherent = rw (step.after, step.event)
+      (wordless-coherent co i ready-pass step.there ready-none ready-not replied replied-none refl (history ++ reply ∷ []) (same-after-reply history (call_of i ready-pass) answer)
+      reply-regular
+      (λ j ne. standing-other history reply j (λ e. ne (sym e)))
+      (subst (λ (t : Standing). StandsAs shape fresh places t replied) (sym reply-after) (stands-idle _ replied refl ready-stands.call refl replied-none ready-stands.buffer)))
+
+  pub replies-faithful : {start : List Sector} {rest : ℕ → Sector} {disk : Disk} {last : ℕ} → IsFaithful start rest shape fresh places passes history disk last → IsFaithful start rest shape fresh places passes' history' disk last
+  replies-faithful {start} {rest} {disk} {last} fa = rw (step.after, step.event)
+      (wordless-faithful co i ready-pass step.there ready-none ready-not replied replied-none refl (history ++ reply ∷ []) (same-after-reply history (call_of i ready-pass) answer) fa
+      (shown-push start history reply fa.shown tt))

@@ -1,0 +1,110 @@
+-- A pass that takes the region of its next piece's block keeps a core coherent, and true to its devices.
+use Rattle.std.proofs.Common.{◌≡◌, ◌≢◌, ℕ, ◌+◌, ◌*◌, ◌<◌, ◌≤◌, ◌⊎◌, Bool, true, List, map, refl, sym, ◌∙◌, ap, subst, inl, inr, arith, Option, Some, slice_get, slice_set}
+use Rattle.std.proofs.Math.Nat.{mul-le-mul_left}
+use Rattle.std.proofs.lemmas.Bool.{cases_lt}
+use Rattle.vd_law.specs.declared.entry.Sector.{Sector}
+use Rattle.vd_law.specs.Entries.{Entry}
+use Rattle.vd_regions.specs.declared.regions.Region.{Region}
+use Rattle.vd_regions.specs.Holding.{Hinders}
+use Rattle.vd_device.specs.declared.ticket.Ticket.{Ticket}
+use Rattle.vd_device.specs.Disks.{Disk}
+use Rattle.vd_passes.specs.declared.shape.Shape.{Shape}
+use Rattle.vd_passes.specs.declared.pass.Pass.{Pass}
+use Rattle.vd_passes.specs.declared.pass.Phase.TheVariants.{Idle, Asked as HasAsked, Issuing, Ready}
+use Rattle.vd_passes.specs.Standings.{Standing, standing}
+use Rattle.vd_passes.specs.Passes.{region_of, IsPiece, HasNone, HasTicket, pending_of, StandsAs, after_enter}
+use Rattle.vd_passes.specs.Coherent.{IsCoherent, IsFaithful}
+use Rattle.vd_passes.specs.Steps.{IsAt, IsNextPiece, Enters}
+use Rattle.vd_passes.proofs.Lists.{some-inj, tickets-same, fetches-same}
+use Rattle.vd_passes.proofs.Regions.{request-kept}
+use Rattle.vd_passes.proofs.Calm.{quiet-coherent, still-faithful}
+use Rattle.vd_passes.proofs.Holding.{region_on, apart-entered, regions-taken}
+
+-- a block that begins below the end of a disk of so many is one of them
+below-end : (block b blocks s : ℕ) → block * b ≤ s → s < block * blocks → b < blocks
+below-end block b blocks s from to = elim (cases_lt b blocks) [
+  | inl less ↦ less
+  | inr more ↦ absurd (let h : block * blocks ≤ block * b = mul-le-mul_left block more in omega arith)
+]
+
+pub next-piece : {shape : Shape} {fresh : List Bool} {places : ℕ → Option ℕ} {t : Standing} {p : Pass} {block piece : ℕ} (at : ℕ) → StandsAs shape fresh places t p → p.phase ≡ HasAsked → IsNextPiece shape p block piece → IsPiece shape (after_enter p block piece at)
+next-piece {shape} {fresh} {places} {t} {p} {block} {piece} at stands was next = record {
+  some = next.some;
+  no_more = next.no_more;
+  from = next.from;
+  to = next.inside;
+  in_disk = let range = stands.range (λ e. absurd (cc)) in below-end shape.block block shape.blocks (p.first + p.done) next.from (let r = range.0 in let left = stands.left was in omega arith);
+  ends = next.ends;
+}
+
+module _ {shape : Shape} {fresh : List Bool} {places : ℕ → Option ℕ} {passes passes' : List Pass} {history : List Entry} {sectors depth base_sectors base_depth i : ℕ} {flies base_flies : List Ticket → Type 0}
+    (co : IsCoherent shape fresh places passes history sectors depth base_sectors base_depth flies base_flies) (was : IsAt passes i (λ p. p.phase ≡ HasAsked))
+    (step : Enters shape places i passes passes')
+    (regions : List (Option Region)) (held : regions ≡ map region_of passes)
+    (free : (by : ℕ) → Hinders regions i (region_on step.block step.pass.write) by → ⊥) where
+  abbrev entering : Pass
+  entering = step.pass
+
+  abbrev entered : Pass
+  entered = after_enter entering step.block step.piece step.at
+
+  was-asked : entering.phase ≡ HasAsked
+  was-asked = ap (λ (x : Pass). x.phase) (some-inj (sym step.there ∙ was.1)) ∙ was.2
+
+  entering-stands : StandsAs shape fresh places (standing history i) entering
+  entering-stands = co.each i entering step.there
+
+  entering-none : HasNone entering
+  entering-none = subst (λ ph. HasTicket ph shape fresh entering) was-asked entering-stands.ticket
+
+  entering-not : entering.phase ≢ Issuing
+  entering-not e = let a = was-asked in cc
+
+  entering-busy : entering.phase ≢ Idle
+  entering-busy e = let a = was-asked in cc
+
+  entering-unready : entering.phase ≢ Ready
+  entering-unready e = let a = was-asked in cc
+
+  -- the block has its place where it is written or fresh
+  entered-at : (entering.write ≡ true) ⊎ (slice_get fresh step.block ≡ Some true) → places step.block ≡ Some step.at
+  entered-at (inl write) =
+      let next = step.is_next in let left = entering-stands.left was-asked in let from = next.from in let to = next.to in
+      let had = entering-stands.placed entering-busy write step.block (omega arith) (omega arith) in had.1 ∙ ap Some (sym (step.place had.0 had.1))
+  entered-at (inr is) = let had = co.fresh_placed step.block is in had.1 ∙ ap Some (sym (step.place had.0 had.1))
+
+  stands-entered : StandsAs shape fresh places (standing history i) entered
+  stands-entered = record {
+    call = entering-stands.call;
+    idle = λ e. absurd (cc);
+    busy = λ e. let b = entering-stands.busy entering-busy in (b.0, b.1, request-kept entering entered b.0 refl refl refl b.2);
+    unanswered = λ e. entering-stands.unanswered entering-busy;
+    done = λ e. entering-stands.done entering-busy;
+    range = λ e. entering-stands.range entering-busy;
+    pending = λ e. entering-stands.pending entering-busy ∙ ap (λ ph. pending_of ph entering.piece) was-asked;
+    whole = λ e f. entering-stands.whole entering-busy entering-unready;
+    ready = λ e. absurd (cc);
+    write = λ e. absurd (cc);
+    read = λ e. absurd (cc);
+    left = λ e. absurd (cc);
+    placed = λ e. entering-stands.placed entering-busy;
+    piece = λ e. next-piece step.at entering-stands was-asked step.is_next;
+    at = λ e. entered-at;
+    ticket = record { ticket = entering-none.ticket; fetch = entering-none.fetch };
+    buffer = entering-stands.buffer;
+  }
+
+  pub enters-coherent : IsCoherent shape fresh places passes' history sectors depth base_sectors base_depth flies base_flies
+  enters-coherent = rw step.after
+      (quiet-coherent co i entering step.there entering-not entered (λ e. absurd (cc)) flies base_flies stands-entered
+      (apart-entered passes i step.block entered (λ by h. free by (subst (λ rs. Hinders rs i (region_on step.block entering.write) by) (sym held) h)) refl)
+      (subst flies (sym (tickets-same passes i entering entered step.there refl)) co.flight)
+      (subst base_flies (sym (fetches-same passes i entering entered step.there refl)) co.base_flight))
+
+  pub enters-faithful : {start : List Sector} {rest : ℕ → Sector} {disk : Disk} {last : ℕ} → IsFaithful start rest shape fresh places passes history disk last → IsFaithful start rest shape fresh places passes' history disk last
+  enters-faithful {start} {rest} {disk} {last} fa = rw step.after
+      (still-faithful co i entering step.there entering-not entered (λ e. absurd (cc)) fa (λ t is. is) (λ e. absurd (cc)))
+
+  -- the pass has the region from now on
+  pub enters-regions : map region_of passes' ≡ slice_set regions i (Some (region_on step.block step.pass.write))
+  enters-regions = rw (step.after, held) (regions-taken passes i entered refl)

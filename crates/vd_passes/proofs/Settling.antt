@@ -1,0 +1,273 @@
+-- The write of a pass is settled: it is done, is late, or has failed.
+use Rattle.std.proofs.Common.{◌≡◌, ◌≢◌, ℕ, ◌+◌, ◌-◌, ◌*◌, ◌<◌, ◌⊎◌, Bool, true, false, nat_lt, List, [], ◌∷◌, ◌++◌, refl, sym, ◌∙◌, ap, subst, inl, inr, arith, Option, Some, None, slice_get, slice_set}
+use Rattle.std.specs.Prelude.{if◌then◌else◌}
+use Rattle.std.specs.List.{Contains}
+use Rattle.std.proofs.lemmas.Bool.{ltb-true, ltb-false}
+use Rattle.vd_law.specs.declared.entry.CallId.{CallId}
+use Rattle.vd_law.specs.declared.entry.Sector.{Sector}
+use Rattle.vd_law.specs.Entries.{Entry, Done, Broke}
+use Rattle.vd_law.specs.Calls.{gone_on}
+use Rattle.vd_law.specs.Rules.{IsRegular}
+use Rattle.vd_device.specs.declared.ticket.Ticket.{Ticket}
+use Rattle.vd_device.specs.declared.ticket.Kind.TheVariants.{Write as WriteKind}
+use Rattle.vd_device.specs.declared.settled.Settled.{Settled}
+use Rattle.vd_device.specs.declared.settled.Settled.TheVariants as settled
+use Rattle.vd_device.specs.Tickets.{ticket_id, Takes, Keeps, IsInFlight}
+use Rattle.vd_device.specs.Disks.{Disk, Adds, GrowsBy}
+use Rattle.vd_device.specs.Calls.{done_entry, failed_entry}
+use Rattle.vd_passes.specs.declared.shape.Shape.{Shape}
+use Rattle.vd_passes.specs.declared.pass.Pass.{Pass}
+use Rattle.vd_passes.specs.declared.pass.Phase.TheVariants.{Idle, Asked as HasAsked, Issuing, Ready}
+use Rattle.vd_passes.specs.declared.pass.Fault.TheVariants as fault
+use Rattle.vd_passes.specs.Tracks.{Track, track, writes}
+use Rattle.vd_passes.specs.Standings.{Standing, standing}
+use Rattle.vd_passes.specs.Passes.{has_region, call_of, tickets_of, IsPiece, StandsAs, HasOutcome, pending_of, after_piece, after_fault, spent}
+use Rattle.vd_passes.specs.Coherent.{IsCoherent, IsFaithful, IsUnfilled, IsFilled}
+use Rattle.vd_passes.specs.Steps.{IsAt, IsWaiting, WriteSettled}
+use Rattle.vd_passes.proofs.Lists.{some-inj, tickets-taken}
+use Rattle.vd_passes.proofs.Standing.{last_of, IsServing, standing-own, regular-done, regular-broke}
+use Rattle.vd_passes.proofs.Tracks.{writes-more, disk-same, done-none, done-other, broke-contents}
+use Rattle.vd_passes.proofs.Regions.{region-of, write-ticket, alone, request-kept, stands-freshens}
+use Rattle.vd_passes.proofs.Closing.{Closes, done-closes, broke-closes, writer, is-write, other-call, close-coherent, close-faithful}
+use Rattle.vd_passes.proofs.Written.{next-freshens, done-stands, broke-stands}
+
+abbrev id-of : ℕ → ℕ → CallId
+id-of i call = record { pass = i; call = call }
+
+-- The two ways in which a write ends.
+module _ {shape : Shape} {fresh : List Bool} {places : ℕ → Option ℕ} {passes : List Pass} {history : List Entry} {sectors depth base_sectors base_depth : ℕ} {flies base_flies : List Ticket → Type 0}
+    (co : IsCoherent shape fresh places passes history sectors depth base_sectors base_depth flies base_flies) (i : ℕ) (p : Pass) (there : slice_get passes i ≡ Some p)
+    (issuing : p.phase ≡ Issuing) where
+  abbrev now : StandsAs shape fresh places (standing history i) p
+  now = co.each i p there
+
+  not-idle : p.phase ≢ Idle
+  not-idle e = cc
+
+  not-ready : p.phase ≢ Ready
+  not-ready e = cc
+
+  unbroken : ((standing history i).progress.broken ≡ false) × (p.fault ≡ None)
+  unbroken = now.whole not-idle not-ready
+
+  open-write : (standing history i).progress.pending ≡ p.piece
+  open-write = now.pending not-idle ∙ ap (λ ph. pending_of ph p.piece) issuing
+
+  piece-of : IsPiece shape p
+  piece-of = now.piece (region-of _ Issuing refl issuing)
+
+  some-open : 0 < (standing history i).progress.pending
+  some-open = let s = piece-of.some in let w = open-write in omega arith
+
+  last-is : call_of i p ≡ last_of history i
+  last-is = ap (id-of i) (sym now.call)
+
+  serves : IsServing history i (now.busy not-idle).0
+  serves = record { asked = (now.busy not-idle).1; unanswered = now.unanswered not-idle }
+
+  abbrev after-done : Standing
+  after-done = record (standing history i) { progress = gone_on (standing history i).progress (Done (call_of i p)) }
+
+  abbrev after-broke : Standing
+  after-broke = record (standing history i) { progress = gone_on (standing history i).progress (Broke (call_of i p)) }
+
+  abbrev piece-next : Bool → Pass
+  piece-next b = spent 1 0 (record p { phase = if b then HasAsked else Ready; done = p.done + p.piece; ticket = None; fetch = None })
+
+  goes-on : (b : Bool) → nat_lt (p.done + p.piece) p.count ≡ b → StandsAs shape fresh places after-done (piece-next b)
+  goes-on true is = record {
+    call = now.call;
+    idle = λ e. absurd (cc);
+    busy = λ e. let r = now.busy not-idle in (r.0, r.1, request-kept p (piece-next true) r.0 refl refl refl r.2);
+    unanswered = λ e. now.unanswered not-idle;
+    done = λ e. let d = now.done not-idle in let w = open-write in omega arith;
+    range = λ e. ((now.range not-idle).0, piece-of.no_more);
+    pending = λ e. refl;
+    whole = λ e f. unbroken;
+    ready = λ e. absurd (cc);
+    write = λ e. absurd (cc);
+    read = λ e. absurd (cc);
+    left = λ e. ltb-true _ _ is;
+    placed = λ e. now.placed not-idle;
+    piece = λ e. absurd (cc);
+    at = λ e. absurd (cc);
+    ticket = record { ticket = refl; fetch = refl };
+    buffer = now.buffer;
+  }
+  goes-on false is = record {
+    call = now.call;
+    idle = λ e. absurd (cc);
+    busy = λ e. let r = now.busy not-idle in (r.0, r.1, request-kept p (piece-next false) r.0 refl refl refl r.2);
+    unanswered = λ e. now.unanswered not-idle;
+    done = λ e. let d = now.done not-idle in let w = open-write in omega arith;
+    range = λ e. ((now.range not-idle).0, piece-of.no_more);
+    pending = λ e. refl;
+    whole = λ e f. unbroken;
+    ready = λ e. subst (HasOutcome (piece-next false) (standing history i).progress.broken) (sym unbroken.1) ((let n = piece-of.no_more in let m = ltb-false _ _ is in omega arith), unbroken.0);
+    write = λ e. absurd (cc);
+    read = λ e. absurd (cc);
+    left = λ e. absurd (cc);
+    placed = λ e. now.placed not-idle;
+    piece = λ e. absurd (cc);
+    at = λ e. absurd (cc);
+    ticket = record { ticket = refl; fetch = refl };
+    buffer = now.buffer;
+  }
+
+  no-region : (b : Bool) → has_region (piece-next b).phase ≡ false
+  no-region true = refl
+  no-region false = refl
+
+  abbrev more-left : Bool
+  more-left = nat_lt (p.done + p.piece) p.count
+
+  abbrev broken-next : ℕ → Pass
+  broken-next number = spent 1 0 (after_fault (fault.Store number) p)
+
+  failed : (number : ℕ) → StandsAs shape fresh places after-broke (broken-next number)
+  failed number = record {
+    call = now.call;
+    idle = λ e. absurd (cc);
+    busy = λ e. let r = now.busy not-idle in (r.0, r.1, request-kept p (broken-next number) r.0 refl refl refl r.2);
+    unanswered = λ e. now.unanswered not-idle;
+    done = λ e. now.done not-idle;
+    range = λ e. now.range not-idle;
+    pending = λ e. refl;
+    whole = λ e f. absurd (f refl);
+    ready = λ e. ((let n = piece-of.no_more in let s = piece-of.some in omega arith), sym (writer co i p there issuing _ (write-ticket now issuing).1));
+    write = λ e. absurd (cc);
+    read = λ e. absurd (cc);
+    left = λ e. absurd (cc);
+    placed = λ e. now.placed not-idle;
+    piece = λ e. absurd (cc);
+    at = λ e. absurd (cc);
+    ticket = record { ticket = refl; fetch = refl };
+    buffer = now.buffer;
+  }
+
+  abbrev last-write : ℕ → Track
+  last-write s = record { contents = []; writes = writes history s }
+
+  module _ (t : Ticket) (has : p.ticket ≡ Some t) where
+    pub done-coherent : (flies' : List Ticket → Type 0) → Takes t flies flies' → IsCoherent shape (slice_set fresh p.block true) places (slice_set passes i (spent 1 0 (after_piece p))) (history ++ Done (call_of i p) ∷ []) sectors depth base_sectors base_depth flies' base_flies
+    done-coherent flies' takes =
+        let more = next-freshens co i p there issuing t has in
+        let freed = no-region more-left in
+        close-coherent co i p there issuing t has (piece-next more-left) freed (Done (call_of i p)) (slice_set fresh p.block true) flies' refl
+        (subst (λ id. IsRegular (shape.block * shape.blocks) (history ++ Done id ∷ [])) (sym last-is) (regular-done i _ co.regular serves some-open))
+        (λ s. subst (λ ws. Closes (call_of i p) (writes history s) ws) (sym (writes-more history (Done (call_of i p)) s (last-write s) refl)) (done-closes s (last-write s) (call_of i p)))
+        more.size more.others
+        (λ j q at ne. stands-freshens more (λ held same. ne (alone co i p there (region-of _ Issuing refl issuing) (writer co i p there issuing t has) j q at held same)) (co.each j q at))
+        (stands-freshens more (λ held. absurd (cc)) (subst (λ h. StandsAs shape fresh places h (piece-next more-left)) (sym (standing-own history (Done (call_of i p)) i last-is tt)) (goes-on more-left refl)))
+        refl refl takes
+
+    pub broke-coherent : (number : ℕ) (flies' : List Ticket → Type 0) → Takes t flies flies' → IsCoherent shape fresh places (slice_set passes i (spent 1 0 (after_fault (fault.Store number) p))) (history ++ Broke (call_of i p) ∷ []) sectors depth base_sectors base_depth flies' base_flies
+    broke-coherent number flies' takes =
+        close-coherent co i p there issuing t has (broken-next number) refl (Broke (call_of i p)) fresh flies' refl
+        (subst (λ id. IsRegular (shape.block * shape.blocks) (history ++ Broke id ∷ [])) (sym last-is) (regular-broke i _ co.regular serves some-open))
+        (λ s. subst (λ ws. Closes (call_of i p) (writes history s) ws) (sym (writes-more history (Broke (call_of i p)) s (last-write s) refl)) (broke-closes s (last-write s) (call_of i p)))
+        refl (λ b ne. refl)
+        (λ j q at ne. co.each j q at)
+        (subst (λ h. StandsAs shape fresh places h (broken-next number)) (sym (standing-own history (Broke (call_of i p)) i last-is tt)) (failed number))
+        refl refl takes
+
+    module _ {start : List Sector} {rest : ℕ → Sector} {disk disk' : Disk} {last : ℕ} (fa : IsFaithful start rest shape fresh places passes history disk last) where
+      pub done-faithful : Adds (Done (ticket_id t)) disk disk' → IsFaithful start rest shape (slice_set fresh p.block true) places (slice_set passes i (spent 1 0 (after_piece p))) (history ++ Done (call_of i p) ∷ []) disk' last
+      done-faithful adds = close-faithful co i p there issuing t has fa (piece-next more-left) (no-region more-left) (Done (call_of i p)) (Done (ticket_id t)) (slice_set fresh p.block true) refl tt adds
+          (λ s. done-closes s _ _) (λ a. done-closes a _ _)
+          (done-stands co i p there issuing t has fa)
+          (λ a w ne v among. elim w.source [
+            | inl own ↦ subst (λ cs. Contains cs v) (sym (done-other w.sector _ (call_of i p) (call_of w.by w.pass) w.content own (other-call co i p there issuing t has w.pass w.by ne)).0) among
+            | inr fill ↦ subst (λ cs. Contains cs v) (sym (done-none w.sector _ (call_of i p) fill.0).0) among
+          ])
+
+      pub broke-faithful : (number : ℕ) → Adds (Broke (ticket_id t)) disk disk' → IsFaithful start rest shape fresh places (slice_set passes i (spent 1 0 (after_fault (fault.Store number) p))) (history ++ Broke (call_of i p) ∷ []) disk' last
+      broke-faithful number adds = close-faithful co i p there issuing t has fa (broken-next number) refl (Broke (call_of i p)) (Broke (ticket_id t)) fresh refl tt adds
+          (λ s. broke-closes s _ _) (λ a. broke-closes a _ _)
+          (broke-stands co i p there issuing t has fa)
+          (λ a w ne v among. subst (λ cs. Contains cs v) (sym (broke-contents w.sector _ (call_of i p))) among)
+
+-- A write that is late leaves all as it was.
+pub late-coherent : {shape : Shape} {fresh : List Bool} {places : ℕ → Option ℕ} {passes : List Pass} {history : List Entry} {sectors depth base_sectors base_depth : ℕ} {flies flies' base_flies : List Ticket → Type 0}
+    → IsCoherent shape fresh places passes history sectors depth base_sectors base_depth flies base_flies → Keeps flies flies' → IsCoherent shape fresh places passes history sectors depth base_sectors base_depth flies' base_flies
+late-coherent {shape} {fresh} {places} {passes} {history} {sectors} {depth} {base_sectors} {base_depth} {flies} {flies'} {base_flies} co keeps = record {
+  shaped = co.shaped;
+  size = co.size;
+  placed = co.placed;
+  fresh_placed = co.fresh_placed;
+  regular = co.regular;
+  few = co.few;
+  deep = co.deep;
+  base_deep = co.base_deep;
+  each = co.each;
+  apart = co.apart;
+  flight = keeps _ co.flight;
+  base_flight = co.base_flight;
+  guest = co.guest;
+}
+
+pub late-faithful : {start : List Sector} {rest : ℕ → Sector} {shape : Shape} {fresh : List Bool} {places : ℕ → Option ℕ} {passes : List Pass} {history : List Entry} {disk disk' : Disk} {last : ℕ}
+    → IsFaithful start rest shape fresh places passes history disk last → GrowsBy [] disk disk' → IsFaithful start rest shape fresh places passes history disk' last
+late-faithful {start} {rest} {shape} {fresh} {places} {passes} {history} {disk} {disk'} {last} fa grows = record {
+  size = fa.size;
+  shown = fa.shown;
+  numbers = fa.numbers;
+  distinct = fa.distinct;
+  stands = λ s inside. record {
+    local = λ b x in_b is at v among. (fa.stands s inside).local b x in_b is at v (subst (λ (d : Track). Contains d.contents v) (disk-same (x + (s - shape.block * b)) grows) among);
+    other = (fa.stands s inside).other;
+  };
+  filling = λ a. subst (λ d. IsUnfilled passes a d ⊎ IsFilled shape.block passes a (track start history) d) (sym (disk-same a grows)) (fa.filling a);
+  buffers = fa.buffers;
+}
+
+-- the ticket of a pass is in flight
+pub in-flight : (passes : List Pass) {flies : List Ticket → Type 0} → flies (tickets_of passes) → (i : ℕ) (p : Pass) (t : Ticket) → slice_get passes i ≡ Some p → p.ticket ≡ Some t → IsInFlight flies t
+in-flight passes {flies} flight i p t there has = (tickets_of (slice_set passes i (record p { ticket = None })), tickets_of passes, tickets-taken passes i p (record p { ticket = None }) t there has refl, flight)
+
+pub waiting-write : {shape : Shape} {fresh : List Bool} {places : ℕ → Option ℕ} {passes : List Pass} {history : List Entry} {sectors depth base_sectors base_depth : ℕ} {flies base_flies : List Ticket → Type 0}
+    → IsCoherent shape fresh places passes history sectors depth base_sectors base_depth flies base_flies → (i : ℕ) → IsAt passes i (λ p. p.phase ≡ Issuing) → IsAt passes i (IsWaiting WriteKind shape flies)
+waiting-write {shape} {fresh} {places} {passes} {history} {sectors} {depth} {base_sectors} {base_depth} {flies} {base_flies} co i at =
+    let stands = co.each i at.0 at.1 in
+    let has = write-ticket stands at.2 in (
+      at.0,
+      at.1,
+      record {
+        ticket = has.0;
+        has = has.1;
+        none = has.2;
+        is = has.3;
+        mine = in-flight passes co.flight i at.0 has.0 at.1 has.1;
+        piece = stands.piece (region-of _ Issuing refl at.2);
+        end = let r = (stands.range (λ e. absurd (let was = at.2 in cc))).0 in let s = co.shaped.size in omega arith;
+      },
+    )
+
+module _ {shape : Shape} {fresh fresh' : List Bool} {places : ℕ → Option ℕ} {passes passes' : List Pass} {history history' : List Entry} {sectors depth base_sectors base_depth i last last' : ℕ} {flies flies' base_flies : List Ticket → Type 0}
+    {tells tells' : Type 0} {disk disk' : Disk} (co : IsCoherent shape fresh places passes history sectors depth base_sectors base_depth flies base_flies) (at : IsAt passes i (λ p. p.phase ≡ Issuing)) where
+  issues : {answer : Settled} → (step : WriteSettled answer i fresh fresh' passes passes' history history' flies flies' tells tells' disk disk' last last') → step.pass.phase ≡ Issuing
+  issues {answer} step = ap (λ (x : Pass). x.phase) (some-inj (sym step.there ∙ at.1)) ∙ at.2
+
+  settled-coherent : (answer : Settled) → WriteSettled answer i fresh fresh' passes passes' history history' flies flies' tells tells' disk disk' last last' → IsCoherent shape fresh' places passes' history' sectors depth base_sectors base_depth flies' base_flies
+  settled-coherent settled.Done step = let e = step.effect in rw (e.0, e.1, e.2) (done-coherent co i step.pass step.there (issues step) step.ticket step.has flies' step.settles.2)
+  settled-coherent (settled.NotYet same) step = let e = step.effect in rw (e.0, e.1, e.2) (late-coherent co step.settles.2.2)
+  settled-coherent (settled.Failed number) step = let e = step.effect in rw (e.0, e.1, e.2) (broke-coherent co i step.pass step.there (issues step) step.ticket step.has step.ticket.number flies' step.settles.2.2)
+
+  settled-faithful : {start : List Sector} {rest : ℕ → Sector} (answer : Settled) → WriteSettled answer i fresh fresh' passes passes' history history' flies flies' tells tells' disk disk' last last'
+      → (tells → IsFaithful start rest shape fresh places passes history disk last) → tells' → IsFaithful start rest shape fresh' places passes' history' disk' last'
+  settled-faithful {start} {rest} settled.Done step fa told =
+      let e = step.effect in let kind = is-write co i step.pass step.there (issues step) step.ticket step.has in
+      rw (e.0, e.1, e.2, step.number) (done-faithful co i step.pass step.there (issues step) step.ticket step.has (fa (step.told_before told))
+      (subst (λ k. Adds (done_entry k step.ticket []) disk disk') kind (step.told told).grows))
+  settled-faithful {start} {rest} (settled.NotYet same) step fa told = let e = step.effect in rw (e.0, e.1, e.2, step.number) (late-faithful (fa (step.told_before told)) (step.told told).grows)
+  settled-faithful {start} {rest} (settled.Failed number) step fa told =
+      let e = step.effect in let kind = is-write co i step.pass step.there (issues step) step.ticket step.has in
+      rw (e.0, e.1, e.2, step.number) (broke-faithful co i step.pass step.there (issues step) step.ticket step.has (fa (step.told_before told)) step.ticket.number
+      (subst (λ k. Adds (failed_entry k step.ticket) disk disk') kind (step.told told).grows))
+
+  pub write_settled-coherent : {answer : Settled} → WriteSettled answer i fresh fresh' passes passes' history history' flies flies' tells tells' disk disk' last last' → IsCoherent shape fresh' places passes' history' sectors depth base_sectors base_depth flies' base_flies
+  write_settled-coherent {answer} step = settled-coherent answer step
+
+  pub write_settled-faithful : {start : List Sector} {rest : ℕ → Sector} {answer : Settled} → WriteSettled answer i fresh fresh' passes passes' history history' flies flies' tells tells' disk disk' last last'
+      → (tells → IsFaithful start rest shape fresh places passes history disk last) → tells' → IsFaithful start rest shape fresh' places passes' history' disk' last'
+  write_settled-faithful {start} {rest} {answer} step fa told = settled-faithful answer step fa told

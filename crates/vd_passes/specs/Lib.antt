@@ -1,0 +1,9 @@
+pub mod Laying
+pub mod Buffers
+pub mod Tracks
+pub mod Standings
+pub mod Places
+pub mod Needs
+pub mod Passes
+pub mod Coherent
+pub mod Steps

@@ -1,0 +1,94 @@
+//! The buffer of a pass: room for the sectors of one block.
+
+ghost use Rattle.std.specs.Prelude.{◌≡◌, ◌+◌, ◌-◌, ◌≤◌, ◌++◌, IfOk, length, replicate, take, drop};
+ghost use Rattle.vd_reading.specs.Background.{zero_sector};
+ghost use Rattle.vd_device.specs.declared.ticket.Kind.TheVariants.{Read};
+ghost use Rattle.vd_device.specs.Tickets.{IsInFlight};
+ghost use Rattle.vd_device.specs.Calls.{Settles, Gives, IsCaused};
+ghost use Rattle.vd_passes.specs.Laying.{laid};
+ghost use Rattle.vd_passes.specs.Buffers.{BufferSettled};
+
+use std::alloc::{AllocError, Global};
+use std::marker::Model;
+use vd_device::{Base, Settled, Ticket};
+use vd_law::entry::Sector;
+
+/// The sectors of a block, which clauses see as a list.
+#[derive(Drop)]
+pub struct Buffer {
+    sectors: Vec<Sector>,
+}
+
+impl Model for Buffer {
+    ghost use Rattle.std.specs.Prelude.{List};
+    ghost use Rattle.vd_law.specs.declared.entry.Sector.{Sector};
+
+    ghost Value = { List Sector };
+
+    ghost view = { λ buffer. buffer.sectors.items };
+}
+
+fn zero() -> Sector
+    ensures { result ≡ zero_sector }
+{
+    Sector::filled(0)
+}
+
+/// Makes all sectors zeros.
+pub fn clear(sectors: &mut [Sector])
+    ensures { sectors.new ≡ replicate (length sectors.old) zero_sector }
+{
+    sectors.fill(zero());
+}
+
+impl Buffer {
+    /// So many sectors of zeros.
+    pub fn zeros(alloc: Global, sectors: usize) -> Result<Buffer, AllocError>
+        ensures { IfOk result (λ buffer. buffer ≡ replicate sectors zero_sector) }
+    {
+        let sectors = vec![in alloc; zero(); sectors]?;
+        Ok(Buffer { sectors })
+    }
+
+    pub fn sectors(&self) -> &[Sector]
+        ensures { result.now ≡ self.now }
+    {
+        &self.sectors
+    }
+
+    pub fn clear(&mut self)
+        ensures { self.new ≡ replicate (length self.old) zero_sector }
+    {
+        clear(&mut self.sectors);
+    }
+
+    /// Puts these sectors in the place of those from `at` on.
+    pub fn lay(&mut self, at: usize, part: &[Sector])
+        requires { at + length part.now ≤ length self.old }
+        ensures { self.new ≡ laid at part.now self.old }
+    {
+        self.sectors[at..at + part.len()].copy_from_slice(part);
+    }
+
+    /// Settles a base read. What was read comes to stand at the front, with zeros behind it.
+    pub fn settle<B: Base>(&mut self, base: &mut B, ticket: Ticket) -> Settled
+        requires mine { IsInFlight (B.flies base.old) ticket }
+        requires kind { ticket.kind ≡ Read }
+        requires fits { ticket.count ≤ length self.old }
+        ensures settled { BufferSettled result ticket self.old self.new (B.flies base.old) (B.flies base.new) (B.tells base.new) (B.content base.new) }
+        ensures cause { IsCaused result (B.faults base.old) (B.faults base.new) (B.late base.old) (B.late base.new) }
+        ensures last { B.last base.new ≡ B.last base.old }
+        ensures sectors { B.sectors base.new ≡ B.sectors base.old }
+        ensures depth { B.depth base.new ≡ B.depth base.old }
+        ensures told_before { B.tells base.new → B.tells base.old }
+        ensures content { B.tells base.new → B.content base.new ≡ B.content base.old }
+    {
+        let count = ticket.count() as usize;
+        let (front, back) = self.sectors.split_at_mut(count);
+        let answer = base.settle(ticket, front);
+        if let Settled::Done = &answer {
+            clear(back);
+        }
+        answer
+    }
+}
