@@ -22,7 +22,8 @@ use Rattle.vd_passes.specs.Passes.{has_region, writes_in, IsPiece, after_fetch, 
 use Rattle.vd_passes.specs.Steps.{Enters, FetchSettled, Issues, WriteSettled, Looks, LooksAtBase, Sees, EndsRead, Replies}
 use Rattle.vd_passes.proofs.Lists.{some-inj}
 use Rattle.vd_passes.proofs.Needing.{pieces-left, pieces-behind, pieces-last}
-use Rattle.vd_core.specs.declared.outcome.Step.TheVariants.{Again, Ended}
+use Rattle.vd_core.specs.declared.outcome.Step.{Step}
+use Rattle.vd_core.specs.declared.outcome.Step.TheVariants.{Again, Busy, Ended}
 use Rattle.vd_core.specs.Fetching.{FetchesBlock}
 use Rattle.vd_core.specs.Outcomes.{outcome_of, step_of}
 use Rattle.vd_core.proofs.Ended.{set-there}
@@ -323,3 +324,19 @@ module _ {shape : Shape} {i : ℕ} {passes passes' : List Pass} (left : Room) wh
         events_left = (same-room left).0;
         sectors_left = (same-room left).1;
       }
+
+-- nothing has changed
+pub still-drives : {i : ℕ} {passes passes' : List Pass} (by block : ℕ) (entries : List Entry) (left : Room) (p : Pass) → slice_get passes i ≡ Some p → passes' ≡ passes → Drives (Busy by) block i passes passes' entries entries left left
+still-drives {i} {passes} {passes'} by block entries left p there same = record {
+  pass = p;
+  pass' = p;
+  moves = quiet entries there (same ∙ sym (set-there passes i p there)) refl refl refl;
+  tells = same;
+  events_left = (same-room left).0;
+  sectors_left = (same-room left).1;
+}
+
+-- the same, of what is equal to its answer, its entries and its room
+pub drives-as : {step step' : Step} {block i : ℕ} {passes passes' : List Pass} {entries entries' more : List Entry} {left left' rest : Room} → step' ≡ step → more ≡ entries' → rest ≡ left'
+    → Drives step block i passes passes' entries entries' left left' → Drives step' block i passes passes' entries more left rest
+drives-as step_is entries_are left_is drives = rw (step_is, entries_are, left_is) drives

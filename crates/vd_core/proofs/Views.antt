@@ -4,3 +4,6 @@ use Rattle.vd_core.specs.View.{View}
 
 pub same-history : {S B : Type 0} {a b : View S B} → a ≡ b → a.history ≡ b.history
 same-history {S} {B} {a} {b} same = ap (λ (v : View S B). v.history) same
+
+pub same-left : {S B : Type 0} {a b : View S B} → a ≡ b → a.spare ≡ b.spare
+same-left {S} {B} {a} {b} same = ap (λ (v : View S B). v.spare) same

@@ -1,0 +1,40 @@
+use Rattle.std.proofs.Common.{◌∙◌, sym, ap, refl, inl, inr, arith}
+use Rattle.vd_law.specs.Histories.{Numbered}
+use Rattle.vd_law.specs.declared.entry.Room.{Room}
+use Rattle.vd_passes.specs.Passes.{writes_in}
+use Rattle.vd_core.proofs.Views.{same-history, same-left}
+use Rattle.vd_core.proofs.Moving.{still-drives, drives-as, replies-drives}
+use Rattle.vd_read.proofs.Driving.{look-drives, settle-drives}
+use Rattle.vd_read.proofs.Reader.next.Goals as goal
+
+pub unreachable-requires : goal.unreachable-requires
+unreachable-requires g c =
+    let at = c.requires.busy in let is = c.phase.ensures.phase at.0 at.1 in let stands = c.phase.ensures.stands at.0 at.1 in let reads = at.2.1 in
+    elim c.in-Idle.is [
+      | inl idle ↦ at.2.0 (sym is ∙ idle)
+      | inr (inl fetching) ↦ (let writes = stands.write (ap writes_in (sym is ∙ fetching)) in cc)
+      | inr (inr (inl filled)) ↦ (let writes = stands.write (ap writes_in (sym is ∙ filled)) in cc)
+      | inr (inr (inr issuing)) ↦ (let writes = stands.write (ap writes_in (sym is ∙ issuing)) in cc)
+    ]
+
+pub returns-in-Err-clause-drives : goal.returns-in-Err-clause-drives
+returns-in-Err-clause-drives g c =
+    let at = c.requires.busy in let out = c.in-Err.ensures.busy in let same = same-history c.enter.ensures.others in let left = same-left c.enter.ensures.others in
+    drives-as refl (ap (λ (h : Numbered). h.log.entries) same) left (still-drives c.in-Err.busy.by c.args.core.now.shape.block c.args.core.now.history.log.entries c.args.core.now.spare at.0 at.1 out.passes_same)
+
+pub returns-in-Held-clause-drives : goal.returns-in-Held-clause-drives
+returns-in-Held-clause-drives g c =
+    let at = c.requires.busy in let phase = sym (c.phase.ensures.phase at.0 at.1) ∙ c.in-Held.is in let stands = c.phase.ensures.stands at.0 at.1 in let left = same-left c.look.ensures.others in
+    drives-as refl refl left (look-drives c.args.core.now.spare at.0 at.1 stands c.args.core.now.fresh (g.S.Store.events c.args.core.now.store) phase at.2.1 c.look.ensures.looks)
+
+pub returns-in-Looking-clause-drives : goal.returns-in-Looking-clause-drives
+returns-in-Looking-clause-drives g c =
+    let at = c.requires.busy in let phase = sym (c.phase.ensures.phase at.0 at.1) ∙ c.in-Looking.is in let stands = c.phase.ensures.stands at.0 at.1 in
+    let s = c.settle_look.ensures.settled in let left = same-left c.settle_look.ensures.others in let new = c.settle_look.new.self in
+    drives-as s.1 refl left (settle-drives c.args.core.now.spare at.0 at.1 stands (g.S.Store.events new.store) (g.S.Store.late c.args.core.now.store) (g.S.Store.late new.store) (g.B.Base.late c.args.core.now.base) (g.B.Base.late new.base) s.0 phase s.2)
+
+pub returns-in-Ready-clause-drives : goal.returns-in-Ready-clause-drives
+returns-in-Ready-clause-drives g c =
+    let at = c.requires.busy in let phase = sym (c.phase.ensures.phase at.0 at.1) ∙ c.in-Ready.is in let freed = c.reply.ensures.left in
+    let more = ap (λ (r : Room). r.events) freed.2 in let more_sectors = ap (λ (r : Room). r.sectors) freed.2 in
+    replies-drives c.args.core.now.spare c.args.core.now.shape.block at.0 at.1 phase c.reply.ensures.replies c.reply.new.self.spare (omega (arith, more)) (omega (arith, more_sectors))

@@ -1,0 +1,40 @@
+//! The steps of a read, one after the other.
+#![tactic(auto)]
+
+ghost use Rattle.std.specs.Prelude.{◌≡◌, ◌≢◌, false, length};
+ghost use Rattle.vd_passes.specs.declared.pass.Phase.TheVariants.{Idle};
+ghost use Rattle.vd_passes.specs.Steps.{IsAt};
+ghost use Rattle.vd_core.specs.Moves.{Drives};
+
+use vd_core::{Core, Step};
+use vd_device::{Base, Store};
+use vd_law::entry::Sector;
+use vd_passes::pass::Phase;
+
+/// Drives the reads of a core.
+pub struct Reader;
+
+impl Reader {
+    /// Makes the one step that a pass with a read calls for. `out` has as many sectors as were asked; those of each piece that
+    /// is done are what was seen. Late and Busy change nothing; every other step leaves the pass with fewer steps to its
+    /// reply, which are at most three for each piece and one more.
+    pub fn next<S: Store, B: Base>(core: &mut Core<S, B>, pass: u32, out: &mut [Sector]) -> Step
+        requires busy { IsAt core.old.passes pass (λ p. (p.phase ≢ Idle) × (p.write ≡ false) × (p.count ≡ length out.old)) }
+        ensures drives { Drives result core.old.shape.block pass core.old.passes core.new.passes core.old.history.log.entries core.new.history.log.entries core.old.spare core.new.spare }
+        ensures room { length out.new ≡ length out.old }
+    {
+        match core.phase(pass) {
+            Phase::Asked => match core.enter(pass) {
+                Ok(()) => Step::Again,
+                Err(busy) => Step::Busy { by: busy.by },
+            },
+            Phase::Held => {
+                core.look(pass, out);
+                Step::Again
+            }
+            Phase::Looking => core.settle_look(pass, out),
+            Phase::Ready => Step::Ended(core.reply(pass)),
+            Phase::Idle | Phase::Fetching | Phase::Filled | Phase::Issuing => unreachable!(),
+        }
+    }
+}

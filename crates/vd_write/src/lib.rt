@@ -1,0 +1,49 @@
+//! The steps of a write, one after the other.
+#![tactic(auto)]
+
+ghost use Rattle.std.specs.Prelude.{◌≡◌, ◌≢◌, [], true, length};
+ghost use Rattle.vd_passes.specs.declared.pass.Phase.TheVariants.{Idle};
+ghost use Rattle.vd_passes.specs.Steps.{IsAt, HasAskedWrite};
+ghost use Rattle.vd_core.specs.Moves.{Drives};
+
+use vd_core::{Core, Step};
+use vd_device::{Base, Store};
+use vd_law::entry::Sector;
+use vd_passes::pass::Phase;
+
+/// Drives the writes of a core.
+pub struct Writer;
+
+impl Writer {
+    /// Makes the one step that a pass with a write calls for. `content` is the whole content that was asked. Late and Busy
+    /// change nothing; every other step leaves the pass with fewer steps to its reply, which are at most five for each piece
+    /// and one more.
+    pub fn next<S: Store, B: Base>(core: &mut Core<S, B>, pass: u32, content: &[Sector]) -> Step
+        requires busy { IsAt core.old.passes pass (λ p. (p.phase ≢ Idle) × (p.write ≡ true)) }
+        requires content { HasAskedWrite core.old.history.log.entries pass content.now }
+        ensures drives { Drives result core.old.shape.block pass core.old.passes core.new.passes core.old.history.log.entries core.new.history.log.entries core.old.spare core.new.spare }
+    {
+        match core.phase(pass) {
+            Phase::Asked => match core.enter(pass) {
+                Ok(()) => Step::Again,
+                Err(busy) => Step::Busy { by: busy.by },
+            },
+            Phase::Held => {
+                if core.is_fresh(pass) || core.is_whole(pass) {
+                    core.issue(pass, content);
+                } else {
+                    core.fetch(pass);
+                }
+                Step::Again
+            }
+            Phase::Fetching => core.settle_fetch(pass, &mut []),
+            Phase::Filled => {
+                core.issue(pass, content);
+                Step::Again
+            }
+            Phase::Issuing => core.settle_issue(pass),
+            Phase::Ready => Step::Ended(core.reply(pass)),
+            Phase::Idle | Phase::Looking => unreachable!(),
+        }
+    }
+}
