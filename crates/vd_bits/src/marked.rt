@@ -1,8 +1,8 @@
 //! A set of numbers below a bound: marked pages, the chunks that a flush must log, free storage chunks.
 //!
-//! Above the flags of the numbers stand the flags of their words of 64 numbers, and so on up to a level of one word. A
-//! search for the lowest member goes up these levels and down again, one word on each: seven words at most for numbers
-//! below 16,777,216, which take four levels, and never the words between.
+//! Above the flags of the numbers stand the flags of their words of 64 numbers, and so on up to a level of one word:
+//! four levels for numbers below 16,777,216. A search for the lowest member goes down these levels, one word on each. From
+//! a number on it goes up and down again, seven words of four levels at most, and never the words between.
 
 ghost use Rattle.std.specs.Prelude.{◌≡◌, ℕ, ◌<◌, false, true, Some, length, replicate, IfOk, IfSome, IsNone, ◌↔◌, slice_set, slice_get};
 ghost use Rattle.vd_bits.specs.Marks.{IsLowest, NoneFrom, count_true};
