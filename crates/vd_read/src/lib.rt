@@ -21,6 +21,10 @@ impl Reader {
     pub fn next<S: Store, B: Base>(core: &mut Core<S, B>, pass: u32, out: &mut [Sector]) -> Step
         requires busy { IsAt core.old.passes pass (λ p. (p.phase ≢ Idle) × (p.write ≡ false) × (p.count ≡ length out.old)) }
         ensures drives { Drives result core.old.shape.block pass core.old.passes core.new.passes core.old.history.log.entries core.new.history.log.entries core.old.spare core.new.spare }
+        ensures shape { core.new.shape ≡ core.old.shape }
+        ensures told_before { S.tells core.new.store → S.tells core.old.store }
+        ensures base_told_before { B.tells core.new.base → B.tells core.old.base }
+        ensures start { B.tells core.new.base → core.new.start ≡ core.old.start }
         ensures room { length out.new ≡ length out.old }
     {
         match core.phase(pass) {

@@ -22,6 +22,10 @@ impl Writer {
         requires busy { IsAt core.old.passes pass (λ p. (p.phase ≢ Idle) × (p.write ≡ true)) }
         requires content { HasAskedWrite core.old.history.log.entries pass content.now }
         ensures drives { Drives result core.old.shape.block pass core.old.passes core.new.passes core.old.history.log.entries core.new.history.log.entries core.old.spare core.new.spare }
+        ensures shape { core.new.shape ≡ core.old.shape }
+        ensures told_before { S.tells core.new.store → S.tells core.old.store }
+        ensures base_told_before { B.tells core.new.base → B.tells core.old.base }
+        ensures start { B.tells core.new.base → core.new.start ≡ core.old.start }
     {
         match core.phase(pass) {
             Phase::Asked => match core.enter(pass) {
