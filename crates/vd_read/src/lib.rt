@@ -11,6 +11,9 @@ use vd_device::{Base, Store};
 use vd_law::entry::Sector;
 use vd_passes::pass::Phase;
 
+#[cfg(test)]
+mod tests;
+
 /// Drives the reads of a core.
 pub struct Reader;
 

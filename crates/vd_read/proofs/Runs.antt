@@ -1,0 +1,120 @@
+-- What a driver of one pass knows after an ask and after each step.
+use Rattle.std.proofs.Common.{◌≡◌, ◌≢◌, ◌⊎◌, ℕ, zero, suc, ◌+◌, Bool, true, false, List, [], ◌∷◌, ◌++◌, length, refl, sym, ◌∙◌, ap, subst, inl, inr, append_assoc, append-nil, arith, Option, None, Some, slice_get}
+use Rattle.std.specs.List.{AllByRecursion}
+use Rattle.vd_law.specs.declared.entry.Sector.{Sector}
+use Rattle.vd_law.specs.declared.entry.Room.{Room}
+use Rattle.vd_law.specs.declared.entry.Answer.{Answer}
+use Rattle.vd_law.specs.Entries.{Asked, Read, Write, Entry, Ask, Issue, Done, Broke, Seen, Reply}
+use Rattle.vd_law.specs.Histories.{Numbered}
+use Rattle.vd_table.specs.Tables.{Given}
+use Rattle.vd_passes.specs.declared.shape.Shape.{Shape}
+use Rattle.vd_passes.specs.declared.pass.Pass.{Pass}
+use Rattle.vd_passes.specs.declared.pass.Phase.TheVariants.{Idle}
+use Rattle.vd_passes.specs.Steps.{IsAt, HasAskedWrite}
+use Rattle.vd_passes.specs.Passes.{after_ask}
+use Rattle.vd_passes.proofs.Lists.{some-inj, get-set-same, length-set'}
+use Rattle.vd_core.specs.declared.outcome.Step.{Step}
+use Rattle.vd_core.specs.declared.outcome.Step.TheVariants.{Again, Late, Busy, Ended}
+use Rattle.vd_core.specs.View.{View}
+use Rattle.vd_core.specs.Asking.{AskEnds}
+use Rattle.vd_core.specs.Opening.{AreNew}
+use Rattle.vd_core.specs.Moves.{IsNoAsk, Drives}
+use Rattle.vd_passes.proofs.Standing as standing
+use Rattle.vd_core.proofs.Serving.{asks-write, write-stays}
+
+pub same-shape : {S B : Type 0} {a b : View S B} → a ≡ b → a.shape ≡ b.shape
+same-shape {S} {B} {a} {b} same = ap (λ (v : View S B). v.shape) same
+
+-- the pass serves a request of this kind and length
+abbrev pub IsBusyWith : (write : Bool) (count : ℕ) → Pass → Type 0
+IsBusyWith write count p = (p.phase ≢ Idle) × (p.write ≡ write) × (p.count ≡ count)
+
+abbrev pub IsNotLast : Step → Type 0
+IsNotLast Again = Unit {0}
+IsNotLast Late = Unit {0}
+IsNotLast (Busy by) = Unit {0}
+IsNotLast (Ended answer) = ⊥
+
+module _ {block i : ℕ} {passes passes' : List Pass} {entries entries' : List Entry} {left left' : Room} where
+  pub goes-on : {write : Bool} {count : ℕ} (step : Step) → IsNotLast step → Drives step block i passes passes' entries entries' left left' → IsAt passes i (IsBusyWith write count) → IsAt passes' i (IsBusyWith write count)
+  goes-on {write} {count} Again not drives at =
+      let moves = drives.moves in let same : at.0 ≡ drives.pass = some-inj (sym at.1 ∙ moves.there) in (
+        drives.pass',
+        subst (λ (ps : List Pass). slice_get ps i ≡ Some drives.pass') (sym moves.after) (get-set-same passes i drives.pass' drives.pass moves.there),
+        (drives.tells.0, moves.write ∙ ap (λ (p : Pass). p.write) (sym same) ∙ at.2.1, moves.count ∙ ap (λ (p : Pass). p.count) (sym same) ∙ at.2.2),
+      )
+  goes-on {write} {count} Late not drives at = subst (λ (ps : List Pass). IsAt ps i (IsBusyWith write count)) (sym drives.tells) at
+  goes-on {write} {count} (Busy by) not drives at = subst (λ (ps : List Pass). IsAt ps i (IsBusyWith write count)) (sym drives.tells) at
+  goes-on {write} {count} (Ended answer) not drives at = absurd not
+
+  -- a step leaves the number of passes
+  pub as-many : {step : Step} → Drives step block i passes passes' entries entries' left left' → length passes' ≡ length passes
+  as-many {step} drives = ap length drives.moves.after ∙ length-set' passes i drives.pass'
+
+  pub ended : (answer : Answer) → Drives (Ended answer) block i passes passes' entries entries' left left' → IsAt passes' i (λ p. p.phase ≡ Idle)
+  ended answer drives = let moves = drives.moves in
+      (drives.pass', subst (λ (ps : List Pass). slice_get ps i ≡ Some drives.pass') (sym moves.after) (get-set-same passes i drives.pass' drives.pass moves.there), drives.tells.0)
+
+same-no-ask : (e : Entry) → IsNoAsk e → standing.IsNoAsk e
+same-no-ask (Ask id request) none = none
+same-no-ask (Issue id first content) none = none
+same-no-ask (Done id) none = none
+same-no-ask (Broke id) none = none
+same-no-ask (Seen id first content) none = none
+same-no-ask (Reply id answer) none = none
+
+asked-after : (history more : List Entry) (i : ℕ) (content : List Sector) → AllByRecursion IsNoAsk more → HasAskedWrite history i content → HasAskedWrite (history ++ more) i content
+asked-after history [] i content none asked = subst (λ (h : List Entry). HasAskedWrite h i content) (sym (append-nil history)) asked
+asked-after history (e ∷ more) i content none asked =
+    subst (λ (h : List Entry). HasAskedWrite h i content) (append_assoc history (e ∷ []) more) (asked-after (history ++ e ∷ []) more i content none.1 (write-stays history e i content (same-no-ask e none.0) asked))
+
+pub still-asked : {block i : ℕ} {passes passes' : List Pass} {entries entries' : List Entry} {left left' : Room} {step : Step} (content : List Sector) → Drives step block i passes passes' entries entries' left left' → HasAskedWrite entries i content → HasAskedWrite entries' i content
+still-asked {block} {i} {passes} {passes'} {entries} {entries'} content drives asked =
+    let moves = drives.moves in subst (λ (h : List Entry). HasAskedWrite h i content) (sym moves.entries_after) (asked-after entries moves.more i content moves.none_asked asked)
+
+-- An ask that has its answer leaves its pass idle; another has asked.
+module _ {shape : Shape} {i events : ℕ} {table table' : Given} {passes passes' : List Pass} {history history' : Numbered} {left left' : Room} where
+  pub answered-idle : (answer : Answer) (request : Asked) → AskEnds (Some answer) request shape i table table' passes passes' history history' left left' events → IsAt passes i (λ p. p.phase ≡ Idle) → IsAt passes' i (λ p. p.phase ≡ Idle)
+  answered-idle answer request (inl (exceeds, is, same)) at = subst (λ (ps : List Pass). IsAt ps i (λ p. p.phase ≡ Idle)) (sym same.passes_same) at
+  answered-idle answer request (inr (inl (needed, free, is, full))) at =
+      let asks = full.asks in let same : at.0 ≡ asks.pass = some-inj (sym at.1 ∙ asks.there) in let after = record asks.pass { call = asks.pass.call + 1 } in
+      (after, subst (λ (ps : List Pass). slice_get ps i ≡ Some after) (sym asks.after) (get-set-same passes i after asks.pass asks.there), ap (λ (p : Pass). p.phase) (sym same) ∙ at.2)
+  answered-idle answer request (inr (inr (none, asked))) at = cc
+
+  pub as-many-asked : (result : Option Answer) (request : Asked) → AskEnds result request shape i table table' passes passes' history history' left left' events → length passes' ≡ length passes
+  as-many-asked result request (inl (exceeds, is, same)) = ap length same.passes_same
+  as-many-asked result request (inr (inl (needed, free, is, full))) = ap length full.asks.after ∙ length-set' passes i _
+  as-many-asked result request (inr (inr (none, asked))) = ap length asked.asks.after ∙ length-set' passes i _
+
+  pub asked-write : (result : Option Answer) (first : ℕ) (content : List Sector) → ((answer : Answer) → result ≡ Some answer → ⊥) → AskEnds result (Write first content) shape i table table' passes passes' history history' left left' events
+      → IsAt passes' i (IsBusyWith true (length content)) × HasAskedWrite history'.log.entries i content
+  asked-write result first content not (inl (exceeds, is, same)) = absurd (not _ is)
+  asked-write result first content not (inr (inl (needed, free, is, full))) = absurd (not _ is)
+  asked-write result first content not (inr (inr (none, asked))) =
+      let asks = asked.asks in let after = after_ask asks.pass (Write first content) _ _ in
+      ((after, subst (λ (ps : List Pass). slice_get ps i ≡ Some after) (sym asks.after) (get-set-same passes i after asks.pass asks.there), ((λ e. cc), refl, refl)), asks-write asks)
+
+  pub asked-read : (result : Option Answer) (first count : ℕ) → ((answer : Answer) → result ≡ Some answer → ⊥) → AskEnds result (Read first count) shape i table table' passes passes' history history' left left' events → IsAt passes' i (IsBusyWith false count)
+  asked-read result first count not (inl (exceeds, is, same)) = absurd (not _ is)
+  asked-read result first count not (inr (inl (needed, free, is, full))) = absurd (not _ is)
+  asked-read result first count not (inr (inr (none, asked))) =
+      let asks = asked.asks in let after = after_ask asks.pass (Read first count) _ _ in
+      (after, subst (λ (ps : List Pass). slice_get ps i ≡ Some after) (sym asks.after) (get-set-same passes i after asks.pass asks.there), ((λ e. cc), refl, refl))
+
+-- the step of a match's other arm isn't the last
+pub other-arm : (step : Step) → (step ≡ Again) ⊎ (step ≡ Late) ⊎ ((by : ℕ) × (step ≡ Busy by)) → IsNotLast step
+other-arm step (inl is) = subst IsNotLast (sym is) tt
+other-arm step (inr (inl is)) = subst IsNotLast (sym is) tt
+other-arm step (inr (inr (by, is))) = subst IsNotLast (sym is) tt
+
+-- the one pass of a new core is idle
+pub first-idle : {block : ℕ} (passes : List Pass) → AreNew 1 block passes → IsAt passes 0 (λ p. p.phase ≡ Idle)
+first-idle [] new = absurd (let many = new.many in omega arith)
+first-idle (p ∷ passes) new = (p, refl, (new.each 0 p refl).phase)
+
+-- where there is one pass and it is idle, all are
+pub all-idle : (passes : List Pass) → length passes ≡ 1 → IsAt passes 0 (λ p. p.phase ≡ Idle) → (i : ℕ) (p : Pass) → slice_get passes i ≡ Some p → p.phase ≡ Idle
+all-idle [] one idle i p there = absurd (omega arith)
+all-idle (q ∷ []) one idle zero p there = ap (λ (x : Pass). x.phase) (some-inj (sym there ∙ idle.1)) ∙ idle.2
+all-idle (q ∷ []) one idle (suc i) p there = cc
+all-idle (q ∷ r ∷ passes) one idle i p there = absurd (omega arith)
