@@ -1,6 +1,6 @@
 //! Entries of the history, numbered by the store's events.
 
-ghost use Rattle.std.specs.Prelude.{◌≡◌, ◌≤◌, ◌<◌, ◌^◌, ◌++◌, [], ◌∷◌, length};
+ghost use Rattle.std.specs.Prelude.{◌≡◌, ◌<◌, ◌^◌, ◌++◌, [], ◌∷◌, length};
 ghost use Rattle.vd_law.specs.Entries.{entry_of};
 ghost use Rattle.vd_law.specs.Logs.{content_of};
 ghost use Rattle.vd_core.specs.Adding.{CanAdd, Extends};

@@ -1,6 +1,6 @@
 //! A request is asked, and a reply is given.
 
-ghost use Rattle.std.specs.Prelude.{◌≡◌, ◌≢◌, ◌+◌, ◌-◌, ◌*◌, ◌^◌, ◌++◌, [], ◌∷◌, ◌<◌, ◌≤◌, length, Some, slice_get};
+ghost use Rattle.std.specs.Prelude.{◌≡◌, ◌≢◌, ◌+◌, ◌-◌, ◌*◌, ◌^◌, [], ◌∷◌, ◌<◌, ◌≤◌, length};
 ghost use Rattle.vd_law.specs.Entries.{asked_of, Flush};
 ghost use Rattle.vd_law.specs.declared.entry.Answer.TheVariants.{Full};
 ghost use Rattle.vd_law.specs.Logs.{asked_content};

@@ -1,7 +1,7 @@
 //! A pass enters the block of its next piece.
 
-ghost use Rattle.std.specs.Prelude.{ℕ, ◌≡◌, ◌≢◌, ◌+◌, ◌-◌, ◌*◌, ◌/◌, ◌^◌, ◌<◌, ◌≤◌, IfErr, OnOk, length, None, Some, slice_get};
-ghost use Rattle.vd_passes.specs.Places.{IsShape, ArePlaces, place_of};
+ghost use Rattle.std.specs.Prelude.{ℕ, ◌≡◌, ◌+◌, ◌-◌, ◌*◌, ◌/◌, ◌^◌, ◌<◌, ◌≤◌, IfErr, OnOk, length, None, Some, slice_get};
+ghost use Rattle.vd_passes.specs.Places.{place_of};
 ghost use Rattle.vd_passes.specs.Steps.{IsAt, IsNextPiece};
 ghost use Rattle.vd_core.specs.Entering.{CanEnter, EntersBlock, IsKeptOut};
 

@@ -1,10 +1,10 @@
 //! The base read that fills a pass's buffer with its block.
 
-ghost use Rattle.std.specs.Prelude.{◌≡◌, ◌⊎◌, ◌-◌, ◌*◌, ◌<◌, ◌≤◌, ◌^◌, length};
+ghost use Rattle.std.specs.Prelude.{◌≡◌, ◌-◌, ◌*◌, ◌<◌, ◌≤◌};
 ghost use Rattle.vd_device.specs.declared.settled.Settled.{Settled as AnySettled};
 ghost use Rattle.vd_device.specs.Calls.{IsCalm, IsCaused};
 ghost use Rattle.vd_passes.specs.Laying.{below};
-ghost use Rattle.vd_passes.specs.Steps.{IsAt, CanReadBase, IsWaitingForBase, Fetches, FillsZeros, FetchSettled};
+ghost use Rattle.vd_passes.specs.Steps.{IsAt, CanReadBase, IsWaitingForBase, FetchSettled};
 ghost use Rattle.vd_core.specs.Outcomes.{outcome_of};
 ghost use Rattle.vd_core.specs.Devices.{BaseStays};
 ghost use Rattle.vd_core.specs.Fetching.{FetchesBlock};

@@ -1,11 +1,9 @@
 //! A piece of a write: it is issued, and its end is settled.
 
-ghost use Rattle.std.specs.Prelude.{◌≡◌, ◌≢◌, ◌⊎◌, ◌+◌, ◌-◌, ◌*◌, ◌^◌, ◌++◌, [], ◌∷◌, ◌<◌, ◌≤◌, true, length, slice_range, Some, slice_get};
+ghost use Rattle.std.specs.Prelude.{◌≡◌, ◌⊎◌, ◌+◌, ◌-◌, ◌*◌, [], ◌∷◌, ◌<◌, ◌≤◌, length};
 ghost use Rattle.vd_device.specs.declared.ticket.Kind.TheVariants.{Write};
 ghost use Rattle.vd_device.specs.declared.settled.Settled.{Settled as AnySettled};
-ghost use Rattle.vd_device.specs.Tickets.{Puts};
-ghost use Rattle.vd_device.specs.Disks.{Adds};
-ghost use Rattle.vd_device.specs.Calls.{IsCalm, IsCaused, issued};
+ghost use Rattle.vd_device.specs.Calls.{IsCalm, IsCaused};
 ghost use Rattle.vd_passes.specs.declared.pass.Phase.TheVariants.{Held, Filled};
 ghost use Rattle.vd_passes.specs.Steps.{IsAt, CanWrite, IsWaiting, Issues, WriteSettled};
 ghost use Rattle.vd_core.specs.Adding.{CanAdd, Extends};

@@ -1,6 +1,6 @@
 //! The read of a piece: from the store where its block is fresh, else from the base, with zeros where that has nothing.
 
-ghost use Rattle.std.specs.Prelude.{◌≡◌, ◌⊎◌, ◌+◌, ◌-◌, ◌*◌, ◌^◌, ◌++◌, [], ◌∷◌, ◌<◌, ◌≤◌, length, replicate, None, Some, slice_get};
+ghost use Rattle.std.specs.Prelude.{◌≡◌, ◌+◌, ◌-◌, ◌*◌, ◌^◌, [], ◌∷◌, ◌<◌, ◌≤◌, length, replicate, None};
 ghost use Rattle.vd_device.specs.declared.ticket.Kind.TheVariants.{Read};
 ghost use Rattle.vd_device.specs.declared.settled.Settled.{Settled as AnySettled};
 ghost use Rattle.vd_device.specs.Calls.{IsCalm, IsCaused};
@@ -8,7 +8,7 @@ ghost use Rattle.vd_device.specs.Tickets.{IsInFlight};
 ghost use Rattle.vd_passes.specs.Buffers.{BufferSettled};
 ghost use Rattle.vd_reading.specs.Background.{zero_sector};
 ghost use Rattle.vd_passes.specs.Laying.{below};
-ghost use Rattle.vd_passes.specs.Steps.{IsAt, CanRead, CanReadBase, IsWaiting, IsWaitingForBase, Looks, LooksAtBase, Sees, SeesZeros, LookSettled, BaseLookSettled};
+ghost use Rattle.vd_passes.specs.Steps.{IsAt, CanRead, CanReadBase, IsWaiting, IsWaitingForBase, Looks, LooksAtBase, Sees, LookSettled, BaseLookSettled};
 ghost use Rattle.vd_core.specs.Adding.{CanAdd, Extends};
 ghost use Rattle.vd_core.specs.Outcomes.{outcome_of, read_numbers_of, read_sectors_of};
 ghost use Rattle.vd_core.specs.Devices.{Stays, BaseStays};

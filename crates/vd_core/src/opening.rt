@@ -2,7 +2,7 @@
 
 ghost use Rattle.std.specs.Prelude.{ℕ, ◌≡◌, ◌+◌, ◌*◌, ◌^◌, ◌<◌, ◌≤◌, ◌++◌, [], ◌∷◌, None, false, replicate, min, IfOk, IfErr, length, slice_get, Some, vec_capacity};
 ghost use Rattle.vd_format.specs.Headers.{IsValid};
-ghost use Rattle.vd_format.specs.Layouts.{blocks_of, chunks_of, storage_start, need_of};
+ghost use Rattle.vd_format.specs.Layouts.{blocks_of, chunks_of, need_of};
 ghost use Rattle.vd_passes.specs.declared.pass.Pass.{Pass as AnyPass};
 ghost use Rattle.vd_passes.specs.declared.pass.Phase.TheVariants.{Idle};
 ghost use Rattle.vd_law.specs.Rules.{IsRegular, IsLegal};
@@ -147,7 +147,7 @@ fn new_passes(alloc: Global, count: u32, block: usize) -> Result<Vec<Pass>, NoMe
     Ok(passes)
 }
 
-/// So much room.
+/// Room for so many events and sectors; each count fits in 64 bits.
 fn room_of(events: u64, sectors: u64) -> Room
     ensures room { result ≡ record { events = events; sectors = sectors } }
     ensures bounded { events < 2 ^ 64 }
@@ -175,6 +175,7 @@ impl<S: Store, B: Base> Core<S, B> {
         ensures back { IfErr result (λ refused. (refused.store ≡ store) × (refused.base ≡ base)) }
         ensures opened { IfOk result (λ core. IsOpened header.now passes room store base (B.sectors base) (S.events store) core) }
     {
+        // Asked for what their clauses say alone: the invariant bounds what the devices tell.
         let _known = (
             store.sectors(),
             store.depth(),

@@ -1,9 +1,9 @@
 //! The steps of a read: a pass that holds its block looks at its piece.
 
-ghost use Rattle.std.specs.Prelude.{◌≡◌, ◌⊎◌, ◌+◌, ◌*◌, ◌<◌, ◌≤◌, [], ◌∷◌, true, false, None, Some, IsSome, length, slice_get};
+ghost use Rattle.std.specs.Prelude.{◌≡◌, ◌⊎◌, ◌+◌, ◌<◌, [], ◌∷◌, true, false, None, Some, IsSome, length, slice_get};
 ghost use Rattle.vd_device.specs.declared.settled.Settled.{Settled as AnySettled};
 ghost use Rattle.vd_device.specs.Calls.{IsCalm, IsCaused};
-ghost use Rattle.vd_passes.specs.declared.pass.Phase.TheVariants.{Held, Looking};
+ghost use Rattle.vd_passes.specs.declared.pass.Phase.TheVariants.{Looking};
 ghost use Rattle.vd_passes.specs.Laying.{below};
 ghost use Rattle.vd_passes.specs.Steps.{IsAt, Looks, LooksAtBase, SeesZeros, LookSettled, BaseLookSettled};
 ghost use Rattle.vd_core.specs.Adding.{Extends};

@@ -1,6 +1,6 @@
 //! A pass asks a request, and has its reply.
 
-ghost use Rattle.std.specs.Prelude.{◌≡◌, ◌⊎◌, ◌+◌, ◌-◌, ◌*◌, ◌/◌, ◌^◌, ◌<◌, ◌≤◌, [], ◌∷◌, None, Some, IfSome, IfNone, length, slice_get};
+ghost use Rattle.std.specs.Prelude.{◌≡◌, ◌+◌, ◌-◌, ◌*◌, ◌/◌, ◌^◌, ◌<◌, ◌≤◌, [], ◌∷◌, None, Some, IfSome, IfNone, length};
 ghost use Rattle.vd_law.specs.Entries.{asked_of};
 ghost use Rattle.vd_law.specs.Logs.{asked_content};
 ghost use Rattle.vd_law.specs.Rules.{IsInside};
@@ -8,7 +8,7 @@ ghost use Rattle.vd_passes.specs.declared.pass.Phase.TheVariants.{Idle, Ready};
 ghost use Rattle.vd_passes.specs.Needs.{sectors_of};
 ghost use Rattle.vd_passes.specs.Steps.{IsAt, Replies};
 ghost use Rattle.vd_table.specs.Tables.{used};
-ghost use Rattle.vd_table.specs.Runs.{lacking, TakesRun};
+ghost use Rattle.vd_table.specs.Runs.{lacking};
 ghost use Rattle.vd_core.specs.Adding.{Extends};
 ghost use Rattle.vd_core.specs.Asking.{CanAsk, AskEnds, Claims, CanReply, IsOkWhereDone, run_from, run_count, freed, without};
 

@@ -46,6 +46,7 @@ impl<S: Store, B: Base> Model for Core<S, B> {
 }
 
 impl<S: Store, B: Base> Core<S, B> {
+    /// What this pass does next.
     pub fn phase(&self, pass: u32) -> Phase
         requires { pass < length self.now.passes }
         ensures phase { (p : AnyPass) → slice_get self.now.passes pass ≡ Some p → result ≡ p.phase }
@@ -54,6 +55,7 @@ impl<S: Store, B: Base> Core<S, B> {
         self.passes[pass as usize].phase
     }
 
+    /// All that was asked, done and replied since the core was opened.
     pub fn history(&self) -> &History
         ensures history { result.now ≡ self.now.history }
         ensures regular { IsRegular (self.now.shape.block * self.now.shape.blocks) self.now.history.log.entries }

@@ -1,9 +1,9 @@
 //! The steps of a write: a pass enters a block, fills its buffer with it where it must, and issues its piece.
 
-ghost use Rattle.std.specs.Prelude.{◌≡◌, ◌≢◌, ◌⊎◌, ◌+◌, ◌*◌, ◌<◌, ◌≤◌, [], ◌∷◌, true, false, map, Some, IfErr, OnErr, OnOk, length, slice_get};
+ghost use Rattle.std.specs.Prelude.{◌≡◌, ◌<◌, [], ◌∷◌, true, false, map, Some, IfErr, OnOk, slice_get};
 ghost use Rattle.vd_device.specs.declared.settled.Settled.{Settled as AnySettled};
 ghost use Rattle.vd_device.specs.Calls.{IsCalm, IsCaused};
-ghost use Rattle.vd_passes.specs.declared.pass.Phase.TheVariants.{Asked, Held, Fetching, Filled, Issuing};
+ghost use Rattle.vd_passes.specs.declared.pass.Phase.TheVariants.{Asked, Held, Fetching, Issuing};
 ghost use Rattle.vd_passes.specs.Passes.{region_of};
 ghost use Rattle.vd_passes.specs.Steps.{IsAt, HasAskedWrite, FetchSettled, Issues, WriteSettled};
 ghost use Rattle.vd_core.specs.Adding.{Extends};

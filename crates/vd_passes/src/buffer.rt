@@ -1,10 +1,10 @@
 //! The buffer of a pass: room for the sectors of one block.
 
-ghost use Rattle.std.specs.Prelude.{◌≡◌, ◌+◌, ◌-◌, ◌≤◌, ◌++◌, IfOk, length, replicate, take, drop};
+ghost use Rattle.std.specs.Prelude.{◌≡◌, ◌+◌, ◌-◌, ◌≤◌, IfOk, length, replicate};
 ghost use Rattle.vd_reading.specs.Background.{zero_sector};
 ghost use Rattle.vd_device.specs.declared.ticket.Kind.TheVariants.{Read};
 ghost use Rattle.vd_device.specs.Tickets.{IsInFlight};
-ghost use Rattle.vd_device.specs.Calls.{Settles, Gives, IsCaused};
+ghost use Rattle.vd_device.specs.Calls.{IsCaused};
 ghost use Rattle.vd_passes.specs.Laying.{laid};
 ghost use Rattle.vd_passes.specs.Buffers.{BufferSettled};
 

@@ -1,6 +1,6 @@
 //! What one caller has asked, and how far it has come.
 
-ghost use Rattle.std.specs.Prelude.{◌≡◌, ◌≢◌, ◌+◌, ◌^◌, ◌-◌, ◌<◌, ◌≤◌, None, Some, IsSome};
+ghost use Rattle.std.specs.Prelude.{◌≡◌, ◌≢◌, ◌+◌, ◌^◌, ◌-◌, ◌<◌, None, Some, IsSome};
 
 use crate::buffer::Buffer;
 use vd_device::Ticket;
@@ -85,7 +85,6 @@ fn take(slot: &mut Option<Ticket>) -> Ticket
 
 impl Pass {
     ghost use Rattle.vd_law.specs.Entries.{asked_of, Flush};
-    ghost use Rattle.vd_reading.specs.Background.{zero_sector};
     ghost use Rattle.vd_passes.specs.declared.pass.Phase.TheVariants.{Idle};
     ghost use Rattle.vd_passes.specs.Passes.{spent, after_ask, after_enter, after_fetch, after_filled, after_issue, after_look, after_base_look, after_piece, after_fault, after_reply, answer_of, IsNew};
 

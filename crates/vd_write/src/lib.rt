@@ -1,7 +1,7 @@
 //! The steps of a write, one after the other.
 #![tactic(auto)]
 
-ghost use Rattle.std.specs.Prelude.{◌≡◌, ◌≢◌, [], true, length};
+ghost use Rattle.std.specs.Prelude.{◌≡◌, ◌≢◌, [], true};
 ghost use Rattle.vd_passes.specs.declared.pass.Phase.TheVariants.{Idle};
 ghost use Rattle.vd_passes.specs.Steps.{IsAt, HasAskedWrite};
 ghost use Rattle.vd_core.specs.Moves.{Drives};
