@@ -46,8 +46,11 @@ fn write_image<S: Store>(store: &mut S, zeros: &[Sector], header: &Header) -> Re
     ensures story { S.tells store.new → Story (header_sector header.now) zero_sector (storage_start header.now) (S.disk store.old) (S.disk store.new) }
     ensures written { OnOk result (S.tells store.new → IsWritten (header_sector header.now) zero_sector (storage_start header.now) (S.disk store.new)) }
 {
+    // Durable before an area changes, so that no crash leaves an old header over areas that are new in part.
     fill(store, zeros, 0, 1)?;
+    // Durable before the header is written, so that a header that a crash leaves stands over a whole map and whole slots.
     fill(store, zeros, 1, layout_of(header).storage_at)?;
+    // Durable last: from its flush on each crash leaves the image.
     fill(store, &[write_header(header)], 0, 1)
 }
 
