@@ -1,5 +1,5 @@
 -- What is kept of a trace while it is read.
-use Rattle.std.specs.Prelude.{ℕ, ◌≡◌, ◌+◌, ◌-◌, ◌<◌, ◌≤◌, ◌==◌, if◌then◌else◌, List, [], ◌∷◌, ◌++◌, length, slice_index_or, slice_set, map, Vec, sum_by}
+use Rattle.std.specs.Prelude.{ℕ, ◌≡◌, ◌+◌, ◌-◌, ◌<◌, ◌≤◌, ◌==◌, if◌then◌else◌, List, [], ◌∷◌, ◌++◌, length, slice_index_or, slice_set, map, Vec, sum_by, Bool, true, false}
 use Rattle.std.specs.List.{All}
 use Rattle.std.specs.declared.alloc.Global.{Global}
 use Rattle.vd_law.specs.declared.entry.Sector.{Sector}
@@ -43,6 +43,13 @@ end_in (Read first count) = first + count
 end_in (Fill first count byte) = first + count
 end_in (Put first place) = first + 1
 end_in Flush = 0
+
+-- whether it flushes
+abbrev pub flushes_in : Stored → Bool
+flushes_in (Read first count) = false
+flushes_in (Fill first count byte) = false
+flushes_in (Put first place) = false
+flushes_in Flush = true
 
 -- the events and sectors that it adds at most
 abbrev pub events_in : (block : ℕ) → Item → ℕ

@@ -3,6 +3,7 @@
 
 pub mod error;
 mod fields;
+mod hex_digits;
 mod kept;
 pub mod line;
 mod needs;

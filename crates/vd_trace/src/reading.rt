@@ -7,8 +7,8 @@ ghost use Rattle.vd_trace.specs.Lines.{is_show, IsGood};
 ghost use Rattle.vd_trace.specs.LineReading.{guest_in, count_in, byte_in, sector_in, work_in, show_in, fields_in, line_in, may_follow};
 
 use crate::fields::fields_of;
+use crate::hex_digits::bytes_in;
 use crate::line::{Line, Work};
-use hex::FromHex;
 use vd_decimal::read_number;
 use vd_law::entry::Sector;
 
@@ -46,19 +46,15 @@ fn count_in(field: &[u8]) -> Option<u32>
 fn byte_in(field: &[u8]) -> Option<u8>
     ensures { result ≡ byte_in field.now }
 {
-    match <[u8; 1] as FromHex>::from_hex(field) {
-        Ok(byte) => Some(byte[0]),
-        Err(_) => None,
-    }
+    let [byte] = bytes_in::<1>(field)?;
+    Some(byte)
 }
 
 fn sector_in(field: &[u8]) -> Option<Sector>
     ensures { result ≡ sector_in field.now }
 {
-    match <[u8; 512] as FromHex>::from_hex(field) {
-        Ok(bytes) => Some(Sector { bytes }),
-        Err(_) => None,
-    }
+    let bytes = bytes_in(field)?;
+    Some(Sector { bytes })
 }
 
 fn read_or_put(kind: &[u8], first: &[u8], last: &[u8]) -> Option<Work>

@@ -71,6 +71,29 @@ fn lines_outside_the_grammar(rt: HostRuntime) -> Result<(), Fail> {
     Ok(())
 }
 
+/// A line of 1,024 digits, but for one byte at this place.
+fn put_line(alloc: Global, place: usize, byte: u8) -> Result<Vec<u8>, Fail>
+    requires { place < 1024 }
+{
+    let mut digits = [b'0'; 1024];
+    digits[place] = byte;
+    repeated(alloc, b"1 X 7 ", 1, &digits)
+}
+
+#[test]
+fn bytes_that_are_no_digits(rt: HostRuntime) -> Result<(), Fail> {
+    let alloc = rt.alloc();
+    for place in [0, 1, 511, 1022, 1023] {
+        for byte in b"/:@G`g\x7f\x80\xb0\xc1\xff\x10\x50" {
+            assert_eq!(rt; read(alloc, &put_line(alloc, place, *byte)?).err(), bad(1));
+        }
+        for byte in b"09afAF" {
+            assert_eq!(rt; read(alloc, &put_line(alloc, place, *byte)?).err(), None);
+        }
+    }
+    Ok(())
+}
+
 #[test]
 fn limits_of_lines(rt: HostRuntime) -> Result<(), Fail> {
     let alloc = rt.alloc();
@@ -327,7 +350,11 @@ fn all_bytes(alloc: Global, digits: &[u8; 16]) -> Result<Vec<u8>, Fail> {
 fn every_byte_is_printed_in_lower_case(rt: HostRuntime) -> Result<(), Fail> {
     let alloc = rt.alloc();
     let lower = all_bytes(alloc, b"0123456789abcdef")?;
-    for digits in [b"0123456789abcdef", b"0123456789ABCDEF"] {
+    for digits in [
+        b"0123456789abcdef",
+        b"0123456789ABCDEF",
+        b"0123456789aBcDeF",
+    ] {
         let text = all_bytes(alloc, digits)?;
         assert_eq!(rt; printed(alloc, &text, &[])?.0.as_slice(), lower.as_slice());
     }
