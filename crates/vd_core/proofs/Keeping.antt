@@ -1,8 +1,10 @@
+pub mod Accounting
 pub mod Asking
 pub mod Devices
 pub mod Ending
 pub mod Entering
 pub mod Fetching
+pub mod Following
 pub mod Issuing
 pub mod Looking
 pub mod Opening

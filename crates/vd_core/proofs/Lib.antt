@@ -3,6 +3,7 @@ pub mod Ended
 pub mod Entered
 pub mod Entries
 pub mod Keeping
+pub mod Leaving
 pub mod Moving
 pub mod NewPasses
 pub mod Picked
@@ -12,4 +13,6 @@ pub mod Rooming
 pub mod Seen
 pub mod Serving
 pub mod Settled
+pub mod Storing
+pub mod StoringSteps
 pub mod Views

@@ -3,6 +3,7 @@ use Rattle.std.specs.Prelude.{ℕ, ◌≡◌, ◌+◌, ◌*◌, ◌/◌, ◌^◌
 use Rattle.std.specs.List.{sum_by}
 use Rattle.vd_law.specs.declared.entry.Sector.{Sector}
 use Rattle.vd_law.specs.declared.entry.Room.{Room}
+use Rattle.vd_law.specs.Entries.{Entry}
 use Rattle.vd_law.specs.Histories.{Numbered, last_number}
 use Rattle.vd_device.specs.declared.ticket.Ticket.{Ticket}
 use Rattle.vd_device.specs.Disks.{Disk}
@@ -15,6 +16,8 @@ use Rattle.vd_passes.specs.Places.{place_of}
 use Rattle.vd_passes.specs.Needs.{HasRoom}
 use Rattle.vd_passes.specs.Passes.{region_of}
 use Rattle.vd_passes.specs.Coherent.{IsCoherent, IsFaithful}
+use Rattle.vd_passes.specs.Causes.{OfStore, OfBase, IsBlamed, AreOfPasses}
+use Rattle.vd_core.specs.Storing.{IsStoredBy}
 
 -- The room in the history: each pass has reserved what its request may still need, the spare room is what is left beside that,
 -- and the numbers of the entries are not above the store's number of events.
@@ -40,6 +43,15 @@ pub record IsKept (shape : Shape) (table : Given) (fresh : List Bool) (regions :
   pub held : regions ≡ map region_of passes
   pub roomy : IsRoomy shape.block passes history spare events
   pub storage : IsStorage shape table sectors
+
+-- Why the answers of a history are as they are: each fault names a ticket of its device, which has failed as often, a Full is due
+-- to what writes have taken, and each entry is of one of the passes.
+pub record IsAccounted (shape : Shape) (table : Given) (passes : List Pass) (history : List Entry)
+    (last faults_at_opening faults base_last base_faults_at_opening base_faults : ℕ) : Type 0 where
+  pub of_store : IsBlamed OfStore passes history last faults_at_opening faults
+  pub of_base : IsBlamed OfBase passes history base_last base_faults_at_opening base_faults
+  pub stored : IsStoredBy shape table history
+  pub of_passes : AreOfPasses passes history
 
 -- the guest's disk at opening: no block is local
 abbrev pub start_of : Shape → (base : List Sector) → List Sector

@@ -10,3 +10,5 @@ pub mod Kept
 pub mod Asking
 pub mod Opening
 pub mod Moves
+pub mod Storing
+pub mod Leaving

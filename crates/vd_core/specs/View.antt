@@ -1,5 +1,5 @@
 -- A core as contracts see it.
-use Rattle.std.specs.Prelude.{Bool, List}
+use Rattle.std.specs.Prelude.{ℕ, Bool, List}
 use Rattle.vd_law.specs.declared.entry.Sector.{Sector}
 use Rattle.vd_law.specs.declared.entry.Room.{Room}
 use Rattle.vd_law.specs.Histories.{Numbered}
@@ -21,3 +21,6 @@ pub record View (S B : Type 0) : Type 0 where
   pub spare : Room
   -- the guest's disk at opening
   pub start : List Sector
+  -- how often the devices had failed at opening
+  pub store_faults : ℕ
+  pub base_faults : ℕ

@@ -3,6 +3,7 @@
 ghost use Rattle.std.specs.Prelude.{◌≡◌, ◌<◌, ◌^◌, ◌++◌, [], ◌∷◌, length};
 ghost use Rattle.vd_law.specs.Entries.{entry_of};
 ghost use Rattle.vd_law.specs.Logs.{content_of};
+ghost use Rattle.vd_device.specs.Disks.{IsRunning};
 ghost use Rattle.vd_core.specs.Adding.{CanAdd, Extends};
 
 use vd_device::Store;
@@ -25,6 +26,7 @@ pub(crate) fn add<S: Store>(store: &S, history: &mut History, event: Event<'_>)
     requires room { CanAdd (length (content_of (entry_of event))) history.old (S.events store.now) }
     ensures entry { history.new.log.entries ≡ history.old.log.entries ++ entry_of event.entry ∷ [] }
     ensures extends { Extends (S.events store.now ∷ []) (length (content_of (entry_of event.entry))) history.old history.new }
+    ensures running { S.tells store.now → IsRunning (S.events store.now) (S.disk store.now) }
 {
     history.add(event, store.events());
 }

@@ -6,6 +6,7 @@ ghost use Rattle.vd_law.specs.declared.entry.Answer.TheVariants.{Full};
 ghost use Rattle.vd_law.specs.Logs.{asked_content};
 ghost use Rattle.vd_passes.specs.Needs.{need_of, pieces, sectors_of};
 ghost use Rattle.vd_passes.specs.Steps.{IsAt, Asks, AsksFull, Replies};
+ghost use Rattle.vd_device.specs.Disks.{IsRunning};
 ghost use Rattle.vd_core.specs.Adding.{CanAdd, Extends};
 
 use crate::adding::{add, call_id};
@@ -66,6 +67,7 @@ pub(crate) fn ask_request<S: Store>(
     requires room { CanAdd (length (asked_content (asked_of request))) history.old (S.events store.now) }
     ensures asks { Asks (asked_of request.entry) left.events left.sectors pass passes.old.items passes.new.items history.old.log.entries history.new.log.entries }
     ensures extends { Extends (S.events store.now ∷ []) (length (asked_content (asked_of request.entry))) history.old history.new }
+    ensures running { S.tells store.now → IsRunning (S.events store.now) (S.disk store.now) }
 {
     let p = &mut passes[pass];
     p.ask(request, left.events, left.sectors);
@@ -90,6 +92,7 @@ pub(crate) fn ask_full<S: Store>(
     ensures answer { result ≡ Full needed free }
     ensures asks { AsksFull (asked_of request.entry) needed free pass passes.old.items passes.new.items history.old.log.entries history.new.log.entries }
     ensures extends { Extends (S.events store.now ∷ S.events store.now ∷ []) (length (asked_content (asked_of request.entry))) history.old history.new }
+    ensures running { S.tells store.now → IsRunning (S.events store.now) (S.disk store.now) }
 {
     let p = &mut passes[pass];
     p.call += 1;
@@ -112,6 +115,7 @@ pub(crate) fn reply_request<S: Store>(
     requires room { CanAdd 0 history.old (S.events store.now) }
     ensures replies { Replies result pass passes.old.items passes.new.items history.old.log.entries history.new.log.entries }
     ensures extends { Extends (S.events store.now ∷ []) 0 history.old history.new }
+    ensures running { S.tells store.now → IsRunning (S.events store.now) (S.disk store.now) }
 {
     let p = &mut passes[pass];
     let id = call_id(pass, p.call);

@@ -3,8 +3,10 @@
 ghost use Rattle.std.specs.Prelude.{◌≡◌, ◌⊎◌, ◌+◌, ◌-◌, ◌*◌, [], ◌∷◌, ◌<◌, ◌≤◌, length};
 ghost use Rattle.vd_device.specs.declared.ticket.Kind.TheVariants.{Write};
 ghost use Rattle.vd_device.specs.declared.settled.Settled.{Settled as AnySettled};
-ghost use Rattle.vd_device.specs.Calls.{IsCalm, IsCaused};
+ghost use Rattle.vd_device.specs.Calls.{IsCalm, IsCaused, next_number};
+ghost use Rattle.vd_device.specs.Disks.{IsRunning};
 ghost use Rattle.vd_passes.specs.declared.pass.Phase.TheVariants.{Held, Filled};
+ghost use Rattle.vd_passes.specs.Causes.{OfStore, IsNumbered};
 ghost use Rattle.vd_passes.specs.Steps.{IsAt, CanWrite, IsWaiting, Issues, WriteSettled};
 ghost use Rattle.vd_core.specs.Adding.{CanAdd, Extends};
 ghost use Rattle.vd_core.specs.Outcomes.{outcome_of, numbers_of};
@@ -26,6 +28,8 @@ fn submit_piece<S: Store>(store: &mut S, shape: &Shape, p: &mut Pass, part: &[Se
     requires part { length part.now ≡ p.old.piece }
     requires phase { (p.old.phase ≡ Held) ⊎ (p.old.phase ≡ Filled) }
     ensures submits { Submits shape.now p.old p.new part.now result (S.flies store.old) (S.flies store.new) (S.tells store.old) (S.tells store.new) (S.disk store.old) (S.disk store.new) (S.last store.old) (S.last store.new) }
+    ensures number { result.number ≡ next_number (S.last store.old) }
+    ensures recorded_before { S.records store.new → S.records store.old }
     ensures calm { IsCalm (S.faults store.old) (S.faults store.new) (S.late store.old) (S.late store.new) }
     ensures stays { Stays (S.sectors store.old) (S.sectors store.new) (S.depth store.old) (S.depth store.new) (S.events store.old) (S.events store.new) }
 {
@@ -54,6 +58,9 @@ pub(crate) fn issue_piece<S: Store>(
     ensures issues { Issues shape.now fresh.now.bits content.now pass passes.old.items passes.new.items history.old.log.entries history.new.log.entries
         (S.flies store.old) (S.flies store.new) (S.tells store.old) (S.tells store.new) (S.disk store.old) (S.disk store.new) (S.last store.old) (S.last store.new) }
     ensures extends { IsAt passes.old.items pass (λ p. Extends (S.events store.old ∷ []) p.piece history.old history.new) }
+    ensures number { IsAt passes.new.items pass (IsNumbered OfStore (S.last store.old) (S.last store.new)) }
+    ensures running { S.tells store.old → IsRunning (S.events store.old) (S.disk store.old) }
+    ensures recorded_before { S.records store.new → S.records store.old }
     ensures calm { IsCalm (S.faults store.old) (S.faults store.new) (S.late store.old) (S.late store.new) }
     ensures stays { Stays (S.sectors store.old) (S.sectors store.new) (S.depth store.old) (S.depth store.new) (S.events store.old) (S.events store.new) }
 {
@@ -87,6 +94,7 @@ pub(crate) fn settle_write<S: Store>(
         × Extends (numbers_of answer (S.events store.new)) 0 history.old history.new
         × IsCaused answer (S.faults store.old) (S.faults store.new) (S.late store.old) (S.late store.new) }
     ensures chunk { fresh.new.chunk ≡ fresh.old.chunk }
+    ensures recorded_before { S.records store.new → S.records store.old }
     ensures stays { Stays (S.sectors store.old) (S.sectors store.new) (S.depth store.old) (S.depth store.new) (S.events store.old) (S.events store.new) }
 {
     let p = &mut passes[pass];

@@ -8,6 +8,7 @@ ghost use Rattle.vd_device.specs.Tickets.{IsInFlight};
 ghost use Rattle.vd_passes.specs.Buffers.{BufferSettled};
 ghost use Rattle.vd_reading.specs.Background.{zero_sector};
 ghost use Rattle.vd_passes.specs.Laying.{below};
+ghost use Rattle.vd_passes.specs.Causes.{OfStore, OfBase, IsNumbered};
 ghost use Rattle.vd_passes.specs.Steps.{IsAt, CanRead, CanReadBase, IsWaiting, IsWaitingForBase, Looks, LooksAtBase, Sees, LookSettled, BaseLookSettled};
 ghost use Rattle.vd_core.specs.Adding.{CanAdd, Extends};
 ghost use Rattle.vd_core.specs.Outcomes.{outcome_of, read_numbers_of, read_sectors_of};
@@ -32,6 +33,8 @@ pub(crate) fn look_at_store<S: Store>(
 )
     requires ready { IsAt passes.old.items pass (CanRead shape.now (S.sectors store.old) (S.depth store.old) (S.flies store.old)) }
     ensures looks { Looks shape.now pass passes.old.items passes.new.items (S.flies store.old) (S.flies store.new) (S.tells store.old) (S.tells store.new) (S.disk store.old) (S.disk store.new) (S.last store.old) (S.last store.new) }
+    ensures number { IsAt passes.new.items pass (IsNumbered OfStore (S.last store.old) (S.last store.new)) }
+    ensures recorded_before { S.records store.new → S.records store.old }
     ensures calm { IsCalm (S.faults store.old) (S.faults store.new) (S.late store.old) (S.late store.new) }
     ensures stays { Stays (S.sectors store.old) (S.sectors store.new) (S.depth store.old) (S.depth store.new) (S.events store.old) (S.events store.new) }
 {
@@ -50,6 +53,7 @@ pub(crate) fn look_at_base<B: Base>(
 )
     requires ready { IsAt passes.old.items pass (λ p. CanReadBase shape.now (B.sectors base.old) (B.depth base.old) (B.flies base.old) p × (0 < below shape.now.limit (p.first + p.done) p.piece)) }
     ensures looks { LooksAtBase shape.now pass passes.old.items passes.new.items (B.flies base.old) (B.flies base.new) }
+    ensures number { IsAt passes.new.items pass (IsNumbered OfBase (B.last base.old) (B.last base.new)) }
     ensures calm { IsCalm (B.faults base.old) (B.faults base.new) (B.late base.old) (B.late base.new) }
     ensures stays { BaseStays (B.sectors base.old) (B.sectors base.new) (B.depth base.old) (B.depth base.new) (B.tells base.old) (B.tells base.new) (B.content base.old) (B.content base.new) }
 {
@@ -101,6 +105,7 @@ pub(crate) fn settle_store_look<S: Store>(
         (S.flies store.old) (S.flies store.new) (S.tells store.old) (S.tells store.new) (S.disk store.old) (S.disk store.new) (S.last store.old) (S.last store.new) out.old out.new
         × IsAt passes.old.items pass (λ p. Extends (read_numbers_of answer (S.events store.new)) (read_sectors_of answer p.piece) history.old history.new)
         × IsCaused answer (S.faults store.old) (S.faults store.new) (S.late store.old) (S.late store.new) }
+    ensures recorded_before { S.records store.new → S.records store.old }
     ensures stays { Stays (S.sectors store.old) (S.sectors store.new) (S.depth store.old) (S.depth store.new) (S.events store.old) (S.events store.new) }
 {
     let p = &mut passes[pass];
@@ -135,6 +140,7 @@ fn settle_part<B: Base>(base: &mut B, ticket: Ticket, part: &mut [Sector]) -> Se
     requires fits { ticket.count ≤ length part.old }
     ensures settled { BufferSettled result ticket part.old part.new (B.flies base.old) (B.flies base.new) (B.tells base.new) (B.content base.new) }
     ensures cause { IsCaused result (B.faults base.old) (B.faults base.new) (B.late base.old) (B.late base.new) }
+    ensures last { B.last base.new ≡ B.last base.old }
     ensures stays { BaseStays (B.sectors base.old) (B.sectors base.new) (B.depth base.old) (B.depth base.new) (B.tells base.old) (B.tells base.new) (B.content base.old) (B.content base.new) }
 {
     let count = ticket.count() as usize;
@@ -162,6 +168,7 @@ pub(crate) fn settle_base_look<S: Store, B: Base>(
         (B.flies base.old) (B.flies base.new) (B.tells base.new) (B.content base.new) out.old out.new
         × IsAt passes.old.items pass (λ p. Extends (read_numbers_of answer (S.events store.now)) (read_sectors_of answer p.piece) history.old history.new)
         × IsCaused answer (B.faults base.old) (B.faults base.new) (B.late base.old) (B.late base.new) }
+    ensures number { B.last base.new ≡ B.last base.old }
     ensures stays { BaseStays (B.sectors base.old) (B.sectors base.new) (B.depth base.old) (B.depth base.new) (B.tells base.old) (B.tells base.new) (B.content base.old) (B.content base.new) }
 {
     let p = &mut passes[pass];

@@ -7,7 +7,11 @@ ghost use Rattle.vd_passes.specs.declared.pass.Pass.{Pass as AnyPass};
 ghost use Rattle.vd_passes.specs.declared.pass.Phase.TheVariants.{Idle};
 ghost use Rattle.vd_law.specs.Rules.{IsRegular, IsLegal};
 ghost use Rattle.vd_passes.specs.Passes.{IsNew};
-ghost use Rattle.vd_core.specs.Opening.{shape_of, AreNew, IsOpened, empty_history};
+ghost use Rattle.vd_passes.specs.Causes.{OfStore, OfBase, AreCaused};
+ghost use Rattle.vd_passes.specs.Tracing.{AreTraced};
+ghost use Rattle.vd_core.specs.Storing.{AreFullsCaused};
+ghost use Rattle.vd_core.specs.Kept.{start_of};
+ghost use Rattle.vd_core.specs.Opening.{AreReplied, shape_of, AreNew, IsOpened, empty_history};
 
 use crate::state::Core;
 use std::alloc::Global;
@@ -173,7 +177,8 @@ impl<S: Store, B: Base> Core<S, B> {
         requires some { 0 < passes }
         requires most { passes ≤ 64 }
         ensures back { IfErr result (λ refused. (refused.store ≡ store) × (refused.base ≡ base)) }
-        ensures opened { IfOk result (λ core. IsOpened header.now passes room store base (B.sectors base) (S.events store) core) }
+        ensures opened { IfOk result (λ core. IsOpened header.now passes room store base (B.sectors base) (S.events store) (S.faults store) (B.faults base) core) }
+        ensures start { IfOk result (λ core. core.start ≡ start_of core.shape (B.content base)) }
     {
         // Asked for what their clauses say alone: the invariant bounds what the devices tell.
         let _known = (
@@ -182,6 +187,7 @@ impl<S: Store, B: Base> Core<S, B> {
             store.in_flight(),
             base.depth(),
         );
+        let (store_faults, base_faults) = (store.faults(), base.faults());
         let shape = shape_of(header, base.sectors());
         let spare = room_of(room.events, room.sectors);
         match new_parts(alloc, header, passes, room, store.events()) {
@@ -205,6 +211,8 @@ impl<S: Store, B: Base> Core<S, B> {
                         passes,
                         history,
                         spare,
+                        store_faults,
+                        base_faults,
                     })
                 }
             },
@@ -221,6 +229,11 @@ impl<S: Store, B: Base> Core<S, B> {
         ensures base_calm { B.flies result.base [] }
         ensures regular { IsRegular (self.shape.block * self.shape.blocks) result.history.log.entries }
         ensures legal { S.tells result.store → B.tells result.base → IsLegal self.start result.history.log.entries }
+        ensures replied { AreReplied result.history.log.entries }
+        ensures store_faults { AreCaused OfStore result.history.log.entries self.store_faults (S.faults result.store) }
+        ensures base_faults { AreCaused OfBase result.history.log.entries self.base_faults (B.faults result.base) }
+        ensures traced { S.tells result.store → AreTraced (S.disk result.store).log result.history.log.entries result.history.numbers }
+        ensures full { AreFullsCaused self.shape (length self.table.chunks) self.table.storage result.history.log.entries }
     {
         let Core {
             store,
@@ -232,6 +245,8 @@ impl<S: Store, B: Base> Core<S, B> {
             passes,
             history,
             spare: _,
+            store_faults: _,
+            base_faults: _,
         } = self;
         end_passes(passes);
         Closed {

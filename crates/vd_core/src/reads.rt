@@ -7,7 +7,8 @@ ghost use Rattle.vd_passes.specs.declared.pass.Phase.TheVariants.{Looking};
 ghost use Rattle.vd_passes.specs.Laying.{below};
 ghost use Rattle.vd_passes.specs.Steps.{IsAt, Looks, LooksAtBase, SeesZeros, LookSettled, BaseLookSettled};
 ghost use Rattle.vd_core.specs.Adding.{Extends};
-ghost use Rattle.vd_core.specs.Devices.{Stays};
+ghost use Rattle.vd_core.specs.Devices.{Stays, BaseStays};
+ghost use Rattle.vd_passes.specs.Causes.{OfStore, OfBase, IsNumbered};
 ghost use Rattle.vd_core.specs.Outcomes.{outcome_of, read_numbers_of, read_sectors_of, step_of};
 ghost use Rattle.vd_core.specs.Looking.{IsReader, LooksSomewhere, SettlesLook};
 
@@ -23,6 +24,8 @@ impl<S: Store, B: Base> Core<S, B> {
     fn look_in_store(&mut self, pass: u32)
         requires phase { IsAt self.old.passes pass (λ p. IsReader p × (slice_get self.old.fresh p.block ≡ Some true)) }
         ensures looks { Looks self.old.shape pass self.old.passes self.new.passes (S.flies self.old.store) (S.flies self.new.store) (S.tells self.old.store) (S.tells self.new.store) (S.disk self.old.store) (S.disk self.new.store) (S.last self.old.store) (S.last self.new.store) }
+        ensures number { IsAt self.new.passes pass (IsNumbered OfStore (S.last self.old.store) (S.last self.new.store)) }
+        ensures recorded_before { S.records self.new.store → S.records self.old.store }
         ensures calm { IsCalm (S.faults self.old.store) (S.faults self.new.store) (S.late self.old.store) (S.late self.new.store) }
         ensures stays { Stays (S.sectors self.old.store) (S.sectors self.new.store) (S.depth self.old.store) (S.depth self.new.store) (S.events self.old.store) (S.events self.new.store) }
         ensures others { self.new ≡ record self.old { store = self.new.store; passes = self.new.passes } }
@@ -39,6 +42,8 @@ impl<S: Store, B: Base> Core<S, B> {
     fn look_in_base(&mut self, pass: u32)
         requires phase { IsAt self.old.passes pass (λ p. IsReader p × (slice_get self.old.fresh p.block ≡ Some false) × (0 < below self.old.shape.limit (p.first + p.done) p.piece)) }
         ensures looks { LooksAtBase self.old.shape pass self.old.passes self.new.passes (B.flies self.old.base) (B.flies self.new.base) }
+        ensures number { IsAt self.new.passes pass (IsNumbered OfBase (B.last self.old.base) (B.last self.new.base)) }
+        ensures base_stays { BaseStays (B.sectors self.old.base) (B.sectors self.new.base) (B.depth self.old.base) (B.depth self.new.base) (B.tells self.old.base) (B.tells self.new.base) (B.content self.old.base) (B.content self.new.base) }
         ensures calm { IsCalm (B.faults self.old.base) (B.faults self.new.base) (B.late self.old.base) (B.late self.new.base) }
         ensures others { self.new ≡ record self.old { base = self.new.base; passes = self.new.passes; start = self.new.start } }
         ensures told_before { B.tells self.new.base → B.tells self.old.base }
@@ -70,6 +75,10 @@ impl<S: Store, B: Base> Core<S, B> {
         requires phase { IsAt self.old.passes pass (λ p. IsReader p × (p.count ≡ length out.old)) }
         ensures looks { LooksSomewhere self.old.shape self.old.fresh pass self.old.passes self.new.passes self.old.history self.new.history out.old out.new (S.events self.old.store)
             (S.flies self.old.store) (S.flies self.new.store) (S.tells self.old.store) (S.tells self.new.store) (S.disk self.old.store) (S.disk self.new.store) (S.last self.old.store) (S.last self.new.store) (B.flies self.old.base) (B.flies self.new.base) }
+        ensures number { IsAt self.new.passes pass (IsNumbered OfStore (S.last self.old.store) (S.last self.new.store)) }
+        ensures base_number { IsAt self.new.passes pass (IsNumbered OfBase (B.last self.old.base) (B.last self.new.base)) }
+        ensures base_stays { BaseStays (B.sectors self.old.base) (B.sectors self.new.base) (B.depth self.old.base) (B.depth self.new.base) (B.tells self.old.base) (B.tells self.new.base) (B.content self.old.base) (B.content self.new.base) }
+        ensures recorded_before { S.records self.new.store → S.records self.old.store }
         ensures calm { IsCalm (S.faults self.old.store) (S.faults self.new.store) (S.late self.old.store) (S.late self.new.store) }
         ensures base_calm { IsCalm (B.faults self.old.base) (B.faults self.new.base) (B.late self.old.base) (B.late self.new.base) }
         ensures stays { Stays (S.sectors self.old.store) (S.sectors self.new.store) (S.depth self.old.store) (S.depth self.new.store) (S.events self.old.store) (S.events self.new.store) }
@@ -99,6 +108,7 @@ impl<S: Store, B: Base> Core<S, B> {
             × IsAt self.old.passes pass (λ p. Extends (read_numbers_of answer (S.events self.new.store)) (read_sectors_of answer p.piece) self.old.history self.new.history)
             × IsCaused answer (S.faults self.old.store) (S.faults self.new.store) (S.late self.old.store) (S.late self.new.store) }
         ensures stays { Stays (S.sectors self.old.store) (S.sectors self.new.store) (S.depth self.old.store) (S.depth self.new.store) (S.events self.old.store) (S.events self.new.store) }
+        ensures recorded_before { S.records self.new.store → S.records self.old.store }
         ensures others { self.new ≡ record self.old { store = self.new.store; passes = self.new.passes; history = self.new.history } }
     {
         let outcome = settle_store_look(
@@ -119,6 +129,8 @@ impl<S: Store, B: Base> Core<S, B> {
             (B.flies self.old.base) (B.flies self.new.base) (B.tells self.new.base) (B.content self.new.base) out.old out.new
             × IsAt self.old.passes pass (λ p. Extends (read_numbers_of answer (S.events self.old.store)) (read_sectors_of answer p.piece) self.old.history self.new.history)
             × IsCaused answer (B.faults self.old.base) (B.faults self.new.base) (B.late self.old.base) (B.late self.new.base) }
+        ensures number { B.last self.new.base ≡ B.last self.old.base }
+        ensures base_stays { BaseStays (B.sectors self.old.base) (B.sectors self.new.base) (B.depth self.old.base) (B.depth self.new.base) (B.tells self.old.base) (B.tells self.new.base) (B.content self.old.base) (B.content self.new.base) }
         ensures others { self.new ≡ record self.old { base = self.new.base; passes = self.new.passes; history = self.new.history; start = self.new.start } }
         ensures told_before { B.tells self.new.base → B.tells self.old.base }
         ensures start { B.tells self.new.base → self.new.start ≡ self.old.start }
@@ -144,6 +156,11 @@ impl<S: Store, B: Base> Core<S, B> {
             (B.flies self.old.base) (B.flies self.new.base) (B.tells self.new.base) (B.content self.new.base)
             (S.faults self.old.store) (S.faults self.new.store) (S.late self.old.store) (S.late self.new.store) (B.faults self.old.base) (B.faults self.new.base) (B.late self.old.base) (B.late self.new.base) }
         ensures stays { Stays (S.sectors self.old.store) (S.sectors self.new.store) (S.depth self.old.store) (S.depth self.new.store) (S.events self.old.store) (S.events self.new.store) }
+        ensures base_number { B.last self.new.base ≡ B.last self.old.base }
+        ensures calm { IsCalm (S.faults self.old.store) (S.faults self.new.store) (S.late self.old.store) (S.late self.new.store) }
+        ensures base_calm { IsCalm (B.faults self.old.base) (B.faults self.new.base) (B.late self.old.base) (B.late self.new.base) }
+        ensures base_stays { BaseStays (B.sectors self.old.base) (B.sectors self.new.base) (B.depth self.old.base) (B.depth self.new.base) (B.tells self.old.base) (B.tells self.new.base) (B.content self.old.base) (B.content self.new.base) }
+        ensures recorded_before { S.records self.new.store → S.records self.old.store }
         ensures store_same { IsAt self.old.passes pass (λ p. p.ticket ≡ None → self.new.store ≡ self.old.store) }
         ensures base_same { IsAt self.old.passes pass (λ p. IsSome p.ticket → self.new.base ≡ self.old.base) }
         ensures others { self.new ≡ record self.old { store = self.new.store; base = self.new.base; passes = self.new.passes; history = self.new.history; start = self.new.start } }

@@ -1,6 +1,6 @@
 //! A pass asks a request, and has its reply.
 
-ghost use Rattle.std.specs.Prelude.{◌≡◌, ◌+◌, ◌-◌, ◌*◌, ◌/◌, ◌^◌, ◌<◌, ◌≤◌, [], ◌∷◌, None, Some, IfSome, IfNone, length};
+ghost use Rattle.std.specs.Prelude.{◌≡◌, ◌+◌, ◌-◌, ◌*◌, ◌/◌, ◌^◌, ◌<◌, ◌≤◌, ◌⊎◌, [], ◌∷◌, None, Some, IfSome, IfNone, length};
 ghost use Rattle.vd_law.specs.Entries.{asked_of};
 ghost use Rattle.vd_law.specs.Logs.{asked_content};
 ghost use Rattle.vd_law.specs.Rules.{IsInside};
@@ -10,6 +10,7 @@ ghost use Rattle.vd_passes.specs.Steps.{IsAt, Replies};
 ghost use Rattle.vd_table.specs.Tables.{used};
 ghost use Rattle.vd_table.specs.Runs.{lacking};
 ghost use Rattle.vd_core.specs.Adding.{Extends};
+ghost use Rattle.vd_device.specs.Disks.{IsRunning};
 ghost use Rattle.vd_core.specs.Asking.{CanAsk, AskEnds, Claims, CanReply, IsOkWhereDone, run_from, run_count, freed, without};
 
 use crate::asking::{ask_full, ask_request, need_of, reply_request};
@@ -90,6 +91,7 @@ fn ask_in_room<S: Store>(
 ) -> Option<Answer>
     requires can { CanAsk shape.now table.old passes.old.items history.old spare.old (S.events store.now) (asked_of request) pass }
     ensures ends { AskEnds result (asked_of request.entry) shape.now pass table.old table.new passes.old.items passes.new.items history.old history.new spare.old spare.new (S.events store.now) }
+    ensures running { S.tells store.now → (history.new ≡ history.old) ⊎ IsRunning (S.events store.now) (S.disk store.now) }
 {
     let need = need_of(shape, request);
     let left = *spare;
@@ -135,6 +137,7 @@ fn reply_in_room<S: Store>(
     ensures replies { Replies result pass passes.old.items passes.new.items history.old.log.entries history.new.log.entries }
     ensures extends { Extends (S.events store.now ∷ []) 0 history.old history.new }
     ensures left { IsAt passes.old.items pass (λ p. spare.new ≡ freed p spare.old) }
+    ensures running { S.tells store.now → IsRunning (S.events store.now) (S.disk store.now) }
 {
     // The numbers of the room that is left have 64 bits, and the two sums are part of it.
     let _ = history.log().left();
@@ -156,6 +159,7 @@ impl<S: Store, B: Base> Core<S, B> {
         requires most { sectors_of (asked_of request) ≤ 2048 }
         requires inside { IsInside (self.old.shape.block * self.old.shape.blocks) (asked_of request) }
         ensures ends { AskEnds result (asked_of request.entry) self.old.shape pass self.old.table self.new.table self.old.passes self.new.passes self.old.history self.new.history self.old.spare self.new.spare (S.events self.old.store) }
+        ensures running { S.tells self.new.store → (self.new.history ≡ self.old.history) ⊎ IsRunning (S.events self.new.store) (S.disk self.new.store) }
         ensures others { self.new ≡ record self.old { table = self.new.table; passes = self.new.passes; history = self.new.history; spare = self.new.spare } }
     {
         ask_in_room(
@@ -178,6 +182,7 @@ impl<S: Store, B: Base> Core<S, B> {
         ensures ok { IsAt self.old.passes pass (IsOkWhereDone result) }
         ensures extends { Extends (S.events self.old.store ∷ []) 0 self.old.history self.new.history }
         ensures left { IsAt self.old.passes pass (λ p. self.new.spare ≡ freed p self.old.spare) }
+        ensures running { S.tells self.new.store → IsRunning (S.events self.new.store) (S.disk self.new.store) }
         ensures others { self.new ≡ record self.old { passes = self.new.passes; history = self.new.history; spare = self.new.spare } }
     {
         reply_in_room(

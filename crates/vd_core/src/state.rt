@@ -5,6 +5,9 @@ ghost use Rattle.vd_passes.specs.Passes.{has_region};
 ghost use Rattle.vd_core.specs.Moves.{IsStanding};
 ghost use Rattle.vd_passes.specs.Steps.{IsAt};
 ghost use Rattle.vd_law.specs.Rules.{IsRegular, IsLegal};
+ghost use Rattle.vd_passes.specs.Causes.{OfStore, OfBase, AreCaused};
+ghost use Rattle.vd_passes.specs.Tracing.{AreTraced};
+ghost use Rattle.vd_core.specs.Storing.{AreFullsCaused};
 ghost use Rattle.vd_passes.specs.declared.pass.Pass.{Pass as AnyPass};
 
 use std::marker::Model;
@@ -29,6 +32,9 @@ pub struct Core<S: Store, B: Base> {
     pub(crate) passes: Vec<Pass>,
     pub(crate) history: History,
     pub(crate) spare: Room,
+    /// How often the devices had failed at opening.
+    pub(crate) store_faults: u64,
+    pub(crate) base_faults: u64,
 }
 
 impl<S: Store, B: Base> Model for Core<S, B> {
@@ -36,13 +42,16 @@ impl<S: Store, B: Base> Model for Core<S, B> {
 
     ghost Value = { View S B };
 
-    ghost use Rattle.vd_core.specs.Kept.{IsKept, IsTold, start_of};
+    ghost use Rattle.vd_passes.specs.Following.{IsFollowed};
+    ghost use Rattle.vd_core.specs.Kept.{IsKept, IsTold, IsAccounted, start_of};
 
-    ghost view = { λ c. record { store = c.store; base = c.base; shape = c.shape; table = c.table; fresh = c.fresh.bits; passes = c.passes.items; history = c.history; spare = c.spare; start = start_of c.shape (B.content c.base) } };
+    ghost view = { λ c. record { store = c.store; base = c.base; shape = c.shape; table = c.table; fresh = c.fresh.bits; passes = c.passes.items; history = c.history; spare = c.spare; start = start_of c.shape (B.content c.base); store_faults = c.store_faults; base_faults = c.base_faults } };
 
     ghost invariant = { λ c. IsKept c.shape c.table c.fresh.bits c.regions c.passes.items c.history c.spare
         (S.sectors c.store) (S.depth c.store) (S.events c.store) (B.sectors c.base) (B.depth c.base) (S.flies c.store) (B.flies c.base)
-        × (S.tells c.store → B.tells c.base → IsTold c.shape c.table c.fresh.bits c.passes.items c.history (S.disk c.store) (S.last c.store) (B.content c.base) (B.sectors c.base)) };
+        × (S.tells c.store → B.tells c.base → IsTold c.shape c.table c.fresh.bits c.passes.items c.history (S.disk c.store) (S.last c.store) (B.content c.base) (B.sectors c.base))
+        × IsAccounted c.shape c.table c.passes.items c.history.log.entries (S.last c.store) c.store_faults (S.faults c.store) (B.last c.base) c.base_faults (B.faults c.base)
+        × (S.tells c.store → IsFollowed c.passes.items c.history.log.entries c.history.numbers (S.disk c.store).log) };
 }
 
 impl<S: Store, B: Base> Core<S, B> {
@@ -60,6 +69,10 @@ impl<S: Store, B: Base> Core<S, B> {
         ensures history { result.now ≡ self.now.history }
         ensures regular { IsRegular (self.now.shape.block * self.now.shape.blocks) self.now.history.log.entries }
         ensures legal { S.tells self.now.store → B.tells self.now.base → IsLegal self.now.start self.now.history.log.entries }
+        ensures store_faults { AreCaused OfStore self.now.history.log.entries self.now.store_faults (S.faults self.now.store) }
+        ensures base_faults { AreCaused OfBase self.now.history.log.entries self.now.base_faults (B.faults self.now.base) }
+        ensures traced { S.tells self.now.store → AreTraced (S.disk self.now.store).log self.now.history.log.entries self.now.history.numbers }
+        ensures full { AreFullsCaused self.now.shape (length self.now.table.chunks) self.now.table.storage self.now.history.log.entries }
     {
         &self.history
     }

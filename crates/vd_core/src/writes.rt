@@ -8,7 +8,9 @@ ghost use Rattle.vd_passes.specs.Passes.{region_of};
 ghost use Rattle.vd_passes.specs.Steps.{IsAt, HasAskedWrite, FetchSettled, Issues, WriteSettled};
 ghost use Rattle.vd_core.specs.Adding.{Extends};
 ghost use Rattle.vd_core.specs.Outcomes.{outcome_of, numbers_of, step_of};
-ghost use Rattle.vd_core.specs.Devices.{Stays};
+ghost use Rattle.vd_core.specs.Devices.{Stays, BaseStays};
+ghost use Rattle.vd_device.specs.Disks.{IsRunning};
+ghost use Rattle.vd_passes.specs.Causes.{OfStore, OfBase, IsNumbered};
 ghost use Rattle.vd_core.specs.Entering.{IsKeptOut, EntersBlock};
 ghost use Rattle.vd_core.specs.Fetching.{FetchesBlock};
 ghost use Rattle.vd_core.specs.Issuing.{IsWritable};
@@ -45,6 +47,8 @@ impl<S: Store, B: Base> Core<S, B> {
     pub fn fetch(&mut self, pass: u32)
         requires phase { IsAt self.old.passes pass (λ p. (p.phase ≡ Held) × (p.write ≡ true) × (slice_get self.old.fresh p.block ≡ Some false)) }
         ensures fetches { FetchesBlock self.old.shape pass self.old.passes self.new.passes (B.flies self.old.base) (B.flies self.new.base) }
+        ensures number { IsAt self.new.passes pass (IsNumbered OfBase (B.last self.old.base) (B.last self.new.base)) }
+        ensures base_stays { BaseStays (B.sectors self.old.base) (B.sectors self.new.base) (B.depth self.old.base) (B.depth self.new.base) (B.tells self.old.base) (B.tells self.new.base) (B.content self.old.base) (B.content self.new.base) }
         ensures calm { IsCalm (B.faults self.old.base) (B.faults self.new.base) (B.late self.old.base) (B.late self.new.base) }
         ensures others { self.new ≡ record self.old { base = self.new.base; passes = self.new.passes; start = self.new.start } }
         ensures told_before { B.tells self.new.base → B.tells self.old.base }
@@ -59,6 +63,8 @@ impl<S: Store, B: Base> Core<S, B> {
         ensures settled { (answer : AnySettled) × (result ≡ step_of (outcome_of answer)) × FetchSettled answer self.old.shape pass self.old.passes self.new.passes (B.flies self.old.base) (B.flies self.new.base) (B.tells self.new.base) (B.content self.new.base)
             × IsCaused answer (B.faults self.old.base) (B.faults self.new.base) (B.late self.old.base) (B.late self.new.base) }
         ensures out { out.new ≡ out.old }
+        ensures number { B.last self.new.base ≡ B.last self.old.base }
+        ensures base_stays { BaseStays (B.sectors self.old.base) (B.sectors self.new.base) (B.depth self.old.base) (B.depth self.new.base) (B.tells self.old.base) (B.tells self.new.base) (B.content self.old.base) (B.content self.new.base) }
         ensures others { self.new ≡ record self.old { base = self.new.base; passes = self.new.passes; start = self.new.start } }
         ensures told_before { B.tells self.new.base → B.tells self.old.base }
         ensures start { B.tells self.new.base → self.new.start ≡ self.old.start }
@@ -76,6 +82,9 @@ impl<S: Store, B: Base> Core<S, B> {
         ensures issues { Issues self.old.shape self.old.fresh content.now pass self.old.passes self.new.passes self.old.history.log.entries self.new.history.log.entries
             (S.flies self.old.store) (S.flies self.new.store) (S.tells self.old.store) (S.tells self.new.store) (S.disk self.old.store) (S.disk self.new.store) (S.last self.old.store) (S.last self.new.store) }
         ensures extends { IsAt self.old.passes pass (λ p. Extends (S.events self.old.store ∷ []) p.piece self.old.history self.new.history) }
+        ensures number { IsAt self.new.passes pass (IsNumbered OfStore (S.last self.old.store) (S.last self.new.store)) }
+        ensures running { S.tells self.old.store → IsRunning (S.events self.old.store) (S.disk self.old.store) }
+        ensures recorded_before { S.records self.new.store → S.records self.old.store }
         ensures calm { IsCalm (S.faults self.old.store) (S.faults self.new.store) (S.late self.old.store) (S.late self.new.store) }
         ensures stays { Stays (S.sectors self.old.store) (S.sectors self.new.store) (S.depth self.old.store) (S.depth self.new.store) (S.events self.old.store) (S.events self.new.store) }
         ensures others { self.new ≡ record self.old { store = self.new.store; passes = self.new.passes; history = self.new.history } }
@@ -99,6 +108,7 @@ impl<S: Store, B: Base> Core<S, B> {
             × Extends (numbers_of answer (S.events self.new.store)) 0 self.old.history self.new.history
             × IsCaused answer (S.faults self.old.store) (S.faults self.new.store) (S.late self.old.store) (S.late self.new.store) }
         ensures stays { Stays (S.sectors self.old.store) (S.sectors self.new.store) (S.depth self.old.store) (S.depth self.new.store) (S.events self.old.store) (S.events self.new.store) }
+        ensures recorded_before { S.records self.new.store → S.records self.old.store }
         ensures others { self.new ≡ record self.old { store = self.new.store; fresh = self.new.fresh; passes = self.new.passes; history = self.new.history } }
     {
         let outcome = settle_write(

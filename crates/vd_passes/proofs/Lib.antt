@@ -1,5 +1,8 @@
+pub mod Answered
 pub mod Asking
 pub mod Backing
+pub mod Blaming
+pub mod BlamingSteps
 pub mod Calm
 pub mod Closing
 pub mod Entering
@@ -20,5 +23,7 @@ pub mod Ready
 pub mod Regions
 pub mod Settling
 pub mod Standing
+pub mod Tracing
+pub mod TracingSteps
 pub mod Tracks
 pub mod Written

@@ -7,3 +7,6 @@ pub mod Needs
 pub mod Passes
 pub mod Coherent
 pub mod Steps
+pub mod Causes
+pub mod Tracing
+pub mod Following

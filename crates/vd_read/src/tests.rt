@@ -1,8 +1,9 @@
 //! Small runs of a core over devices in memory: what is written is read, and the neighbours come from the base.
 
-ghost use Rattle.std.specs.Prelude.{◌≡◌, ◌≢◌, ◌+◌, ◌*◌, ◌<◌, ◌≤◌, IfSome, IfOk, true, false, length};
-ghost use Rattle.vd_passes.specs.declared.pass.Phase.TheVariants.{Idle};
-ghost use Rattle.vd_passes.specs.Steps.{IsAt};
+ghost use Rattle.std.specs.Prelude.{◌≡◌, ◌≢◌, ℕ, ◌+◌, ◌*◌, ◌<◌, ◌≤◌, IfSome, IfOk, true, false, List, length, slice_get};
+ghost use Rattle.vd_passes.specs.declared.pass.Phase.TheVariants.{Idle, Asked};
+ghost use Rattle.vd_law.specs.declared.entry.Sector.{Sector as AnySector};
+ghost use Rattle.vd_passes.specs.Steps.{IsAt, HasAskedWrite};
 
 use crate::Reader;
 use std::alloc::Global;
@@ -13,6 +14,7 @@ use vd_device::{Base, Store};
 use vd_header::{Header, layout_of, valid};
 use vd_law::entry::{Answer, NoMemory, Request, Room, Sector};
 use vd_mem::{Keep, MemBase, MemStore, Rule};
+use vd_passes::pass::Phase;
 use vd_write::Writer;
 
 /// Writes by an idle pass, in at most 64 steps.
@@ -91,6 +93,24 @@ fn base(alloc: Global) -> Result<Vec<Sector>, Fail> {
     Ok(content)
 }
 
+/// A core with one pass over a new image and its base, with so much room in the history.
+fn opened_in(rt: &impl Abort, alloc: Global, room: Room) -> Result<Core<MemStore, MemBase>, Fail>
+    ensures size { IfOk result (λ core. core.shape.block * core.shape.blocks ≡ 128) }
+    ensures passes { IfOk result (λ core. length core.passes ≡ 1) }
+    ensures idle { IfOk result (λ core. IsAt core.passes 0 (λ p. p.phase ≡ Idle)) }
+{
+    let content = vec![in alloc; Sector::filled(0); 104]?;
+    let store = MemStore::new(alloc, content, room, Vec::new(alloc))?;
+    let base = MemBase::new(base(alloc)?, Vec::new(alloc));
+    assert!(rt; valid(&SMALL));
+    assert!(rt; layout_of(&SMALL).need <= store.sectors());
+    assert_eq!(rt; (store.in_flight(), base.in_flight()), (0, 0));
+    match Core::new(alloc, store, base, &SMALL, 1, room) {
+        Ok(core) => Ok(core),
+        Err(Unopened { store: _, base: _ }) => Err(NoMemory.into()),
+    }
+}
+
 /// A core with one pass over a new image and its base, which fail by these rules.
 fn opened(
     rt: &impl Abort,
@@ -116,6 +136,51 @@ fn opened(
         Ok(core) => Ok(core),
         Err(Unopened { store: _, base: _ }) => Err(NoMemory.into()),
     }
+}
+
+/// A core with three passes over a new image and its base.
+fn opened_for_three(rt: &impl Abort, alloc: Global) -> Result<Core<MemStore, MemBase>, Fail>
+    ensures size { IfOk result (λ core. core.shape.block * core.shape.blocks ≡ 128) }
+    ensures passes { IfOk result (λ core. length core.passes ≡ 3) }
+    ensures idle { IfOk result (λ core. (pass : ℕ) → pass < 3 → IsAt core.passes pass (λ p. p.phase ≡ Idle)) }
+{
+    let room = Room {
+        events: 100,
+        sectors: 200,
+    };
+    let content = vec![in alloc; Sector::filled(0); 104]?;
+    let store = MemStore::new(alloc, content, room, Vec::new(alloc))?;
+    let base = MemBase::new(base(alloc)?, Vec::new(alloc));
+    assert!(rt; valid(&SMALL));
+    assert!(rt; layout_of(&SMALL).need <= store.sectors());
+    assert_eq!(rt; (store.in_flight(), base.in_flight()), (0, 0));
+    match Core::new(alloc, store, base, &SMALL, 3, room) {
+        Ok(core) => Ok(core),
+        Err(Unopened { store: _, base: _ }) => Err(NoMemory.into()),
+    }
+}
+
+/// Ends the write of a pass, in at most 64 steps. What other passes have asked stays.
+fn end_write<S: Store, B: Base>(
+    core: &mut Core<S, B>,
+    pass: u32,
+    content: &[Sector],
+) -> Option<Answer>
+    requires busy { IsAt core.old.passes pass (λ p. (p.phase ≢ Idle) × (p.write ≡ true) × (p.count ≡ length content.now)) }
+    requires asked { HasAskedWrite core.old.history.log.entries pass content.now }
+    ensures idle { IfSome result (λ answer. IsAt core.new.passes pass (λ p. p.phase ≡ Idle)) }
+    ensures shape { core.new.shape ≡ core.old.shape }
+    ensures passes { length core.new.passes ≡ length core.old.passes }
+    ensures others { (other : ℕ) → other ≢ pass → slice_get core.new.passes other ≡ slice_get core.old.passes other }
+    ensures asked { (other : ℕ) (said : List AnySector) → HasAskedWrite core.old.history.log.entries other said → HasAskedWrite core.new.history.log.entries other said }
+{
+    for _ in 0..64 {
+        match Writer::next(core, pass, content) {
+            Step::Ended(answer) => return Some(answer),
+            Step::Again | Step::Late | Step::Busy { .. } => {}
+        }
+    }
+    None
 }
 
 /// Fills each sector with the byte at its place.
@@ -298,5 +363,119 @@ fn writes_and_reads_of_one_pass(rt: HostRuntime) -> Result<(), Fail> {
     assert!(rt; runs(&rt, alloc, &[], &first_read, &fault)?);
     assert!(rt; runs(&rt, alloc, &old, &[], &kept)?);
     assert!(rt; runs(&rt, alloc, &new, &[], &changed)?);
+    Ok(())
+}
+
+/// Takes a core with three passes apart, all of which are idle.
+fn close(rt: &impl Abort, core: Core<MemStore, MemBase>)
+    requires { length core.passes ≡ 3 }
+{
+    let (Phase::Idle, Phase::Idle, Phase::Idle) = (core.phase(0), core.phase(1), core.phase(2))
+    else {
+        panic!(rt; "a pass is busy");
+    };
+    let Closed {
+        store: _,
+        base: _,
+        history: _,
+    } = core.finish();
+}
+
+/// Asks a write of one sector by an idle pass. Whether it was asked. What other passes have and have asked stays.
+fn asks_write<S: Store, B: Base>(core: &mut Core<S, B>, pass: u32, content: &[Sector]) -> bool
+    requires idle { IsAt core.old.passes pass (λ p. p.phase ≡ Idle) }
+    requires one { length content.now ≡ 1 }
+    requires size { core.old.shape.block * core.old.shape.blocks ≡ 128 }
+    ensures asked { result ≡ true → IsAt core.new.passes pass (λ p. (p.phase ≡ Asked) × (p.write ≡ true) × (p.count ≡ 1)) }
+    ensures content { result ≡ true → HasAskedWrite core.new.history.log.entries pass content.now }
+    ensures shape { core.new.shape ≡ core.old.shape }
+    ensures passes { length core.new.passes ≡ length core.old.passes }
+    ensures others { (other : ℕ) → other ≢ pass → slice_get core.new.passes other ≡ slice_get core.old.passes other }
+    ensures said { (other : ℕ) (said : List AnySector) → other ≢ pass → HasAskedWrite core.old.history.log.entries other said → HasAskedWrite core.new.history.log.entries other said }
+{
+    match core.ask(pass, Request::Write { first: 8, content }) {
+        None => true,
+        Some(_) => false,
+    }
+}
+
+/// Lets a pass that has asked a write enter its block. The pass that keeps it out, if one does.
+fn kept_out<S: Store, B: Base>(core: &mut Core<S, B>, pass: u32) -> Option<u32>
+    requires asked { IsAt core.old.passes pass (λ p. (p.phase ≡ Asked) × (p.write ≡ true) × (p.count ≡ 1)) }
+    ensures busy { IsAt core.new.passes pass (λ p. (p.phase ≢ Idle) × (p.write ≡ true) × (p.count ≡ 1)) }
+    ensures shape { core.new.shape ≡ core.old.shape }
+    ensures passes { length core.new.passes ≡ length core.old.passes }
+    ensures others { (other : ℕ) → other ≢ pass → slice_get core.new.passes other ≡ slice_get core.old.passes other }
+    ensures history { core.new.history ≡ core.old.history }
+{
+    match core.enter(pass) {
+        Ok(()) => None,
+        Err(busy) => Some(busy.by),
+    }
+}
+
+/// Two passes ask a write of one sector. While the first has the block the second is kept out; then both are served, and a
+/// read sees what the second wrote.
+#[test]
+fn two_writers_of_one_sector(rt: HostRuntime) -> Result<(), Fail> {
+    let alloc = rt.alloc();
+    let mut core = opened_for_three(&rt, alloc)?;
+    let first = [Sector::filled(0x11)];
+    let second = [Sector::filled(0x22)];
+    if !asks_write(&mut core, 1, &first) {
+        panic!(&rt; "the first isn't asked");
+    }
+    if !asks_write(&mut core, 2, &second) {
+        panic!(&rt; "the second isn't asked");
+    }
+    let by = kept_out(&mut core, 1);
+    assert!(rt; by.is_none());
+    let by = kept_out(&mut core, 2);
+    assert!(rt; by == Some(1));
+    match end_write(&mut core, 1, &first) {
+        Some(answer) => assert!(rt; answer == Answer::Ok),
+        None => panic!(&rt; "no reply"),
+    }
+    match end_write(&mut core, 2, &second) {
+        Some(answer) => assert!(rt; answer == Answer::Ok),
+        None => panic!(&rt; "no reply"),
+    }
+    let mut seen = [Sector::filled(0)];
+    match read(&mut core, 1, 8, &mut seen) {
+        Some(answer) => assert!(rt; answer == Answer::Ok),
+        None => panic!(&rt; "no reply"),
+    }
+    assert!(rt; seen == second);
+    close(&rt, core);
+    Ok(())
+}
+
+/// A write of one sector needs four events and two sectors. In less room it is not asked, and the history stays empty.
+#[test]
+fn writes_without_room(rt: HostRuntime) -> Result<(), Fail> {
+    let alloc = rt.alloc();
+    let room = Room {
+        events: 2,
+        sectors: 0,
+    };
+    let mut core = opened_in(&rt, alloc, room)?;
+    match write(&mut core, 0, 8, &[Sector::filled(1)]) {
+        Some(answer) => {
+            assert!(rt;
+                answer
+                    == Answer::NoRoom {
+                        events: 2,
+                        sectors: 0
+                    }
+            );
+        }
+        None => panic!(&rt; "no reply"),
+    }
+    let Closed {
+        store: _,
+        base: _,
+        history,
+    } = core.finish();
+    assert!(rt; history.log().len() == 0);
     Ok(())
 }

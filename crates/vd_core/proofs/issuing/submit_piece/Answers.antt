@@ -18,6 +18,8 @@ returns-in_default g c =
           told_before = done.told_before;
           told = λ told. (done.told told, done.new_number told);
         };
+        number = done.number;
+        recorded_before = done.recorded_before;
         calm = done.calm;
         stays = record { sectors_same = done.sectors; depth_same = done.depth; events_rise = done.events };
       }

@@ -1,4 +1,4 @@
-use Rattle.std.proofs.Common.{◌≡◌, ◌∙◌, ℕ, false, sym, subst, length}
+use Rattle.std.proofs.Common.{◌∙◌, ℕ, false, sym, subst, length}
 use Rattle.vd_passes.specs.Steps.{IsAt}
 use Rattle.vd_read.proofs.Runs.{IsBusyWith, same-shape, goes-on, ended, as-many, as-many-asked, asked-read, other-arm}
 use Rattle.vd_law.specs.Entries.{Read}

@@ -1,4 +1,4 @@
-use Rattle.std.proofs.Common.{◌≡◌, ◌∙◌, sym, subst, length}
+use Rattle.std.proofs.Common.{◌∙◌}
 use Rattle.vd_law.specs.Entries.{Write}
 use Rattle.vd_read.proofs.Runs.{same-shape, goes-on, ended, answered-idle, as-many, as-many-asked, asked-write, still-asked, other-arm}
 use Rattle.vd_read.proofs.tests.write.Goals as goal

@@ -2,6 +2,7 @@ use Rattle.std.proofs.Common.{◌∙◌, sym, ap, refl, inl, inr, arith}
 use Rattle.vd_law.specs.Histories.{Numbered}
 use Rattle.vd_law.specs.declared.entry.Room.{Room}
 use Rattle.vd_core.proofs.Views.{same-history, same-left}
+use Rattle.vd_core.proofs.Leaving.{kept-out}
 use Rattle.vd_core.proofs.Moving.{still-drives, drives-as, fetch_settled-drives, issues-drives, write_settled-drives, replies-drives}
 use Rattle.vd_write.proofs.Writer.next.Goals as goal
 
@@ -17,6 +18,9 @@ pub returns-in-Err-clause-drives : goal.returns-in-Err-clause-drives
 returns-in-Err-clause-drives g c =
     let at = c.requires.busy in let out = c.in-Err.ensures.busy in let same = same-history c.enter.ensures.others in let left = same-left c.enter.ensures.others in
     drives-as refl (ap (λ (h : Numbered). h.log.entries) same) left (still-drives c.in-Err.busy.by c.args.core.now.shape.block c.args.core.now.history.log.entries c.args.core.now.spare at.0 at.1 out.passes_same)
+
+pub returns-in-Err-clause-busy : goal.returns-in-Err-clause-busy
+returns-in-Err-clause-busy g c = kept-out c.in-Err.ensures.busy
 
 pub returns-then-is_whole-clause-drives : goal.returns-then-is_whole-clause-drives
 returns-then-is_whole-clause-drives g c =

@@ -1,5 +1,7 @@
 use Rattle.std.proofs.Common.{sym}
 use Rattle.vd_law.specs.Entries.{asked_of}
+use Rattle.vd_core.proofs.Keeping.Accounting.{ask-accounted}
+use Rattle.vd_core.proofs.Keeping.Following.{ask-followed}
 use Rattle.vd_core.proofs.Keeping.Asking.{can-ask, ask-kept, ask-told}
 use Rattle.vd_core.proofs.state.Core.ask.Goals as goal
 
@@ -13,7 +15,9 @@ pub invariant_of-self : goal.invariant_of-self
 invariant_of-self g c =
     let at = rw (sym c.self.view_is) at c.requires.phase in
     let inside = rw (sym c.self.view_is) at c.requires.inside in
-    let kept = c.self.invariant.0 in (
-      ask-kept (asked_of c.args.request) c.args.pass kept at c.requires.some inside c.ask_in_room.ensures.ends,
-      λ tells base_tells. ask-told (asked_of c.args.request) c.args.pass kept at c.requires.some inside c.ask_in_room.ensures.ends (c.self.invariant.1 tells base_tells),
+    let kept = c.self.invariant.0 in let done = c.ask_in_room.ensures in (
+      ask-kept (asked_of c.args.request) c.args.pass kept at c.requires.some inside done.ends,
+      λ tells base_tells. ask-told (asked_of c.args.request) c.args.pass kept at c.requires.some inside done.ends (c.self.invariant.1 tells base_tells),
+      ask-accounted kept.coherent (can-ask (asked_of c.args.request) c.args.pass kept at c.requires.some inside) done.ends c.self.invariant.2,
+      λ told. ask-followed (c.self.invariant.3 told) at done.ends (done.running told),
     )

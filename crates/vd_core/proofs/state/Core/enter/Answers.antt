@@ -1,4 +1,6 @@
 use Rattle.std.proofs.Common.{sym}
+use Rattle.vd_core.proofs.Keeping.Accounting.{enter-accounted}
+use Rattle.vd_core.proofs.Keeping.Following.{enter-followed}
 use Rattle.vd_core.proofs.Keeping.Entering.{can-enter, holds-nothing, enter-kept, enter-told, enters-mapped}
 use Rattle.vd_core.proofs.state.Core.enter.Goals as goal
 
@@ -13,6 +15,8 @@ invariant_of-self g c =
     let at = rw (sym c.self.view_is) at c.requires.phase in let done = c.enter_block.ensures in (
       enter-kept c.self.invariant.0 c.args.pass at c.enter_block.result done.busy done.enters,
       enter-told c.self.invariant.0 c.args.pass at c.self.invariant.1 c.enter_block.new.regions c.enter_block.result done.busy done.enters,
+      enter-accounted c.self.invariant.2 c.args.pass c.self.inside.table.chunks c.self.inside.regions c.enter_block.new.regions c.enter_block.result done.busy done.enters,
+      λ told. enter-followed c.self.inside.shape c.self.inside.table.chunks c.self.inside.regions c.enter_block.new.regions (c.self.invariant.3 told) c.args.pass at c.enter_block.result done.busy done.enters,
     )
 
 pub returns-clause-enters : goal.returns-clause-enters

@@ -1,5 +1,7 @@
 use Rattle.std.proofs.Common.{sym}
 use Rattle.vd_passes.proofs.Fetching.{can-read-base}
+use Rattle.vd_core.proofs.Keeping.Accounting.{fetch-accounted}
+use Rattle.vd_core.proofs.Keeping.Following.{fetch-followed}
 use Rattle.vd_core.proofs.Keeping.Fetching.{fetch-kept, fetch-told}
 use Rattle.vd_core.proofs.state.Core.fetch.Goals as goal
 
@@ -10,8 +12,12 @@ fetch_block-requires g c =
 
 pub invariant_of-self : goal.invariant_of-self
 invariant_of-self g c =
-    let at = rw (sym c.self.view_is) at c.requires.phase in let done = c.fetch_block.ensures in
-    (fetch-kept c.self.invariant.0 c.args.pass at done.fetches done.stays, fetch-told c.self.invariant.0 c.args.pass at done.fetches done.stays c.self.invariant.1)
+    let at = rw (sym c.self.view_is) at c.requires.phase in let done = c.fetch_block.ensures in (
+      fetch-kept c.self.invariant.0 c.args.pass at done.fetches done.stays,
+      fetch-told c.self.invariant.0 c.args.pass at done.fetches done.stays c.self.invariant.1,
+      fetch-accounted c.self.invariant.2 c.args.pass done.fetches done.number done.calm.0,
+      λ told. fetch-followed (c.self.invariant.3 told) c.args.pass (at.0, at.1, at.2.0) done.fetches,
+    )
 
 pub returns-clause-fetches : goal.returns-clause-fetches
 returns-clause-fetches g c = rw (sym c.self.view_is) c.fetch_block.ensures.fetches

@@ -1,4 +1,8 @@
 use Rattle.std.proofs.Common.{sym}
+use Rattle.vd_passes.proofs.Answered.{coherent-replied}
+use Rattle.vd_passes.proofs.Blaming.{blamed-caused}
+use Rattle.vd_passes.proofs.Tracing.{followed-traced}
+use Rattle.vd_core.proofs.Storing.{stored-fulls}
 use Rattle.vd_core.proofs.Keeping.Ending.{calm, base-calm}
 use Rattle.vd_core.proofs.state.Core.finish.Goals as goal
 
@@ -7,3 +11,18 @@ returns-clause-calm g c = calm c.self.invariant.0.coherent (rw (sym c.self.view_
 
 pub returns-clause-base_calm : goal.returns-clause-base_calm
 returns-clause-base_calm g c = base-calm c.self.invariant.0.coherent (rw (sym c.self.view_is) at c.requires.idle)
+
+pub returns-clause-replied : goal.returns-clause-replied
+returns-clause-replied g c = coherent-replied c.self.invariant.0.coherent (rw (sym c.self.view_is) at c.requires.idle) c.self.invariant.2.of_passes
+
+pub returns-clause-store_faults : goal.returns-clause-store_faults
+returns-clause-store_faults g c = rw (sym c.self.view_is) (blamed-caused c.self.invariant.2.of_store)
+
+pub returns-clause-base_faults : goal.returns-clause-base_faults
+returns-clause-base_faults g c = rw (sym c.self.view_is) (blamed-caused c.self.invariant.2.of_base)
+
+pub returns-clause-traced : goal.returns-clause-traced
+returns-clause-traced g c = λ told. followed-traced (c.self.invariant.3 told)
+
+pub returns-clause-full : goal.returns-clause-full
+returns-clause-full g c = rw (sym c.self.view_is) (stored-fulls c.self.invariant.2.stored)

@@ -1,5 +1,7 @@
 use Rattle.std.proofs.Common.{sym}
-use Rattle.vd_core.proofs.Keeping.Issuing.{can-issue, issue-kept, issue-told}
+use Rattle.vd_passes.proofs.TracingSteps.{issues-followed}
+use Rattle.vd_core.proofs.Keeping.Accounting.{issue-accounted}
+use Rattle.vd_core.proofs.Keeping.Issuing.{writing-at, can-issue, issue-kept, issue-told}
 use Rattle.vd_core.proofs.state.Core.issue.Goals as goal
 
 pub issue_piece-requires-clause-ready : goal.issue_piece-requires-clause-ready
@@ -12,6 +14,9 @@ invariant_of-self g c =
     let at = rw (sym c.self.view_is) at c.requires.phase in let asked = rw (sym c.self.view_is) at c.requires.content in let done = c.issue_piece.ensures in (
       issue-kept c.self.invariant.0 c.args.pass c.args.content.now at asked done.issues done.extends done.stays,
       issue-told c.self.invariant.0 c.args.pass c.args.content.now at asked done.issues c.self.invariant.1,
+      issue-accounted c.self.invariant.2 c.args.pass done.issues done.number done.calm.0,
+      λ told. let before = done.issues.told_before told in
+          issues-followed (c.self.invariant.3 before) (writing-at c.self.inside.passes.items c.args.pass at) done.issues done.extends.2.numbers (done.running before) (done.issues.told told).0,
     )
 
 pub returns-clause-stays : goal.returns-clause-stays

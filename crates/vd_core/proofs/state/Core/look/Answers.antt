@@ -1,12 +1,14 @@
-use Rattle.std.proofs.Common.{◌≡◌, ◌+◌, ◌<◌, sym, refl, [], ◌∷◌, inl, inr, arith, true, false, Some, length, slice_get}
+use Rattle.std.proofs.Common.{◌≡◌, ◌+◌, ◌<◌, sym, refl, ap, [], ◌∷◌, inl, inr, arith, true, false, Some, length, slice_get}
 use Rattle.vd_passes.specs.declared.pass.Pass.{Pass}
 use Rattle.vd_passes.specs.declared.pass.Phase.TheVariants.{Held}
+use Rattle.vd_passes.specs.Causes.{OfStore, OfBase}
 use Rattle.vd_passes.specs.Laying.{below}
 use Rattle.vd_passes.proofs.Regions.{region-of}
+use Rattle.vd_passes.proofs.BlamingSteps.{looks-base_numbered, base_looks-store_numbered, sees-numbered}
 use Rattle.vd_core.specs.Adding.{Extends}
 use Rattle.vd_core.specs.Looking.{IsReader}
 use Rattle.vd_core.proofs.Picked.{read-there, at-same}
-use Rattle.vd_core.proofs.Views.{same-history}
+use Rattle.vd_core.proofs.Views.{same-history, same-store, same-base}
 use Rattle.vd_core.proofs.Keeping.Looking.{holder-fits}
 use Rattle.vd_core.proofs.state.Core.look.Goals as goal
 
@@ -78,3 +80,42 @@ returns-else-count-gt0-clause-looks g c =
     let absent = at-same passes c.args.pass q step.pass (λ (p : Pass). slice_get c.self.inside.fresh.bits p.block ≡ Some false) there step.there c.if-get.ensures in
     let told = at-same passes c.args.pass extends.0 step.pass (λ (p : Pass). Extends (g.S.Store.events c.self.inside.store ∷ []) p.piece c.self.inside.history c.look_at_zeros.new.self.history) extends.1 step.there extends.2 in
     rw (sym c.self.view_is) (inr (inr (step, absent, told)))
+
+pub returns-then-get-clause-base_number : goal.returns-then-get-clause-base_number
+returns-then-get-clause-base_number g c =
+    let at = rw (sym c.self.view_is) at c.requires.phase in let step = rw (sym c.self.view_is) at c.look_in_store.ensures.looks in
+    rw (ap g.B.Base.last (same-base c.look_in_store.ensures.others), sym c.self.view_is) (looks-base_numbered c.self.invariant.0.coherent c.args.pass (at.0, at.1, at.2.0.phase) (g.B.Base.last c.self.inside.base) step)
+
+pub returns-then-get-clause-store_same : goal.returns-then-get-clause-store_same
+returns-then-get-clause-store_same g c =
+    let at = rw (sym c.self.view_is) at c.requires.phase in let q = c.index-p.result.now in
+    let there = read-there c.self.inside.passes.items c.args.pass at.0 q at.1 c.index-p.ensures in
+    rw (sym c.self.view_is) (q, there, λ absent. absurd (let local = c.if-get.ensures in cc))
+
+pub returns-then-count-gt0-clause-number : goal.returns-then-count-gt0-clause-number
+returns-then-count-gt0-clause-number g c =
+    let at = rw (sym c.self.view_is) at c.requires.phase in let step = rw (sym c.self.view_is) at c.look_in_base.ensures.looks in
+    rw (ap g.S.Store.last (same-store c.look_in_base.ensures.others), sym c.self.view_is) (base_looks-store_numbered c.self.invariant.0.coherent c.args.pass (at.0, at.1, at.2.0.phase) (g.S.Store.last c.self.inside.store) step)
+
+pub returns-then-count-gt0-clause-base_same : goal.returns-then-count-gt0-clause-base_same
+returns-then-count-gt0-clause-base_same g c =
+    let at = rw (sym c.self.view_is) at c.requires.phase in let q = c.index-p.result.now in
+    let there = read-there c.self.inside.passes.items c.args.pass at.0 q at.1 c.index-p.ensures in
+    rw (sym c.self.view_is) (
+      q,
+      there,
+      λ nothing. absurd (elim nothing [
+        | inl local ↦ (let absent = c.if-get.ensures in cc)
+        | inr none ↦ (let more = c.if-count-gt0.true in let count = c.below-count.ensures in omega (arith, more, count, none))
+      ]),
+    )
+
+pub returns-else-count-gt0-clause-number : goal.returns-else-count-gt0-clause-number
+returns-else-count-gt0-clause-number g c =
+    let step = rw (sym c.self.view_is) at c.look_at_zeros.ensures.sees in
+    rw (ap g.S.Store.last (same-store c.look_at_zeros.ensures.others), sym c.self.view_is) (sees-numbered OfStore (g.S.Store.last c.self.inside.store) step.sees)
+
+pub returns-else-count-gt0-clause-base_number : goal.returns-else-count-gt0-clause-base_number
+returns-else-count-gt0-clause-base_number g c =
+    let step = rw (sym c.self.view_is) at c.look_at_zeros.ensures.sees in
+    rw (ap g.B.Base.last (same-base c.look_at_zeros.ensures.others), sym c.self.view_is) (sees-numbered OfBase (g.B.Base.last c.self.inside.base) step.sees)

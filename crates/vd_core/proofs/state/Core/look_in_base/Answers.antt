@@ -1,4 +1,6 @@
 use Rattle.std.proofs.Common.{sym}
+use Rattle.vd_passes.proofs.TracingSteps.{base_looks-followed}
+use Rattle.vd_core.proofs.Keeping.Accounting.{base_look-accounted}
 use Rattle.vd_core.proofs.Keeping.Looking.{can-look-in-base, base_look-kept, base_look-told}
 use Rattle.vd_core.proofs.state.Core.look_in_base.Goals as goal
 
@@ -12,6 +14,8 @@ invariant_of-self g c =
     let at = rw (sym c.self.view_is) at c.requires.phase in let done = c.look_at_base.ensures in (
       base_look-kept c.self.invariant.0 c.args.pass (at.0, at.1, (at.2.0, at.2.1)) done.looks done.stays,
       base_look-told c.self.invariant.0 c.args.pass (at.0, at.1, (at.2.0, at.2.1)) done.looks done.stays c.self.invariant.1,
+      base_look-accounted c.self.invariant.2 c.args.pass done.looks done.number done.calm.0,
+      λ told. base_looks-followed c.self.invariant.0.coherent (c.self.invariant.3 told) (at.0, at.1, at.2.0.phase) done.looks,
     )
 
 pub returns-clause-looks : goal.returns-clause-looks

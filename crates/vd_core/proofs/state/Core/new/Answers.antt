@@ -1,6 +1,9 @@
 use Rattle.std.proofs.Common.{[], ◌∙◌, ℕ, ◌<◌, ◌≤◌, ◌≡◌, ◌^◌, ap, subst, arith}
+use Rattle.vd_format.specs.Layouts.{chunks_of}
 use Rattle.vd_passes.specs.declared.shape.Shape.{Shape}
+use Rattle.vd_passes.proofs.Tracing.{new-followed}
 use Rattle.vd_core.specs.Opening.{AreNew}
+use Rattle.vd_core.proofs.Keeping.Accounting.{opened-accounted}
 use Rattle.vd_core.proofs.Keeping.Opening.{opened-kept, opened-told}
 use Rattle.vd_core.proofs.state.Core.new.Goals as goal
 
@@ -21,4 +24,6 @@ invariant_of-result g c =
       (λ told base_told. opened-told h c.requires.header c.in-Ok-new_passes.passes.items c.args.passes (g.S.Store.sectors c.args.store) (g.S.Store.depth c.args.store) (g.S.Store.events c.args.store) (g.B.Base.sectors c.args.base) (g.B.Base.depth c.args.base) c.args.room
           (g.S.Store.flies c.args.store) (g.B.Base.flies c.args.base) c.requires.fits (bounded-by _ _ c.sectors.ensures.value c.sectors.type_inv) (deep-by _ _ c.depth.ensures.value c.depth.ensures.enough) (deep-by _ _ c.depth-2.ensures.value c.depth-2.ensures.enough)
           c.requires.idle c.requires.base_idle c.requires.most new c.room_of-spare.ensures.bounded (g.S.Store.disk c.args.store) (g.S.Store.last c.args.store) (g.B.Base.content c.args.base) (c.sectors-2.ensures.content base_told ∙ c.sectors-2.ensures.value) (c.in_flight.ensures.writes told [] c.requires.idle)),
+      opened-accounted (chunks_of h) h.storage new c.faults-store_faults.ensures c.faults-base_faults.ensures,
+      λ told. new-followed new.each (g.S.Store.disk c.args.store).log,
     )

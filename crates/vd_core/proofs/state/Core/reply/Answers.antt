@@ -1,4 +1,6 @@
 use Rattle.std.proofs.Common.{sym}
+use Rattle.vd_passes.proofs.TracingSteps.{replies-followed}
+use Rattle.vd_core.proofs.Keeping.Accounting.{reply-accounted}
 use Rattle.vd_core.proofs.Keeping.Replying.{can-reply, reply-ok, reply-kept, reply-told}
 use Rattle.vd_core.proofs.state.Core.reply.Goals as goal
 
@@ -12,6 +14,8 @@ invariant_of-self g c =
     let at = rw (sym c.self.view_is) at c.requires.phase in let done = c.reply_in_room.ensures in (
       reply-kept c.args.pass c.self.invariant.0 at done.replies done.extends done.left,
       λ tells base_tells. reply-told c.args.pass c.self.invariant.0 at done.replies (c.self.invariant.1 tells base_tells),
+      reply-accounted c.self.invariant.2 c.args.pass at done.replies,
+      λ told. replies-followed (c.self.invariant.3 told) at done.replies done.extends.numbers (done.running told),
     )
 
 pub returns-clause-ok : goal.returns-clause-ok

@@ -1,6 +1,8 @@
 use Rattle.std.proofs.Common.{sym, ap, ◌∙◌}
+use Rattle.vd_passes.proofs.TracingSteps.{fetch_settled-followed}
 use Rattle.vd_core.specs.declared.outcome.Outcome.{Outcome}
 use Rattle.vd_core.specs.Outcomes.{released_failed}
+use Rattle.vd_core.proofs.Keeping.Accounting.{settle_fetch-accounted}
 use Rattle.vd_core.proofs.Keeping.Devices.{region-within}
 use Rattle.vd_core.proofs.Keeping.Fetching.{waiting-block, settle_fetch-kept, settle_fetch-told}
 use Rattle.vd_core.proofs.state.Core.settle_fetch.Goals as goal
@@ -21,4 +23,6 @@ invariant_of-self g c =
     let released = c.release_failed.ensures.regions ∙ ap (λ (o : Outcome). released_failed o c.args.pass c.self.inside.regions) done.settled.1 in (
       settle_fetch-kept c.self.invariant.0 c.args.pass at done.settled.2 done.stays c.release_failed.new.regions released,
       settle_fetch-told c.self.invariant.0 c.args.pass at done.settled.2 done.stays c.self.invariant.1,
+      settle_fetch-accounted c.self.invariant.2 c.args.pass (g.B.Base.late c.self.inside.base) (g.B.Base.late c.settle_block-outcome.new.base) done.settled.2 done.number done.settled.3,
+      λ told. fetch_settled-followed (c.self.invariant.3 told) at done.settled.2,
     )

@@ -1,0 +1,47 @@
+-- Each step of a core keeps what traces the store faults.
+use Rattle.std.proofs.Common.{◌≡◌, ℕ, ◌⊎◌, List, [], ◌∷◌, ◌++◌, length, length-append, sym, ◌∙◌, ap, inl, inr, arith, Option}
+use Rattle.std.specs.Prelude.{Result, Ok, Err, IfErr, OnOk}
+use Rattle.vd_law.specs.declared.entry.Room.{Room}
+use Rattle.vd_law.specs.declared.entry.Answer.{Answer}
+use Rattle.vd_law.specs.Entries.{Asked, Entry}
+use Rattle.vd_law.specs.Histories.{Numbered}
+use Rattle.vd_device.specs.declared.ticket.Ticket.{Ticket}
+use Rattle.vd_regions.specs.declared.regions.Region.{Region}
+use Rattle.vd_regions.specs.declared.regions.Busy.{Busy}
+use Rattle.vd_table.specs.Tables.{Given}
+use Rattle.vd_passes.specs.declared.shape.Shape.{Shape}
+use Rattle.vd_passes.specs.declared.pass.Pass.{Pass}
+use Rattle.vd_passes.specs.declared.pass.Phase.TheVariants.{Idle, Asked as HasAsked, Held}
+use Rattle.vd_passes.specs.Steps.{IsAt}
+use Rattle.vd_passes.specs.Following.{IsFollowed}
+use Rattle.vd_passes.proofs.TracingSteps.{enters-followed, fetches-followed, fills-followed, asks-followed, asks_full-followed}
+use Rattle.vd_core.specs.Asking.{AskEnds}
+use Rattle.vd_core.specs.Entering.{IsKeptOut, EntersBlock}
+use Rattle.vd_core.specs.Fetching.{FetchesBlock}
+
+module _ (shape : Shape) (chunks : List (Option ℕ)) (regions regions' : List (Option Region)) {passes passes' : List Pass} {history : List Entry} {numbers : List ℕ} {log : List Entry}
+    (followed : IsFollowed passes history numbers log) (i : ℕ) where
+  pub enter-followed : IsAt passes i (λ p. p.phase ≡ HasAsked) → (result : Result Unit Busy) → IfErr result (λ busy. IsKeptOut shape regions regions' i passes passes' busy.by)
+      → OnOk result (EntersBlock shape chunks regions regions' i passes passes') → IsFollowed passes' history numbers log
+  enter-followed at (Ok v) busy entered = enters-followed followed at entered.enters
+  enter-followed at (Err busy) out entered = rw out.passes_same followed
+
+pub fetch-followed : {shape : Shape} {passes passes' : List Pass} {history : List Entry} {numbers : List ℕ} {log : List Entry} {base_flies base_flies' : List Ticket → Type 0} → IsFollowed passes history numbers log → (i : ℕ) → IsAt passes i (λ p. p.phase ≡ Held)
+    → FetchesBlock shape i passes passes' base_flies base_flies' → IsFollowed passes' history numbers log
+fetch-followed followed i at (inl f) = fetches-followed followed at f.0
+fetch-followed followed i at (inr z) = fills-followed followed at z.0
+
+longer : (xs : List Entry) (x : Entry) → xs ≡ xs ++ x ∷ [] → ⊥
+longer xs x same = let e = ap length same in let f = length-append xs (x ∷ []) in omega (arith, e, f)
+
+-- where the history has grown, the store runs
+pub ask-followed : {result : Option Answer} {request : Asked} {shape : Shape} {i : ℕ} {table table' : Given} {passes passes' : List Pass} {history history' : Numbered} {spare spare' : Room} {events : ℕ} {log : List Entry}
+    → IsFollowed passes history.log.entries history.numbers log → IsAt passes i (λ p. p.phase ≡ Idle) → AskEnds result request shape i table table' passes passes' history history' spare spare' events
+    → (history' ≡ history) ⊎ (events ≡ length log) → IsFollowed passes' history'.log.entries history'.numbers log
+ask-followed {result} {request} {shape} {i} {table} {table'} {passes} {passes'} {history} {history'} {spare} {spare'} {events} {log} followed at (inl none) running = rw (none.2.passes_same, none.2.history_same) followed
+ask-followed {result} {request} {shape} {i} {table} {table'} {passes} {passes'} {history} {history'} {spare} {spare'} {events} {log} followed at (inr (inl full)) running =
+    asks_full-followed followed events at full.3.asks full.3.extends.numbers
+ask-followed {result} {request} {shape} {i} {table} {table'} {passes} {passes'} {history} {history'} {spare} {spare'} {events} {log} followed at (inr (inr asked)) (inl same) =
+    absurd (longer history.log.entries _ (sym (ap (λ (h : Numbered). h.log.entries) same) ∙ asked.1.asks.event))
+ask-followed {result} {request} {shape} {i} {table} {table'} {passes} {passes'} {history} {history'} {spare} {spare'} {events} {log} followed at (inr (inr asked)) (inr running) =
+    asks-followed followed asked.1.asks asked.1.extends.numbers running

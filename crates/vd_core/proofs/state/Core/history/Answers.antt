@@ -1,0 +1,17 @@
+use Rattle.std.proofs.Common.{sym}
+use Rattle.vd_passes.proofs.Blaming.{blamed-caused}
+use Rattle.vd_passes.proofs.Tracing.{followed-traced}
+use Rattle.vd_core.proofs.Storing.{stored-fulls}
+use Rattle.vd_core.proofs.state.Core.history.Goals as goal
+
+pub returns-clause-store_faults : goal.returns-clause-store_faults
+returns-clause-store_faults g c = rw (sym c.self.view_is) (blamed-caused c.self.invariant.2.of_store)
+
+pub returns-clause-base_faults : goal.returns-clause-base_faults
+returns-clause-base_faults g c = rw (sym c.self.view_is) (blamed-caused c.self.invariant.2.of_base)
+
+pub returns-clause-traced : goal.returns-clause-traced
+returns-clause-traced g c = rw (sym c.self.view_is) (λ told. followed-traced (c.self.invariant.3 told))
+
+pub returns-clause-full : goal.returns-clause-full
+returns-clause-full g c = rw (sym c.self.view_is) (stored-fulls c.self.invariant.2.stored)

@@ -1,0 +1,47 @@
+-- Why a write is Full: for which chunks the writes of a history have taken storage.
+use Rattle.std.specs.Prelude.{ℕ, ◌≡◌, ◌↔◌, ◌+◌, ◌<◌, Bool, false, not, ◌&&◌, nat_le, nat_lt, List, length, take, Some, None, slice_get}
+use Rattle.std.specs.List.{list_any, count_by, range_with_len}
+use Rattle.vd_law.specs.declared.entry.Sector.{Sector}
+use Rattle.vd_law.specs.declared.entry.CallId.{CallId}
+use Rattle.vd_law.specs.declared.entry.Answer.TheVariants.{Full}
+use Rattle.vd_law.specs.Entries.{Asked, Write, Entry, Ask, Reply, same_call}
+use Rattle.vd_table.specs.Tables.{Given}
+use Rattle.vd_passes.specs.declared.shape.Shape.{Shape}
+use Rattle.vd_core.specs.Asking.{run_from, run_count}
+
+-- the chunk is one of those of a write's range
+abbrev pub touches : Shape → Asked → (chunk : ℕ) → Bool
+touches shape request chunk = nat_le (run_from shape request) chunk && nat_lt chunk (run_from shape request + run_count shape request)
+
+-- the call is answered Full
+abbrev pub is_full_to : CallId → Entry → Bool
+is_full_to id (Reply other (Full needed free)) = same_call other id
+is_full_to id e = false
+
+abbrev pub is_answered_full : List Entry → CallId → Bool
+is_answered_full history id = list_any (is_full_to id) history
+
+-- the entry asks a write that touches the chunk and isn't answered Full in the history
+abbrev pub counts_for : Shape → List Entry → (chunk : ℕ) → Entry → Bool
+counts_for shape history chunk (Ask id request) = touches shape request chunk && not (is_answered_full history id)
+counts_for shape history chunk e = false
+
+-- the chunk is touched by a write among these entries that isn't answered Full in the history
+unfoldable pub is_counted : Shape → (history asked : List Entry) → (chunk : ℕ) → Bool
+is_counted shape history asked chunk = list_any (counts_for shape history chunk) asked
+
+-- The write whose Ask stands at this place lacks so many storage chunks, and so many are free, by what was asked before it.
+pub record IsFullCaused (shape : Shape) (chunks storage : ℕ) (history : List Entry) (at : ℕ) (request : Asked) (needed free : ℕ) : Type 0 where
+  pub lacking : needed ≡ count_by (λ c. not (is_counted shape history (take at history) c)) (range_with_len (run_from shape request) (run_count shape request))
+  pub free_is : free + count_by (is_counted shape history (take at history)) (range_with_len 0 chunks) ≡ storage
+  pub fewer : free < needed
+
+-- each Full of the history answers the write that was asked just before it
+abbrev pub AreFullsCaused : Shape → (chunks storage : ℕ) → List Entry → Type 0
+AreFullsCaused shape chunks storage history = (at : ℕ) (id : CallId) (needed free : ℕ) → slice_get history (at + 1) ≡ Some (Reply id (Full needed free))
+    → (first : ℕ) × (content : List Sector) × (slice_get history at ≡ Some (Ask id (Write first content))) × IsFullCaused shape chunks storage history at (Write first content) needed free
+
+-- the chunks that have storage are those that writes have taken
+pub record IsStoredBy (shape : Shape) (table : Given) (history : List Entry) : Type 0 where
+  pub counted : (chunk : ℕ) → chunk < length table.chunks → (slice_get table.chunks chunk ≡ Some None) ↔ (is_counted shape history history chunk ≡ false)
+  pub fulls : AreFullsCaused shape (length table.chunks) table.storage history
