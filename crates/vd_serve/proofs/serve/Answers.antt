@@ -1,0 +1,48 @@
+use Rattle.std.proofs.Common.{refl, sym, ◌*◌, ◌∙◌, ℕ, ap, subst, arith}
+use Rattle.vd_passes.specs.declared.shape.Shape.{Shape}
+use Rattle.vd_trace.specs.Traces.{script}
+use Rattle.vd_trace.specs.Scripts.{request_of}
+use Rattle.vd_passes.specs.Needs.{need_of}
+use Rattle.vd_core.specs.Asking.{Suffices}
+use Rattle.vd_serve.specs.Driving.{Serves}
+use Rattle.vd_serve.proofs.Needs.{guest-suffices, next-suffices}
+use Rattle.vd_serve.proofs.Going.{servable-at, none-served, one-served, all-served}
+use Rattle.vd_serve.proofs.Leaving.{store-same, base-same, store-then, base-then, same-disk, disk-then}
+use Rattle.vd_serve.proofs.serve.Goals as goal
+
+pub loop-at-init : goal.loop-at-init
+loop-at-init g c = record {
+  serving = none-served c.requires.unused (guest-suffices c.args.core.now.shape.block 1 c.args.trace.now.asks c.args.core.now.spare c.requires.room);
+  disk = same-disk;
+  start = λ told. refl;
+  store = store-same g.S.Store.sectors g.S.Store.depth g.S.Store.events g.S.Store.faults g.S.Store.tells g.S.Store.records refl;
+  base = base-same g.B.Base.sectors g.B.Base.depth g.B.Base.faults g.B.Base.tells g.B.Base.content refl;
+}
+
+pub serve_one-requires-clause-servable : goal.serve_one-requires-clause-servable
+serve_one-requires-clause-servable g c =
+    servable-at (script c.args.trace.now 1) c.loop-at.at (ap (λ (s : Shape). s.block * s.blocks) c.loop-at.invariant.disk.shape) c.request-asked.ensures.request c.requires.servable
+
+pub serve_one-requires-clause-room : goal.serve_one-requires-clause-room
+serve_one-requires-clause-room g c =
+    let now = c.loop-at.invariant in let asked = request_of c.request-asked.result c.request-asked.new.content in
+    let block = ap (λ (s : Shape). s.block) now.disk.shape in
+    subst (λ (b : ℕ). Suffices (need_of b asked) c.loop-at.core.spare) (sym block)
+    (next-suffices c.args.core.now.shape.block (script c.args.trace.now 1) c.loop-at.at asked c.request-asked.ensures.request c.loop-at.core.spare now.serving.room)
+
+pub loop-at-preserved : goal.loop-at-preserved
+loop-at-preserved g c =
+    let now = c.loop-at.invariant in let one = c.serve_one.ensures in let new = c.serve_one.new.core in
+    let asked = request_of c.request-asked.result c.request-asked.new.content in
+    let serves = subst (λ (b : ℕ). Serves asked b c.loop-at.core.history.log.entries new.history.log.entries c.loop-at.core.spare new.spare) (ap (λ (s : Shape). s.block) now.disk.shape) one.serves in record {
+      serving = one-served asked c.request-asked.ensures.request one.resting serves now.serving;
+      disk = disk-then now.disk one.disk;
+      start = λ told. one.start told ∙ now.start (one.base.told_before told);
+      store = store-then now.store one.store;
+      base = base-then now.base one.base;
+    }
+
+pub returns-clause-served : goal.returns-clause-served
+returns-clause-served g c =
+    let many = c.count-at-end.ensures in let all = c.loop-at-test.false in
+    all-served c.loop-at.core.passes c.loop-at.core.history.log.entries (c.loop-at.core.shape.block * c.loop-at.core.shape.blocks) (omega (arith, many, all)) c.history.ensures.regular c.loop-at.invariant.serving

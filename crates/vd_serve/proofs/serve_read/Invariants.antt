@@ -1,0 +1,18 @@
+use Rattle.std.proofs.Common.{◌≡◌, false, length}
+use Rattle.vd_law.specs.Entries.{Read}
+use Rattle.vd_serve.specs.Driving.{Serves, IsSameDisk, KeepsStore, KeepsBase}
+use Rattle.vd_serve.proofs.Passing.{IsBusy, steps_at}
+use Rattle.vd_serve.proofs.serve_read.Given as goal
+
+abbrev pub invariant-loop : goal.invariant-loop
+invariant-loop g l = record {
+  busy : IsBusy false (length l.out) l.core.passes;
+  serves : Serves (Read l.first (length l.fn.out)) l.fn.core.shape.block l.fn.core.history.log.entries l.core.history.log.entries l.fn.core.spare l.core.spare;
+  disk : IsSameDisk l.fn.core l.core;
+  start : g.B.Base.tells l.core.base.inner → l.core.start ≡ l.fn.core.start;
+  store : KeepsStore g.S.Store.sectors g.S.Store.depth g.S.Store.events g.S.Store.faults g.S.Store.tells g.S.Store.records l.fn.core.store.inner l.core.store.inner;
+  base : KeepsBase g.B.Base.sectors g.B.Base.depth g.B.Base.faults g.B.Base.tells g.B.Base.content l.fn.core.base.inner l.core.base.inner;
+}
+
+abbrev pub decreases-loop : goal.decreases-loop
+decreases-loop g l = steps_at l.core.shape.block l.core.passes

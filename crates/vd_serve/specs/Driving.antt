@@ -1,0 +1,55 @@
+-- What the serving of one request asks and leaves.
+use Rattle.std.specs.Prelude.{ℕ, ◌≡◌, ◌+◌, ◌*◌, ◌<◌, ◌≤◌, List, [], ◌∷◌, ◌++◌, length}
+use Rattle.std.specs.List.{AllByRecursion}
+use Rattle.vd_law.specs.declared.entry.Room.{Room}
+use Rattle.vd_law.specs.Entries.{Asked, Entry, Ask}
+use Rattle.vd_law.specs.Rules.{IsInside}
+use Rattle.vd_passes.specs.declared.shape.Shape.{Shape}
+use Rattle.vd_passes.specs.declared.pass.Pass.{Pass}
+use Rattle.vd_passes.specs.Needs.{need_of, sectors_of}
+use Rattle.vd_core.specs.View.{View}
+use Rattle.vd_core.specs.Asking.{Suffices}
+use Rattle.vd_core.specs.Leaving.{LeavesStore, LeavesBase}
+use Rattle.vd_serve.specs.Serving.{AreIdle, requests_in}
+
+-- both of two passes are idle
+pub record IsResting (passes : List Pass) : Type 0 where
+  pub two : length passes ≡ 2
+  pub idle : AreIdle passes
+
+-- The request can be served: it is in order, and the spare room suffices for it.
+pub record CanServe (request : Asked) (shape : Shape) (passes : List Pass) (left : Room) : Type 0 where
+  pub resting : IsResting passes
+  pub some : 0 < sectors_of request
+  pub most : sectors_of request ≤ 2048
+  pub inside : IsInside (shape.block * shape.blocks) request
+  pub room : Suffices (need_of shape.block request) left
+
+-- an Ask is one of this pass
+abbrev pub IsAskOf : (pass : ℕ) → Entry → Type 0
+IsAskOf pass (Ask id request) = id.pass ≡ pass
+IsAskOf pass e = Unit {0}
+
+-- Pass 1, and no other, has asked one more request, for which no more of the spare room was used than it needs.
+pub record Serves (request : Asked) (block : ℕ) (entries entries' : List Entry) (left left' : Room) : Type 0 where
+  pub asked : requests_in entries' 1 ≡ requests_in entries 1 ++ request ∷ []
+  pub alone : AllByRecursion (IsAskOf 1) entries → AllByRecursion (IsAskOf 1) entries'
+  pub events_left : left.events ≤ left'.events + (need_of block request).events
+  pub sectors_left : left.sectors ≤ left'.sectors + (need_of block request).sectors
+
+-- the disk, its storage, and what was counted at its opening are the same
+pub record IsSameDisk {S B : Type 0} (core core' : View S B) : Type 0 where
+  pub shape : core'.shape ≡ core.shape
+  pub chunks : length core'.table.chunks ≡ length core.table.chunks
+  pub storage : core'.table.storage ≡ core.table.storage
+  pub store_faults : core'.store_faults ≡ core.store_faults
+  pub base_faults : core'.base_faults ≡ core.base_faults
+  pub opened : core'.history.opened ≡ core.history.opened
+
+-- what is left of one store, and of one base, by what it tells of itself: neither is ever late
+abbrev pub KeepsStore : {X : Type 0} (sectors depth events faults : X → ℕ) (tells records : X → Type 0) (old new : X) → Type 0
+KeepsStore sectors depth events faults tells records old new =
+    LeavesStore (sectors old) (sectors new) (depth old) (depth new) (events old) (events new) (faults old) (faults new) 0 0 (tells old) (tells new) (records old) (records new)
+
+abbrev pub KeepsBase : {X Y : Type 0} (sectors depth faults : X → ℕ) (tells : X → Type 0) (content : X → Y) (old new : X) → Type 0
+KeepsBase sectors depth faults tells content old new = LeavesBase (sectors old) (sectors new) (depth old) (depth new) (faults old) (faults new) 0 0 (tells old) (tells new) (content old) (content new)
