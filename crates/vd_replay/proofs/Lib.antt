@@ -1,0 +1,12 @@
+pub mod AreaLaws
+pub mod SlotLaws
+pub mod PageLaws
+pub mod JournalLaws
+pub mod ListLaws
+pub mod PlacingLaws
+pub mod FindingLaws
+pub mod ImageLaws
+pub mod MapsLaws
+pub mod StateLaws
+pub mod FillingLaws
+pub mod DiskLaws

@@ -1,0 +1,19 @@
+use Rattle.std.proofs.Common.{ℕ, ◌<◌, ◌≤◌, ◌≡◌, inl, inr, length, replicate, Some, sym, ◌∙◌, arith}
+use Rattle.std.specs.Prelude.{slice_get}
+use Rattle.std.proofs.lemmas.Bool.{cases_lt}
+use Rattle.std.proofs.lemmas.List.{length-replicate}
+use Rattle.std.proofs.lemmas.Option.{slice_get_past}
+use Rattle.vd_reading.proofs.QuietLaws.{same_list}
+use Rattle.vd_format.specs.Entries.{empty_entry}
+use Rattle.vd_replay.proofs.ListLaws.{get_copy}
+use Rattle.vd_replay.proofs.placing.clear.Goals as goal
+
+pub returns : goal.returns
+returns c =
+    let size = c.loop-chunk.invariant.size in
+    let many = length-replicate c.args.chunks empty_entry in
+    same_list c.loop-chunk.map (replicate c.args.chunks empty_entry) (size ∙ sym many)
+    (λ i. elim (cases_lt i c.args.chunks) [
+      | inl below ↦ c.loop-chunk.invariant.each i (omega arith) ∙ sym (get_copy c.args.chunks empty_entry i below)
+      | inr past ↦ slice_get_past c.loop-chunk.map i (omega arith) ∙ sym (slice_get_past (replicate c.args.chunks empty_entry) i (omega arith))
+    ])

@@ -1,0 +1,16 @@
+use Rattle.std.proofs.Common.{ℕ, ◌<◌, ◌≤◌, ◌≡◌, inl, inr, length, sym, ◌∙◌, arith}
+use Rattle.std.specs.Prelude.{slice_get}
+use Rattle.std.proofs.lemmas.Bool.{cases_lt}
+use Rattle.std.proofs.lemmas.Option.{slice_get_past}
+use Rattle.vd_reading.proofs.QuietLaws.{same_list}
+use Rattle.vd_replay.proofs.placing.copy.Goals as goal
+
+pub returns : goal.returns
+returns c =
+    let size = c.loop-chunk.invariant.size in
+    let other = c.requires.other in
+    same_list c.loop-chunk.map c.args.other.now (size ∙ sym other)
+    (λ i. elim (cases_lt i c.args.chunks) [
+      | inl below ↦ c.loop-chunk.invariant.each i (omega arith)
+      | inr past ↦ slice_get_past c.loop-chunk.map i (omega arith) ∙ sym (slice_get_past c.args.other.now i (omega arith))
+    ])

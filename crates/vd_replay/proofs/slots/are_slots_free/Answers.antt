@@ -1,0 +1,46 @@
+use Rattle.std.proofs.Common.{ℕ, ◌≡◌, ap, ◌∙◌, arith, length, take, length-take-le}
+use Rattle.std.proofs.lemmas.Result.{err_from_is_err_and}
+use Rattle.vd_replay.specs.Fresh.{none_counts}
+use Rattle.vd_reading.specs.Quiet.{sectors_from}
+use Rattle.vd_reading.proofs.QuietLaws.{reads_nothing, reads_twice, ready_again}
+use Rattle.vd_replay.proofs.AreaLaws.{fault_earlier}
+use Rattle.vd_replay.proofs.SlotLaws.{more_free, none_read}
+use Rattle.vd_replay.proofs.slots.are_slots_free.Goals as goal
+
+pub loop-done-init : goal.loop-done-init
+loop-done-init g c = (reads_nothing c.requires.ready.idle_is, λ told. none_read _ _ _ _, omega arith)
+
+pub is_free_piece-requires-clause-ready : goal.is_free_piece-requires-clause-ready
+is_free_piece-requires-clause-ready g c = ready_again c.requires.ready c.loop-done.invariant.0
+
+pub is_free_piece-requires-clause-range : goal.is_free_piece-requires-clause-range
+is_free_piece-requires-clause-range g c =
+    let same = c.loop-done.invariant.0.sectors_same in
+    let n : length (take c.min-some.result c.loop-done.room) ≡ c.min-some.result = length-take-le c.min-some.result c.loop-done.room (omega arith) in
+    (omega arith, omega arith, omega arith)
+
+pub returns-in_err-piece-clause-fault : goal.returns-in_err-piece-clause-fault
+returns-in_err-piece-clause-fault g c =
+    let p = err_from_is_err_and c.from_residual.result c.from_residual.ensures.1 in
+    rw (p.1, p.2) (fault_earlier c.loop-done.invariant.0.calm c.in_err-piece.ensures.fault)
+
+pub returns-in_err-piece-clause-quiet : goal.returns-in_err-piece-clause-quiet
+returns-in_err-piece-clause-quiet g c = reads_twice c.loop-done.invariant.0 c.is_free_piece.ensures.quiet
+
+pub loop-done-preserved : goal.loop-done-preserved
+loop-done-preserved g c = (
+  reads_twice c.loop-done.invariant.0 c.is_free_piece.ensures.quiet,
+  (λ told. (let before = c.is_free_piece.ensures.quiet.told_before told in
+      let n : length (take c.min-some.result c.loop-done.room) ≡ c.min-some.result = length-take-le c.min-some.result c.loop-done.room (omega arith) in
+      more_free (g.S.Store.disk c.loop-done.store).held (g.S.Store.disk c.is_free_piece.new.store).held c.args.from c.args.version c.args.generation c.loop-done.done c.min-some.result _ c.loop-done.free c.in_ok-piece.piece
+      n (c.is_free_piece.ensures.quiet.held told) (c.loop-done.invariant.1 before) (c.in_ok-piece.ensures.read told))),
+  omega arith,
+)
+
+pub returns-clause-quiet : goal.returns-clause-quiet
+returns-clause-quiet g c = c.loop-done.invariant.0
+
+pub returns-clause-read : goal.returns-clause-read
+returns-clause-read g c told =
+    let all : c.loop-done.done ≡ c.args.count = (let most = c.loop-done.invariant.2 in omega arith) in
+    (c.loop-done.invariant.1 told).free_is ∙ ap (λ (k : ℕ). none_counts c.args.version c.args.generation (sectors_from (g.S.Store.disk c.loop-done.store).held c.args.from k)) all

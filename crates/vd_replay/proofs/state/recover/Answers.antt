@@ -1,0 +1,8 @@
+use Rattle.vd_reading.proofs.QuietLaws.{reads_twice}
+use Rattle.vd_replay.proofs.state.recover.Goals as goal
+
+pub returns-in_err-fill-clause-quiet : goal.returns-in_err-fill-clause-quiet
+returns-in_err-fill-clause-quiet g c = reads_twice c.find_header.ensures.quiet c.fill.ensures.quiet
+
+pub returns-clause-quiet : goal.returns-clause-quiet
+returns-clause-quiet g c = reads_twice c.find_header.ensures.quiet c.fill.ensures.quiet

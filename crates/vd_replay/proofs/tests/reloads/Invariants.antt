@@ -1,0 +1,5 @@
+use Rattle.vd_replay.specs.States.{IsSized}
+use Rattle.vd_replay.proofs.tests.reloads.Given as goal
+
+abbrev pub invariant-loop-changes : goal.invariant-loop-changes
+invariant-loop-changes g l = IsSized l.state

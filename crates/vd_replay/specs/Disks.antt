@@ -1,0 +1,72 @@
+-- The guest's disk, by a state: where each of its sectors comes from.
+use Rattle.std.specs.Prelude.{ℕ, ◌≡◌, ◌+◌, ◌/◌, ◌^◌, ◌<◌, ◌≤◌, ◌⊎◌, Bool, true, false, List, None, Some, length, slice_get}
+use Rattle.vd_law.specs.declared.entry.Sector.{Sector}
+use Rattle.vd_table.specs.Tables.{Has}
+use Rattle.vd_reading.specs.Background.{background}
+use Rattle.vd_image.specs.Image.{DiskHas, background as image_background}
+use Rattle.vd_image.specs.Layouts.{layout_of}
+use Rattle.vd_image.specs.Decoders.{Entry, this_version, format_of}
+use Rattle.vd_image.specs.CrashImages.{base_at}
+use Rattle.vd_image.specs.Made.{zero_sector}
+use Rattle.vd_replay.specs.Images.{image_of}
+use Rattle.vd_replay.specs.declared.state.State.{State}
+use Rattle.vd_replay.specs.declared.disk.Source.{Source}
+use Rattle.vd_replay.specs.declared.disk.Source.TheVariants.{Local, Background, Zeros}
+use Rattle.vd_replay.specs.declared.disk.DiskFault.{DiskFault}
+use Rattle.vd_replay.specs.declared.disk.DiskFault.TheVariants as fault
+
+-- the sector's block is not local
+abbrev pub IsAway : State → (sector : ℕ) → Type 0
+IsAway s n = (slice_get s.fresh.bits (n / s.header.block) ≡ Some false) ⊎ (slice_get s.table.chunks (n / s.header.block / s.header.chunk) ≡ Some None)
+
+-- whether such blocks of its chunk read as zeros
+abbrev pub ReadsZeros : State → (sector : ℕ) → Bool → Type 0
+ReadsZeros s n zeros = (e : Entry) × (slice_get s.map (n / s.header.block / s.header.chunk) ≡ Some e) × (e.zeros ≡ zeros)
+
+-- the sector comes from there
+abbrev pub IsSource : State → (sector : ℕ) → Source → Type 0
+IsSource s n (Local at) = (slice_get s.fresh.bits (n / s.header.block) ≡ Some true)
+    × ((p : ℕ) × Has s.table (n / s.header.block / s.header.chunk) p × (p < s.header.storage) × (at ≡ (layout_of s.header).place p n))
+IsSource s n Background = IsAway s n × ReadsZeros s n false
+IsSource s n Zeros = IsAway s n × ReadsZeros s n true
+
+-- the source of the sector so many places on, if it comes from one device at neighbouring places
+abbrev pub further : Source → ℕ → Source
+further (Local at) i = Local (at + i)
+further Background i = Background
+further Zeros i = Zeros
+
+abbrev pub IsNear : Source → Type 0
+IsNear (Local at) = at < 2 ^ 32
+IsNear Background = Unit {0}
+IsNear Zeros = Unit {0}
+
+-- so many sectors from there on lie in a store
+abbrev pub IsInside : Source → (count sectors : ℕ) → Type 0
+IsInside (Local at) count sectors = at + count ≤ sectors
+IsInside Background count sectors = Unit {0}
+IsInside Zeros count sectors = Unit {0}
+
+-- this is what the sector is, by its source
+abbrev pub IsFrom : (held content : List Sector) (tracked : ℕ) → Source → (sector : ℕ) → Sector → Type 0
+IsFrom held content tracked (Local at) n v = slice_get held at ≡ Some v
+IsFrom held content tracked Background n v = v ≡ background content tracked n
+IsFrom held content tracked Zeros n v = v ≡ zero_sector
+
+-- the sectors from `first` on are these, one after another from one source
+pub record ReadRun (held content : List Sector) (tracked : ℕ) (source : Source) (first : ℕ) (out : List Sector) : Type 0 where
+  pub each : (i : ℕ) (v : Sector) → slice_get out i ≡ Some v → IsFrom held content tracked (further source i) (first + i) v
+
+-- the first n of these are the sectors from `first` on
+pub record AreShown (held content : List Sector) (s : State) (first n : ℕ) (out : List Sector) : Type 0 where
+  pub each : (i : ℕ) (v : Sector) → i < n → slice_get out i ≡ Some v → (source : Source) × IsSource s (first + i) source × IsFrom held content s.header.tracked source (first + i) v
+
+-- These are the sectors of the guest's disk from `first` on: in version 2 those of the image's disk, in version 1, where nothing is local, the background.
+pub record IsDisk (held content : List Sector) (s : State) (first : ℕ) (out : List Sector) : Type 0 where
+  pub current : s.header.version ≡ this_version → (i : ℕ) (v : Sector) → slice_get out i ≡ Some v → DiskHas (format_of s.header) (layout_of s.header) (base_at zero_sector content) zero_sector (image_of held) (first + i) v
+  pub old : s.header.version ≡ 1 → (i : ℕ) (v : Sector) → slice_get out i ≡ Some v → v ≡ image_background (base_at zero_sector content) zero_sector s.header.tracked (first + i)
+
+-- the ticket is the store's, and then P holds of it, or the base's, and then Q does
+abbrev pub ForDevice : (P Q : ℕ → Type 0) → DiskFault → Type 0
+ForDevice P Q (fault.Store ticket) = P ticket
+ForDevice P Q (fault.Base ticket) = Q ticket

@@ -1,0 +1,12 @@
+pub mod Fresh
+pub mod Looking
+pub mod Pages
+pub mod Journal
+pub mod Placing
+pub mod Headers
+pub mod Images
+pub mod Finding
+pub mod States
+pub mod Refusals
+pub mod Filling
+pub mod Disks

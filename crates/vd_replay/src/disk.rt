@@ -1,0 +1,202 @@
+//! Reading the guest's disk by a state.
+
+ghost use Rattle.std.specs.Prelude.{ℕ, ◌≡◌, ◌+◌, ◌^◌, ◌<◌, ◌≤◌, [], false, length, replicate, IfErr, IsTrue, OnOk};
+ghost use Rattle.vd_reading.specs.Quiet.{IsReady, OnlyReads, OnlyReadsBase, IsFault};
+ghost use Rattle.vd_format.specs.Headers.{IsValid};
+ghost use Rattle.vd_format.specs.Layouts.{storage_start, need_of};
+ghost use Rattle.vd_image.specs.Layouts.{layout_of as places};
+ghost use Rattle.vd_image.specs.Made.{zero_sector};
+ghost use Rattle.vd_replay.specs.States.{IsSized, Says};
+ghost use Rattle.vd_replay.specs.Disks.{IsSource, further, IsNear, IsInside, ReadRun, IsDisk, ForDevice};
+
+use crate::state::State;
+use vd_device::{Base, Store};
+use vd_header::{Header, layout_of};
+use vd_law::entry::Sector;
+use vd_reading::{read_background, read_only, sectors_at_rest};
+
+/// A device failed the ticket of this number.
+#[derive(Clone, Copy, PartialEq, Eq, Drop)]
+pub enum DiskFault {
+    Store(u64),
+    Base(u64),
+}
+
+/// Where a sector of the guest's disk comes from.
+#[derive(Clone, Copy, PartialEq, Eq, Drop)]
+pub enum Source {
+    /// This sector of the store.
+    Local(u64),
+    /// The base below `tracked`, zeros from there on.
+    Background,
+    Zeros,
+}
+
+impl Source {
+    /// The source of the sector `by` places on, where both come from one device at neighbouring places.
+    fn further(self, by: u64) -> Source
+        requires near { IsNear self }
+        requires few { by < 2 ^ 32 }
+        ensures { result ≡ further self by }
+    {
+        match self {
+            Source::Local(at) => Source::Local(at + by),
+            other => other,
+        }
+    }
+}
+
+/// Where sector `sector` of the guest's disk stands in storage chunk `p`.
+fn place(header: &Header, storage_at: u64, p: u32, sector: u64) -> u64
+    requires valid { IsValid header.now }
+    requires storage { storage_at ≡ storage_start header.now }
+    requires inside { p < header.now.storage }
+    requires near { need_of header.now < 2 ^ 32 }
+    ensures place { result ≡ (places header.now).place p sector }
+    ensures near { result < 2 ^ 32 }
+{
+    let chunk = u64::from(header.block) * u64::from(header.chunk);
+    storage_at + (u64::from(p) * chunk + sector % chunk)
+}
+
+/// Where this sector of the guest's disk comes from.
+fn source_of(state: &State, storage_at: u64, sector: u64) -> Source
+    requires sized { IsSized state.now }
+    requires storage { storage_at ≡ storage_start state.now.header }
+    requires small { need_of state.now.header < 2 ^ 32 }
+    requires inside { sector < state.now.header.size }
+    ensures source { IsSource state.now sector result }
+    ensures near { IsNear result }
+{
+    let header = &state.header;
+    let block = (sector / u64::from(header.block)) as u32;
+    let chunk = block / header.chunk;
+    if state.fresh.get(block) {
+        if let Some(p) = state.table.get(chunk) {
+            return Source::Local(place(header, storage_at, p, sector));
+        }
+    }
+    if state.map.get(chunk).zeros {
+        Source::Zeros
+    } else {
+        Source::Background
+    }
+}
+
+/// Whether this sector comes from there.
+fn comes_from(state: &State, storage_at: u64, source: Source, sector: u64) -> bool
+    requires sized { IsSized state.now }
+    requires storage { storage_at ≡ storage_start state.now.header }
+    requires small { need_of state.now.header < 2 ^ 32 }
+    requires inside { sector < state.now.header.size }
+    ensures { IsTrue result → IsSource state.now sector source }
+{
+    source_of(state, storage_at, sector) == source
+}
+
+/// How many sectors from `first` on, at most `most`, come from one device at neighbouring places.
+fn run_from(state: &State, storage_at: u64, source: Source, first: u64, most: u64) -> u64
+    requires sized { IsSized state.now }
+    requires storage { storage_at ≡ storage_start state.now.header }
+    requires small { need_of state.now.header < 2 ^ 32 }
+    requires source { IsSource state.now first source }
+    requires near { IsNear source }
+    requires some { 0 < most }
+    requires few { most ≤ 2048 }
+    requires inside { first + most ≤ state.now.header.size }
+    ensures some { 0 < result }
+    ensures most { result ≤ most }
+    ensures run { (i : ℕ) → i < result → IsSource state.now (first + i) (further source i) }
+{
+    for count in 1..most {
+        if !comes_from(state, storage_at, source.further(count), first + count) {
+            return count;
+        }
+    }
+    most
+}
+
+fn clear(out: &mut [Sector])
+    ensures { out.new ≡ replicate (length out.old) zero_sector }
+{
+    out.fill(Sector::filled(0));
+}
+
+/// Fills `out` with the sectors from `first` on, which come from one source, by at most one ticket.
+fn read_run<S: Store, B: Base>(
+    store: &mut S,
+    base: &mut B,
+    source: Source,
+    tracked: u64,
+    first: u64,
+    out: &mut [Sector],
+) -> Result<(), DiskFault>
+    requires ready { IsReady (S.flies store.old []) (S.depth store.old) (S.tells store.old) (S.disk store.old) }
+    requires base { B.flies base.old [] }
+    requires some { 0 < length out.old }
+    requires most { length out.old ≤ 2048 }
+    requires inside { IsInside source (length out.old) (S.sectors store.old) }
+    ensures fault { IfErr result (ForDevice (λ number. IsFault number (S.last store.new) (S.faults store.old) (S.faults store.new)) (λ number. IsFault number (B.last base.new) (B.faults base.old) (B.faults base.new))) }
+    ensures quiet { OnlyReads (S.flies store.new []) (S.sectors store.old) (S.sectors store.new) (S.depth store.old) (S.depth store.new) (S.faults store.old) (S.faults store.new) (S.tells store.old) (S.tells store.new) (S.records store.old) (S.records store.new) (S.disk store.old) (S.disk store.new) }
+    ensures base_quiet { OnlyReadsBase (B.flies base.new []) (B.sectors base.old) (B.sectors base.new) (B.faults base.old) (B.faults base.new) (B.tells base.old) (B.tells base.new) (B.content base.old) (B.content base.new) }
+    ensures size { length out.new ≡ length out.old }
+    ensures read { OnOk result (S.tells store.new → B.tells base.new → ReadRun (S.disk store.new).held (B.content base.new) tracked source first out.new) }
+{
+    match source {
+        Source::Local(at) => match read_only(store, at, out) {
+            Ok(()) => Ok(()),
+            Err(ticket) => Err(DiskFault::Store(ticket)),
+        },
+        Source::Background => match read_background(base, tracked, first, out) {
+            Ok(()) => Ok(()),
+            Err(ticket) => Err(DiskFault::Base(ticket)),
+        },
+        Source::Zeros => {
+            clear(out);
+            Ok(())
+        }
+    }
+}
+
+/// Fills `out` with the sectors of the guest's disk from `first` on: a local block's from its storage, else the base's below
+/// `tracked`, else zeros. There is one ticket for each run of neighbouring sectors that come from one device at
+/// neighbouring places, of at most 2,048 sectors each. The first failed ticket ends it.
+pub fn read_disk<S: Store, B: Base>(
+    store: &mut S,
+    base: &mut B,
+    state: &State,
+    first: u64,
+    out: &mut [Sector],
+) -> Result<(), DiskFault>
+    requires store { S.flies store.old [] }
+    requires base { B.flies base.old [] }
+    requires sized { IsSized state.now }
+    requires full { state.now.void ≡ false }
+    requires room { need_of state.now.header ≤ S.sectors store.old }
+    requires range { first + length out.old ≤ state.now.header.size }
+    ensures fault { IfErr result (ForDevice (λ number. IsFault number (S.last store.new) (S.faults store.old) (S.faults store.new)) (λ number. IsFault number (B.last base.new) (B.faults base.old) (B.faults base.new))) }
+    ensures quiet { OnlyReads (S.flies store.new []) (S.sectors store.old) (S.sectors store.new) (S.depth store.old) (S.depth store.new) (S.faults store.old) (S.faults store.new) (S.tells store.old) (S.tells store.new) (S.records store.old) (S.records store.new) (S.disk store.old) (S.disk store.new) }
+    ensures base_quiet { OnlyReadsBase (B.flies base.new []) (B.sectors base.old) (B.sectors base.new) (B.faults base.old) (B.faults base.new) (B.tells base.old) (B.tells base.new) (B.content base.old) (B.content base.new) }
+    ensures size { length out.new ≡ length out.old }
+    ensures read { OnOk result (S.tells store.new → B.tells base.new → Says (S.disk store.new).held state.now → IsDisk (S.disk store.new).held (B.content base.new) state.now first out.new) }
+{
+    let _sectors = sectors_at_rest(store);
+    let storage_at = layout_of(&state.header).storage_at;
+    let mut done = 0;
+    while done < out.len() {
+        let at = first + done as u64;
+        let source = source_of(state, storage_at, at);
+        let most = (out.len() - done).min(2048) as u64;
+        let count = run_from(state, storage_at, source, at, most) as usize;
+        read_run(
+            store,
+            base,
+            source,
+            state.header.tracked,
+            at,
+            &mut out[done..done + count],
+        )?;
+        done += count;
+    }
+    Ok(())
+}
