@@ -10,7 +10,7 @@ mod records;
 
 pub use entries::read_entry;
 pub use facts::{Facts2, Slot2};
-pub use map::Map;
+pub use map::{Map, page_of};
 pub use records::{read_record2, write_record2};
 pub use vd_format::{Entry, Fact2, Shape2};
 

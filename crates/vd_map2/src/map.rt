@@ -31,7 +31,8 @@ impl Model for Map {
     ghost view = { λ m. m.entries.items };
 }
 
-fn page_of(entries: &[Entry]) -> Sector
+/// A sector of the map with these entries, at most 32, and zeros behind them.
+pub fn page_of(entries: &[Entry]) -> Sector
     requires { length entries.now ≤ 32 }
     ensures { result.bytes ≡ page_bytes entries.now }
 {
