@@ -69,7 +69,8 @@ fn devices_of(
     ensures { IfOk result (λ devices. AreFlying devices.0 [] × AreFlying devices.1 []) }
 {
     match words {
-        [command, store, base, ..] if command.as_str() == "show" || made.is_some() => {
+        [command, store, base, ..]
+            if matches!(command.as_str(), "show" | "run") || made.is_some() => {
             open_devices(rt, store.as_str(), base.as_str(), made)
         }
         _ => Ok((FileStore::none(), FileBase::none())),

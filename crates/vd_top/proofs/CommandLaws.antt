@@ -1,20 +1,27 @@
 -- What a command answers, and the causes of its status.
-use Rattle.std.proofs.Common.{ℕ, zero, suc, ◌≡◌, ◌⊎◌, min, inl, inr, List, Some, None, refl, sym, ◌∙◌, ap, subst, arith}
-use Rattle.std.specs.Prelude.{◌↔◌}
+use Rattle.std.proofs.Common.{ℕ, zero, suc, ◌≡◌, ◌⊎◌, min, inl, inr, Bool, true, false, List, Option, Some, None, refl, sym, ◌∙◌, ap, subst, arith}
+use Rattle.std.specs.Prelude.{◌↔◌, IsTrue, if◌then◌else◌}
 use Rattle.vd_law.specs.declared.entry.Sector.{Sector}
+use Rattle.vd_law.specs.Entries.{Entry}
+use Rattle.vd_law.specs.Histories.{Numbered}
 use Rattle.vd_format.specs.Headers.{IsValid}
 use Rattle.vd_format.specs.declared.header.Header.{Header}
 use Rattle.vd_command.specs.declared.command.Command.{Command}
-use Rattle.vd_command.specs.declared.command.Command.TheVariants.{Show, Make}
+use Rattle.vd_command.specs.declared.command.Command.TheVariants.{Show, Make, Run}
 use Rattle.vd_command.specs.Words.{Spells, made}
 use Rattle.vd_io.specs.Streams.{Rose}
 use Rattle.vd_reading.specs.Quiet.{IsFault}
-use Rattle.vd_top.specs.Outcomes.{Outcome, Says, Shown}
-use Rattle.vd_top.specs.Showing.{IsJudged, Without_memory, Store_failed, Base_failed, Found}
+use Rattle.vd_trace.specs.Traces.{Script}
+use Rattle.vd_replay.specs.declared.error.OpenError.{OpenError as Refusal}
+use Rattle.vd_report.specs.declared.line.Line.{Line}
+use Rattle.vd_top.specs.Statuses.{status_of_line}
+use Rattle.vd_top.specs.Outcomes.{Outcome}
+use Rattle.vd_top.specs.Showing.{show_line, IsJudged, Without_memory, Store_failed, Base_failed, Image_refused, Past_the_disk, Is_shown}
 use Rattle.vd_top.specs.Making.{AsksFor, IsNoMake, new_header, MakingEnds, Too_few, Lacks_memory, Write_failed, Is_made}
 use Rattle.vd_top.specs.Tasks.{IsMaking}
 use Rattle.vd_top.specs.Commands.{IsNoCommand, Answers, Outside, Shows, Makes}
-use Rattle.vd_top.specs.Ending.{status_of, unwritten, Ends}
+use Rattle.vd_top.specs.Running.{AsksRun, IsReadLine, Source_failed, Read_without_memory, Is_bad, Is_too_much, Is_unserved, IsOpenLine, Open_failed, Is_refused, Is_past, RunEnds, Is_unread, Is_unopened, Ran_without_memory, Has_run}
+use Rattle.vd_top.specs.Ending.{are_ok, status_of, unwritten, Ends}
 
 pub is_no_command : (command : Command) → None ≡ Some command → ⊥
 is_no_command command e = cc
@@ -81,20 +88,37 @@ no_make words first count unique size block chunk storage slots spells = let sam
 pub one_command : (words : List (List ℕ)) (found is : Command) → found ≡ is → ((command : Command) → (Some found ≡ Some command) ↔ Spells words command) → (command : Command) → Spells words command → is ≡ command
 one_command words found is same exact command spells = let e = (exact command).1 spells in cc
 
--- which status an outcome has: that of words outside the grammar, of a device that failed with its cause, or another
-pub record HasCause (words : List (List ℕ)) (Device : Type 0) (status : ℕ) : Type 0 where
+-- the words ask for a run exactly where the one that they spell has these numbers
+pub run_exact : (words : List (List ℕ)) (found : Command) (guests workers : ℕ) (copying : Bool) (limit : ℕ) (result : Bool) → found ≡ Run guests workers copying limit → ((command : Command) → (Some found ≡ Some command) ↔ Spells words command)
+    → (IsTrue result ↔ (guests ≡ 1) × (workers ≡ 0) × (copying ≡ false) × (limit ≡ 0)) → IsTrue result ↔ AsksRun words
+run_exact words found guests workers copying limit result is exact alone = (
+  (λ yes. (let n = alone.0 yes in (exact (Run 1 0 false 0)).0 (same found n.0 n.1 n.2 n.3 is))),
+  (λ run. (let e = (exact (Run 1 0 false 0)).1 run in alone.1 (numbers found e is))),
+) where
+  same : (x : Command) {g w : ℕ} {c : Bool} {l : ℕ} → g ≡ 1 → w ≡ 0 → c ≡ false → l ≡ 0 → x ≡ Run g w c l → Some x ≡ Some (Run 1 0 false 0)
+  same x a b d e f = cc
+
+  numbers : (x : Command) {g w : ℕ} {c : Bool} {l : ℕ} → Some x ≡ Some (Run 1 0 false 0) → x ≡ Run g w c l → (g ≡ 1) × (w ≡ 0) × (c ≡ false) × (l ≡ 0)
+  numbers x e f = (cc, cc, cc, cc)
+
+-- other words ask for none
+pub no_run : (words : List (List ℕ)) (found : Option Command) → ((command : Command) → (found ≡ Some command) ↔ Spells words command) → (found ≡ Some (Run 1 0 false 0) → ⊥) → IsTrue false ↔ AsksRun words
+no_run words found exact other = ((λ no. absurd cc), (λ run. absurd (other ((exact (Run 1 0 false 0)).1 run))))
+
+-- which status an outcome has: that of words outside the grammar, of a device or a source that failed with its cause, or another
+pub record HasCause (words : List (List ℕ)) (Device Source : Type 0) (status : ℕ) : Type 0 where
   pub outside : status ≡ 2 → IsNoCommand words
   pub inside : IsNoCommand words → status ≡ 2
   pub device : status ≡ 5 → Device
-  pub no_sink : status ≡ 6 → ⊥
+  pub source : status ≡ 6 → Source
 
 -- the words are a command, and the status is none of 2 and 6
-known : {words : List (List ℕ)} {Device : Type 0} {status : ℕ} → (IsNoCommand words → ⊥) → (status ≡ 2 → ⊥) → (status ≡ 6 → ⊥) → (status ≡ 5 → Device) → HasCause words Device status
+known : {words : List (List ℕ)} {Device Source : Type 0} {status : ℕ} → (IsNoCommand words → ⊥) → (status ≡ 2 → ⊥) → (status ≡ 6 → ⊥) → (status ≡ 5 → Device) → HasCause words Device Source status
 known command not_two not_six device = record {
   outside = λ two. absurd (not_two two);
   inside = λ none. absurd (command none);
   device = device;
-  no_sink = not_six;
+  source = λ six. absurd (not_six six);
 }
 
 is_show : {words : List (List ℕ)} (first count : ℕ) → Spells words (Show first count) → IsNoCommand words → ⊥
@@ -106,48 +130,85 @@ is_make asks none = none.1 asks.size asks.block asks.chunk asks.storage asks.slo
 differs : (status n m : ℕ) → status ≡ n → (n ≡ m → ⊥) → status ≡ m → ⊥
 differs status n m is other now = other (sym is ∙ now)
 
-judged_cause : {words : List (List ℕ)} {Device : Type 0} (first count : ℕ) (outcome : Outcome) → Spells words (Show first count) → IsJudged first count outcome → HasCause words Device (status_of outcome)
-judged_cause first count (Shown from sectors) spells judged = known (is_show first count spells) (λ e. cc) (λ e. cc) (λ e. absurd cc)
-judged_cause first count (Says line) spells (inl three) = known (is_show first count spells) (differs _ 3 2 three (λ e. cc)) (differs _ 3 6 three (λ e. cc)) (λ e. absurd (differs _ 3 5 three (λ d. cc) e))
-judged_cause first count (Says line) spells (inr (inl four)) = known (is_show first count spells) (differs _ 4 2 four (λ e. cc)) (differs _ 4 6 four (λ e. cc)) (λ e. absurd (differs _ 4 5 four (λ d. cc) e))
-judged_cause first count (Says line) spells (inr (inr eight)) = known (is_show first count spells) (differs _ 8 2 eight (λ e. cc)) (differs _ 8 6 eight (λ e. cc)) (λ e. absurd (differs _ 8 5 eight (λ d. cc) e))
+judged_cause : {words : List (List ℕ)} {Device Source : Type 0} (first count : ℕ) (e : Refusal) → Spells words (Show first count) → IsJudged e → HasCause words Device Source (status_of_line (show_line e))
+judged_cause first count refusal spells (inl three) = known (is_show first count spells) (differs _ 3 2 three (λ e. cc)) (differs _ 3 6 three (λ e. cc)) (λ e. absurd (differs _ 3 5 three (λ d. cc) e))
+judged_cause first count refusal spells (inr eight) = known (is_show first count spells) (differs _ 8 2 eight (λ e. cc)) (differs _ 8 6 eight (λ e. cc)) (λ e. absurd (differs _ 8 5 eight (λ d. cc) e))
 
-making_cause : {words : List (List ℕ)} {Base_cause : Type 0} {sectors base_sectors : ℕ} {last sf sf' : ℕ} (h : Header) (outcome : Outcome) → AsksFor words base_sectors h
-    → MakingEnds h sectors (λ ticket. IsFault ticket last sf sf') outcome → HasCause words (Rose sf sf' ⊎ Base_cause) (status_of outcome)
+making_cause : {words : List (List ℕ)} {Base_cause Source : Type 0} {sectors base_sectors : ℕ} {last sf sf' : ℕ} (h : Header) (outcome : Outcome) → AsksFor words base_sectors h
+    → MakingEnds h sectors (λ ticket. IsFault ticket last sf sf') outcome → HasCause words (Rose sf sf' ⊎ Base_cause) Source (status_of outcome)
 making_cause h outcome asks (Too_few small) = known (is_make asks) (λ e. cc) (λ e. cc) (λ e. absurd cc)
 making_cause h outcome asks (Lacks_memory room) = known (is_make asks) (λ e. cc) (λ e. cc) (λ e. absurd cc)
 making_cause h outcome asks (Write_failed ticket room fault) = known (is_make asks) (λ e. cc) (λ e. cc) (λ e. inl fault.rose)
 making_cause h outcome asks (Is_made room) = known (is_make asks) (λ e. cc) (λ e. cc) (λ e. absurd cc)
 
 -- each outcome has its cause
-pub outcome_cause : {words : List (List ℕ)} {told : Type 0} {sectors base_sectors : ℕ} {held base : List Sector} {store base_last sf sf' bf bf' : ℕ} (outcome : Outcome)
-    → Answers words told sectors base_sectors held base (λ ticket. IsFault ticket store sf sf') (λ ticket. IsFault ticket base_last bf bf') outcome → HasCause words (Rose sf sf' ⊎ Rose bf bf') (status_of outcome)
-outcome_cause outcome (Outside none) = record { outside = λ two. none; inside = λ no_command. refl; device = λ five. absurd cc; no_sink = λ six. cc }
+pub outcome_cause : {words : List (List ℕ)} {told Source : Type 0} {sectors base_sectors : ℕ} {held base : List Sector} {store base_last sf sf' bf bf' : ℕ} (outcome : Outcome)
+    → Answers words told sectors base_sectors held base (λ ticket. IsFault ticket store sf sf') (λ ticket. IsFault ticket base_last bf bf') outcome → HasCause words (Rose sf sf' ⊎ Rose bf bf') Source (status_of outcome)
+outcome_cause outcome (Outside none) = record { outside = λ two. none; inside = λ no_command. refl; device = λ five. absurd cc; source = λ six. absurd cc }
 outcome_cause outcome (Shows first count o spells Without_memory) = known (is_show first count spells) (λ e. cc) (λ e. cc) (λ e. absurd cc)
 outcome_cause outcome (Shows first count o spells (Store_failed ticket fault)) = known (is_show first count spells) (λ e. cc) (λ e. cc) (λ e. inl fault.rose)
 outcome_cause outcome (Shows first count o spells (Base_failed ticket fault)) = known (is_show first count spells) (λ e. cc) (λ e. cc) (λ e. inr fault.rose)
-outcome_cause outcome (Shows first count o spells (Found found judged right)) = judged_cause first count found spells judged
+outcome_cause outcome (Shows first count o spells (Image_refused refusal judged right)) = judged_cause first count refusal spells judged
+outcome_cause outcome (Shows first count o spells (Past_the_disk past)) = known (is_show first count spells) (λ e. cc) (λ e. cc) (λ e. absurd cc)
+outcome_cause outcome (Shows first count o spells (Is_shown sectors size right)) = known (is_show first count spells) (λ e. cc) (λ e. cc) (λ e. absurd cc)
 outcome_cause outcome (Makes h o asks ends) = making_cause h o asks ends
 
-cause_unwritten : {words : List (List ℕ)} {Device : Type 0} (status : ℕ) → HasCause words Device status → (unwritten status ≡ 2 → IsNoCommand words) × (IsNoCommand words → unwritten status ≡ 2) × (unwritten status ≡ 5 → Device)
-cause_unwritten zero cause = ((λ e. absurd cc), (λ none. absurd (let e = cause.inside none in cc)), (λ e. absurd cc))
-cause_unwritten (suc n) cause = (cause.outside, cause.inside, cause.device)
+-- The words are a run's, and the status isn't 2.
+of_run : {words : List (List ℕ)} {Device Source : Type 0} {status : ℕ} → AsksRun words → (status ≡ 2 → ⊥) → (status ≡ 5 → Device) → (status ≡ 6 → Source) → HasCause words Device Source status
+of_run run not_two device source = record {
+  outside = λ two. absurd (not_two two);
+  inside = λ none. absurd (none.2 run);
+  device = device;
+  source = source;
+}
 
--- The causes of statuses: 2 is for words that are no command, 5 for a device that failed, 6 for a sink that did.
-pub record IsCaused (words : List (List ℕ)) (Device Sink_failed : Type 0) (status : ℕ) : Type 0 where
+read_cause : {words : List (List ℕ)} {told : Type 0} {bytes : List ℕ} {Device Source : Type 0} {line : Line} → AsksRun words → IsReadLine told bytes Source line → HasCause words Device Source (status_of_line line)
+read_cause run (Source_failed failed) = of_run run (λ e. cc) (λ e. absurd cc) (λ e. failed)
+read_cause run Read_without_memory = of_run run (λ e. cc) (λ e. absurd cc) (λ e. absurd cc)
+read_cause run (Is_bad number bad) = of_run run (λ e. cc) (λ e. absurd cc) (λ e. absurd cc)
+read_cause run (Is_too_much number much) = of_run run (λ e. cc) (λ e. absurd cc) (λ e. absurd cc)
+read_cause run (Is_unserved number line) = of_run run (λ e. cc) (λ e. absurd cc) (λ e. absurd cc)
+
+open_cause : {words : List (List ℕ)} {trace : Script} {told : Type 0} {held : List Sector} {last sf sf' : ℕ} {Base_cause Source : Type 0} {line : Line} → AsksRun words → IsOpenLine trace told held (λ ticket. IsFault ticket last sf sf') line
+    → HasCause words (Rose sf sf' ⊎ Base_cause) Source (status_of_line line)
+open_cause run (Open_failed ticket fault) = of_run run (λ e. cc) (λ e. inl fault.rose) (λ e. absurd cc)
+open_cause run (Is_refused e (inl three) right) = of_run run (differs _ 3 2 three (λ d. cc)) (λ f. absurd (differs _ 3 5 three (λ d. cc) f)) (λ f. absurd (differs _ 3 6 three (λ d. cc) f))
+open_cause run (Is_refused e (inr eight) right) = of_run run (differs _ 8 2 eight (λ d. cc)) (λ f. absurd (differs _ 8 5 eight (λ d. cc) f)) (λ f. absurd (differs _ 8 6 eight (λ d. cc) f))
+open_cause run (Is_past h number right past) = of_run run (λ e. cc) (λ e. absurd cc) (λ e. absurd cc)
+
+report_cause : {words : List (List ℕ)} {Device Source : Type 0} (ok : Bool) → AsksRun words → HasCause words Device Source (if ok then 0 else 1)
+report_cause true run = of_run run (λ e. cc) (λ e. absurd cc) (λ e. absurd cc)
+report_cause false run = of_run run (λ e. cc) (λ e. absurd cc) (λ e. absurd cc)
+
+-- each outcome of a run has its cause
+pub run_cause : {words : List (List ℕ)} {source_told : Type 0} {bytes : List ℕ} {Source told base_told : Type 0} {held base : List Sector} {base_sectors last sf sf' : ℕ} {log : List Entry} {faults faults' base_faults base_faults' : ℕ} {history : Option Numbered}
+    {Base_cause : Type 0} (outcome : Outcome) → AsksRun words → RunEnds source_told bytes Source told base_told held base base_sectors (λ ticket. IsFault ticket last sf sf') log faults faults' base_faults base_faults' history outcome
+    → HasCause words (Rose sf sf' ⊎ Base_cause) Source (status_of outcome)
+run_cause outcome run (Is_unread line unread) = read_cause run unread
+run_cause outcome run (Is_unopened trace line read unopened) = open_cause run unopened
+run_cause outcome run Ran_without_memory = of_run run (λ e. cc) (λ e. absurd cc) (λ e. absurd cc)
+run_cause outcome run (Has_run trace h history read opens is) = report_cause (are_ok history.log.entries) run
+
+cause_unwritten : {words : List (List ℕ)} {Device Source : Type 0} (status : ℕ) → HasCause words Device Source status → (unwritten status ≡ 2 → IsNoCommand words) × (IsNoCommand words → unwritten status ≡ 2) × (unwritten status ≡ 5 → Device)
+cause_unwritten zero cause = ((λ e. absurd cc), (λ none. absurd (let e = cause.inside none in cc)), (λ e. absurd cc))
+cause_unwritten (suc zero) cause = ((λ e. absurd cc), (λ none. absurd (let e = cause.inside none in cc)), (λ e. absurd cc))
+cause_unwritten (suc (suc n)) cause = (cause.outside, cause.inside, cause.device)
+
+-- The causes of statuses: 2 is for words that are no command, 5 for a device that failed, 6 for a source or a sink that did.
+pub record IsCaused (words : List (List ℕ)) (Device Source Sink_failed : Type 0) (status : ℕ) : Type 0 where
   pub outside : (status ≡ 2) ↔ IsNoCommand words
   pub device : status ≡ 5 → Device
-  pub sink : status ≡ 6 → Sink_failed
+  pub streams : status ≡ 6 → Source ⊎ Sink_failed
 
-pub ends_caused : (faults : ℕ) (written : List ℕ) {words : List (List ℕ)} {Device : Type 0} {status faults' : ℕ} {tells : Type 0} {written' : List ℕ} (outcome : Outcome) → HasCause words Device (status_of outcome)
-    → Ends outcome status faults faults' tells written written' → IsCaused words Device (Rose faults faults') status
+pub ends_caused : (faults : ℕ) (written : List ℕ) {words : List (List ℕ)} {Device Source : Type 0} {status faults' : ℕ} {tells : Type 0} {written' : List ℕ} (outcome : Outcome) → HasCause words Device Source (status_of outcome)
+    → Ends outcome status faults faults' tells written written' → IsCaused words Device Source (Rose faults faults') status
 ends_caused faults written outcome cause (inl whole) = record {
   outside = ((λ two. cause.outside (sym whole.0 ∙ two)), (λ none. whole.0 ∙ cause.inside none));
   device = λ five. cause.device (sym whole.0 ∙ five);
-  sink = λ six. absurd (cause.no_sink (sym whole.0 ∙ six));
+  streams = λ six. inl (cause.source (sym whole.0 ∙ six));
 }
 ends_caused faults written outcome cause (inr cut) = let u = cause_unwritten (status_of outcome) cause in record {
   outside = ((λ two. u.0 (sym cut.0 ∙ two)), (λ none. cut.0 ∙ u.1 none));
   device = λ five. u.2 (sym cut.0 ∙ five);
-  sink = λ six. cut.1;
+  streams = λ six. inr cut.1;
 }

@@ -10,3 +10,5 @@ pub mod StoryLaws
 pub mod NewImages
 pub mod CrashLaws
 pub mod CommandLaws
+pub mod RunningLaws
+pub mod ServedLaws

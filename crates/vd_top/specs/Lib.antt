@@ -5,6 +5,7 @@ pub mod Statuses
 pub mod Outcomes
 pub mod Showing
 pub mod Making
+pub mod Running
 pub mod Commands
 pub mod Tasks
 pub mod Ending

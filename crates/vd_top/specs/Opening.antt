@@ -9,17 +9,18 @@ use Rattle.vd_top.specs.declared.opening.OpenError as error
 use Rattle.vd_top.specs.declared.opening.OpenError.TheVariants as errors
 use Rattle.vd_top.specs.Fresh.{is_fresh}
 
--- by the header, or by what is wrong with it: the store is large enough, and the image is as it was made
-unfoldable pub opened_by : Result Header HeaderError → List Sector → Result Header error.OpenError
-opened_by (Err e) held = Err (errors.Header e)
-opened_by (Ok h) held =
+-- by the header, or by what is wrong with it: the store is large enough, the version is none before the oldest that is taken, and
+-- the image is as it was made
+unfoldable pub opened_by : (oldest : ℕ) → Result Header HeaderError → List Sector → Result Header error.OpenError
+opened_by oldest (Err e) held = Err (errors.Header e)
+opened_by oldest (Ok h) held =
     if nat_lt (length held) (need_of h) then Err (errors.TooSmall (need_of h) (length held))
-    else (if is_fresh h held then Ok h else Err errors.NotBuilt)
+    else (if nat_lt h.version oldest then Err errors.OldVersion else (if is_fresh h held then Ok h else Err errors.NotBuilt))
 
 -- the header of the image that these sectors are, or the first reason why it is refused
-unfoldable pub opened : (held : List Sector) → Result Header error.OpenError
-opened [] = Err (errors.TooSmall 1 0)
-opened (sector ∷ rest) = opened_by (header_of sector) (sector ∷ rest)
+unfoldable pub opened : (oldest : ℕ) (held : List Sector) → Result Header error.OpenError
+opened oldest [] = Err (errors.TooSmall 1 0)
+opened oldest (sector ∷ rest) = opened_by oldest (header_of sector) (sector ∷ rest)
 
 -- where the answer is a store fault, P holds of its ticket
 abbrev pub ForStoreFault : Result Header error.OpenError → (ℕ → Type 0) → Type 0
@@ -27,6 +28,7 @@ ForStoreFault (Ok h) P = Unit {0}
 ForStoreFault (Err (errors.Store ticket)) P = P ticket
 ForStoreFault (Err (errors.Header e)) P = Unit {0}
 ForStoreFault (Err (errors.TooSmall need have)) P = Unit {0}
+ForStoreFault (Err errors.OldVersion) P = Unit {0}
 ForStoreFault (Err errors.NotBuilt) P = Unit {0}
 
 -- unless the answer is a store fault, it is this one

@@ -1,17 +1,28 @@
 -- What `show` answers: sectors, or one line that says why not.
-use Rattle.std.specs.Prelude.{ℕ, ◌≡◌, ◌+◌, ◌⊎◌, if◌then◌else◌, List, length, ⊤, Result, Ok, Err, nat_lt}
+use Rattle.std.specs.Prelude.{ℕ, ◌≡◌, ◌+◌, ◌<◌, ◌≤◌, ◌⊎◌, true, List, length, Some, ⊤, Result, Ok, Err, slice_get}
 use Rattle.vd_law.specs.declared.entry.Sector.{Sector}
 use Rattle.vd_format.specs.declared.header.Header.{Header}
 use Rattle.vd_format.specs.declared.header.HeaderError.{HeaderError}
 use Rattle.vd_format.specs.declared.header.HeaderError.TheVariants as header_errors
-use Rattle.vd_reading.specs.Background.{background_run}
+use Rattle.vd_format.specs.Headers.{header_of}
+use Rattle.vd_format.specs.Layouts.{need_of}
+use Rattle.vd_image.specs.Image.{DiskHas, background}
+use Rattle.vd_image.specs.Layouts.{layout_of}
+use Rattle.vd_image.specs.Decoders.{this_version, format_of}
+use Rattle.vd_image.specs.Openings.{Opens}
+use Rattle.vd_image.specs.CrashImages.{base_at}
+use Rattle.vd_image.specs.Made.{zero_sector}
+use Rattle.vd_replay.specs.Images.{image_of}
+use Rattle.vd_replay.specs.Fresh.{is_fresh}
+use Rattle.vd_replay.specs.Refusals.{Refused}
+use Rattle.vd_replay.specs.declared.error.OpenError as refusal
+use Rattle.vd_replay.specs.declared.error.OpenError.TheVariants as refusals
 use Rattle.vd_command.specs.declared.command.Command.TheVariants.{Show}
 use Rattle.vd_command.specs.Words.{Spells}
 use Rattle.vd_report.specs.declared.line.Line.{Line}
 use Rattle.vd_report.specs.declared.line.Line.TheVariants as lines
 use Rattle.vd_top.specs.declared.opening.OpenError as error
 use Rattle.vd_top.specs.declared.opening.OpenError.TheVariants as errors
-use Rattle.vd_top.specs.Opening.{opened}
 use Rattle.vd_top.specs.Statuses.{status_of_line}
 use Rattle.vd_top.specs.Outcomes.{Outcome, Says, Shown}
 
@@ -20,27 +31,60 @@ header_line header_errors.NotImage = lines.NotImage
 header_line (header_errors.Version version) = lines.Version version
 header_line (header_errors.Field field) = lines.BadField field
 
--- the line that names why an image was not opened
+-- the line that names why a fresh image was not opened
 abbrev pub open_line : error.OpenError → Line
 open_line (errors.Store ticket) = lines.StoreFault ticket
 open_line (errors.Header e) = header_line e
 open_line (errors.TooSmall need have) = lines.TooSmall need have
+open_line errors.OldVersion = lines.OldVersion
 open_line errors.NotBuilt = lines.NotBuilt
 
-abbrev pub shown_by : Result Header error.OpenError → (base : List Sector) (first count : ℕ) → Outcome
-shown_by (Err e) base first count = Says (open_line e)
-shown_by (Ok h) base first count =
-    if nat_lt h.size (first + count) then Says lines.PastTheDisk else Shown first (background_run base h.tracked first count)
+-- the line that names why an image was not opened
+abbrev pub show_line : refusal.OpenError → Line
+show_line (refusals.Store ticket) = lines.StoreFault ticket
+show_line (refusals.Header e) = header_line e
+show_line (refusals.TooSmall need have) = lines.TooSmall need have
+show_line refusals.OldVersion = lines.OldVersion
+show_line (refusals.BadEntry chunk value) = lines.BadEntry chunk value
+show_line (refusals.BadRecord slot) = lines.BadRecord slot
+show_line (refusals.DoubleChunk a b) = lines.DoubleChunk a b
+show_line (refusals.Changed field) = lines.Changed field
+show_line refusals.NotBuilt = lines.NotBuilt
+show_line refusals.NoMemory = lines.NoMemory
 
--- The answer where no device fails, of a store that holds these sectors over this base: why the image is not opened, that
--- the range lies past its disk, or its sectors, which are the base in the tracked part and zeros from there on.
-unfoldable pub show_answer : (held base : List Sector) (first count : ℕ) → Outcome
-show_answer held base first count = shown_by (opened held) base first count
+-- an image of version 1 with this header that is as it was made, in a store that has room for it
+pub record IsOldImage (held : List Sector) (h : Header) : Type 0 where
+  pub reads : header_of (image_of held 0) ≡ Ok h
+  pub version : h.version ≡ 1
+  pub room : need_of h ≤ length held
+  pub fresh : is_fresh h held ≡ true
 
--- the answer is one that the image decides: so many sectors from `first` on, or a line of status 3, 4 or 8
-abbrev pub IsJudged : (first count : ℕ) → Outcome → Type 0
-IsJudged first count (Shown from sectors) = (from ≡ first) × (length sectors ≡ count)
-IsJudged first count (Says line) = (status_of_line line ≡ 3) ⊎ (status_of_line line ≡ 4) ⊎ (status_of_line line ≡ 8)
+-- the image opens by this header: one of version 2 by its map and its records, one of version 1 as it was made
+abbrev pub OpensAs : (held : List Sector) → Header → Type 0
+OpensAs held h = Opens (length held) (image_of held) h ⊎ IsOldImage held h
+
+-- These are sectors of its disk from `first` on, over this base: of a local block what its storage holds, else the base in
+-- the tracked part and zeros from there on. In version 1 no block is local.
+pub record ShowsDisk (held base : List Sector) (h : Header) (first : ℕ) (sectors : List Sector) : Type 0 where
+  pub current : h.version ≡ this_version → (i : ℕ) (v : Sector) → slice_get sectors i ≡ Some v → DiskHas (format_of h) (layout_of h) (base_at zero_sector base) zero_sector (image_of held) (first + i) v
+  pub old : h.version ≡ 1 → (i : ℕ) (v : Sector) → slice_get sectors i ≡ Some v → v ≡ background (base_at zero_sector base) zero_sector h.tracked (first + i)
+
+-- the image opens, and the range lies past its disk
+pub record IsPastDisk (held : List Sector) (first count : ℕ) : Type 0 where
+  pub header : Header
+  pub opens : OpensAs held header
+  pub past : header.size < first + count
+
+-- the image opens, the range lies in its disk, and these are its sectors
+pub record IsInDisk (held base : List Sector) (first count : ℕ) (sectors : List Sector) : Type 0 where
+  pub header : Header
+  pub opens : OpensAs held header
+  pub within : first + count ≤ header.size
+  pub disk : ShowsDisk held base header first sectors
+
+-- the image itself is what is refused
+abbrev pub IsJudged : refusal.OpenError → Type 0
+IsJudged e = (status_of_line (show_line e) ≡ 3) ⊎ (status_of_line (show_line e) ≡ 8)
 
 -- what was found is printed: the sectors, or the line
 abbrev pub outcome_of : Result ⊤ Line → (first : ℕ) → List Sector → Outcome
@@ -48,12 +92,14 @@ outcome_of (Ok found) first sectors = Shown first sectors
 outcome_of (Err line) first sectors = Says line
 
 -- What is found: there is no memory, which is free, or a device failed, or the image decides, by what the devices hold
--- where they tell it.
+-- where they tell it: it is refused, with status 3 or 8, or the range lies past its disk, or its sectors are shown.
 pub data Finds (told : Type 0) (held base : List Sector) (first count : ℕ) (StoreFailed BaseFailed : ℕ → Type 0) : Outcome → Type 0 where
   Without_memory : Finds told held base first count StoreFailed BaseFailed (Says lines.NoMemory)
   Store_failed : (ticket : ℕ) → StoreFailed ticket → Finds told held base first count StoreFailed BaseFailed (Says (lines.StoreFault ticket))
   Base_failed : (ticket : ℕ) → BaseFailed ticket → Finds told held base first count StoreFailed BaseFailed (Says (lines.BaseFault ticket))
-  Found : (outcome : Outcome) → IsJudged first count outcome → (told → outcome ≡ show_answer held base first count) → Finds told held base first count StoreFailed BaseFailed outcome
+  Image_refused : (e : refusal.OpenError) → IsJudged e → (told → Refused 1 held e) → Finds told held base first count StoreFailed BaseFailed (Says (show_line e))
+  Past_the_disk : (told → IsPastDisk held first count) → Finds told held base first count StoreFailed BaseFailed (Says lines.PastTheDisk)
+  Is_shown : (sectors : List Sector) → length sectors ≡ count → (told → IsInDisk held base first count sectors) → Finds told held base first count StoreFailed BaseFailed (Shown first sectors)
 
 -- the words are no `show`
 abbrev pub IsNoShow : List (List ℕ) → Type 0

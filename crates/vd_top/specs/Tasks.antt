@@ -7,7 +7,7 @@ use Rattle.vd_command.specs.Words.{Spells}
 use Rattle.vd_top.specs.declared.commands.Task as task
 use Rattle.vd_top.specs.declared.commands.Task.TheVariants.{Show, Make, Nothing}
 use Rattle.vd_top.specs.Making.{AsksFor, IsNoMake}
-use Rattle.vd_top.specs.Commands.{IsNoCommand}
+use Rattle.vd_top.specs.Showing.{IsNoShow}
 
 -- over a base of so many sectors the words ask for an image with this valid header, and for no other
 pub record IsMaking (words : List (List ℕ)) (base_sectors : ℕ) (h : Header) : Type 0 where
@@ -20,4 +20,4 @@ pub record IsMaking (words : List (List ℕ)) (base_sectors : ℕ) (h : Header) 
 abbrev pub IsTask : (words : List (List ℕ)) (base_sectors : ℕ) → task.Task → Type 0
 IsTask words base_sectors (Show first count) = Spells words (commands.Show first count) × (count ≤ 2048) × IsNoMake words
 IsTask words base_sectors (Make h) = IsMaking words base_sectors h
-IsTask words base_sectors Nothing = IsNoCommand words
+IsTask words base_sectors Nothing = IsNoShow words × IsNoMake words

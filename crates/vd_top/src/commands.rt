@@ -1,6 +1,6 @@
 //! The commands that need no threads.
 
-ghost use Rattle.std.specs.Prelude.{◌≡◌, ℕ, ◌<◌, ◌≤◌, ◌↔◌, ◌⊎◌, [], map, string_bytes, IfSome, IfNone, None, OnSome};
+ghost use Rattle.std.specs.Prelude.{◌≡◌, ℕ, ◌<◌, ◌≤◌, ◌↔◌, ◌⊎◌, [], map, string_bytes, IfSome, IfNone, IsTrue, false, None, OnSome};
 ghost use Rattle.vd_format.specs.declared.header.Header.{Header as AnyHeader};
 ghost use Rattle.vd_format.specs.Layouts.{need_of};
 ghost use Rattle.vd_io.specs.Streams.{Rose};
@@ -8,6 +8,7 @@ ghost use Rattle.vd_reading.specs.Quiet.{OnlyReads, OnlyReadsBase, IsFault};
 ghost use Rattle.vd_top.specs.Outcomes.{Outcome};
 ghost use Rattle.vd_top.specs.Making.{AsksFor, IsNoMake, IsWhole};
 ghost use Rattle.vd_top.specs.Commands.{Answers, IsNoCommand};
+ghost use Rattle.vd_top.specs.Running.{AsksRun, IsNoRun, RunEnds};
 ghost use Rattle.vd_top.specs.Ending.{Ends};
 ghost use Rattle.vd_top.specs.Leaving.{Leaves};
 ghost use Rattle.vd_top.specs.Images.{MakesSafely, HasNewImage};
@@ -16,6 +17,7 @@ ghost use Rattle.vd_top.specs.Tasks.{IsTask};
 use crate::ending::End;
 use crate::making::make;
 use crate::printing::say;
+use crate::running::run;
 use crate::showing::show;
 use std::alloc::Global;
 use vd_command::Command;
@@ -63,6 +65,31 @@ fn task_of(words: &[String], base_sectors: u64) -> Task
     }
 }
 
+/// Whether a run is of one guest, without copies and workers.
+fn is_alone(guests: u32, workers: u32, copying: bool, limit: u32) -> bool
+    ensures { IsTrue result ↔ (guests ≡ 1) × (workers ≡ 0) × (copying ≡ false) × (limit ≡ 0) }
+{
+    guests == 1 && workers == 0 && !copying && limit == 0
+}
+
+/// Whether the words ask for such a run.
+fn is_run(words: &[String]) -> bool
+    ensures { IsTrue result ↔ AsksRun (map string_bytes words.now) }
+{
+    match Command::parse(words) {
+        Some(command) => match command {
+            Command::Run {
+                guests,
+                workers,
+                copying,
+                limit,
+            } => is_alone(guests, workers, copying, limit),
+            _ => false,
+        },
+        None => false,
+    }
+}
+
 /// The sectors of the store that the words make: the number that the image needs, where they are a `make`.
 pub fn store_sectors(words: &[String]) -> Option<u64>
     ensures some { IfSome result (λ sectors. (h : AnyHeader) → AsksFor (map string_bytes words.now) 0 h → sectors ≡ need_of h) }
@@ -86,6 +113,7 @@ fn obey<S: Store, B: Base, O: Sink>(
 ) -> u8
     requires store_idle { S.flies store.old [] }
     requires base_idle { B.flies base.old [] }
+    requires no_run { IsNoRun (map string_bytes words.now) }
     ensures answer { (outcome : Outcome)
         × Answers (map string_bytes words.now) (S.tells store.new × B.tells base.new) (S.sectors store.old) (B.sectors base.old) (S.disk store.old).held (B.content base.old)
         (λ ticket. IsFault ticket (S.last store.new) (S.faults store.old) (S.faults store.new)) (λ ticket. IsFault ticket (B.last base.new) (B.faults base.old) (B.faults base.new)) outcome
@@ -106,12 +134,16 @@ fn obey<S: Store, B: Base, O: Sink>(
 }
 
 /// Does the command that the words spell, over a store and a base with nothing in flight, and prints its text into `out`.
-/// So far these are `show` and `make`; all other words are answered `bad words`. It always returns.
+/// So far these are `show`, `make` and `run` of one guest without copies and workers, which reads its trace from `trace`; all
+/// other words are answered `bad words`. It always returns.
 ///
-/// Statuses: 0 the sectors were printed, or the image was made; 2 the words are outside the grammar; 3 the image is refused
-/// by its bytes or its size; 4 the range lies past the disk; 5 a device failed; 6 the sink failed where the status would be
-/// 0; 7 there was no memory; 8 the image holds what this stage of the program does not read. Of `show` the first of 2, 7, 5
-/// or 3 or 8, 4, 5 of the base that holds is answered, of `make` the first of 2, 3, 7, 5. docs/FORMAT.md has the texts.
+/// Statuses: 0 the sectors were printed, the image was made, or each reply of the run is Ok; 1 a reply of the run isn't; 2 the
+/// words are outside the grammar; 3 the image is refused by its bytes or its size; 4 a line of the trace is refused, or a range
+/// lies past the disk; 5 a device failed; 6 the source failed, or the sink where the status would be 0 or 1; 7 there was no
+/// memory; 8 the image holds what this stage of the program does not read: for a run, and for `show` of version 1, more than it
+/// was made with. Of `show` the first of 2, 7, 5 or 3 or 8, 4, 5 that holds is answered, and 7 may come once the header is
+/// read; of `make` the first of 2, 3, 7, 5; of `run` the first of 2, 6 or 4 of the trace, 7, 5 or 3 or 8, 4 of a range, 7, 6, 1.
+/// docs/FORMAT.md has the texts.
 pub fn still<S: Store, B: Base, I: Source, O: Sink>(
     alloc: Global,
     words: &[String],
@@ -124,29 +156,38 @@ pub fn still<S: Store, B: Base, I: Source, O: Sink>(
     requires base_idle { B.flies base [] }
 
     // What was answered, how it was printed, and the status.
-    ensures answer { (outcome : Outcome)
+    ensures answer { IsNoRun (map string_bytes words.now) → (outcome : Outcome)
         × Answers (map string_bytes words.now) (S.tells result.store × B.tells result.base) (S.sectors store) (B.sectors base) (S.disk store).held (B.content base)
         (λ ticket. IsFault ticket (S.last result.store) (S.faults store) (S.faults result.store)) (λ ticket. IsFault ticket (B.last result.base) (B.faults base) (B.faults result.base)) outcome
+        × Ends outcome result.status (O.faults out.old) (O.faults out.new) (O.tells out.new) (O.written out.old) (O.written out.new) }
+
+    // What a run was answered: why no guest was served, or the report of a legal history, which is handed out.
+    ensures ran { AsksRun (map string_bytes words.now) → (outcome : Outcome)
+        × RunEnds (I.tells trace.new) (I.rest trace.old) (Rose (I.faults trace.old) (I.faults trace.new)) (S.tells result.store) (B.tells result.base) (S.disk store).held (B.content base) (B.sectors base)
+        (λ ticket. IsFault ticket (S.last result.store) (S.faults store) (S.faults result.store)) (S.disk result.store).log (S.faults store) (S.faults result.store) (B.faults base) (B.faults result.base) result.history outcome
         × Ends outcome result.status (O.faults out.old) (O.faults out.new) (O.tells out.new) (O.written out.old) (O.written out.new) }
 
     // The causes of statuses.
     ensures outside { (result.status ≡ 2) ↔ IsNoCommand (map string_bytes words.now) }
     ensures device { result.status ≡ 5 → Rose (S.faults store) (S.faults result.store) ⊎ Rose (B.faults base) (B.faults result.base) }
-    ensures sink { result.status ≡ 6 → Rose (O.faults out.old) (O.faults out.new) }
+    ensures streams { result.status ≡ 6 → Rose (I.faults trace.old) (I.faults trace.new) ⊎ Rose (O.faults out.old) (O.faults out.new) }
 
     // A made image is whole, and its making leaves no image or the whole one wherever it is cut off.
     ensures made { (h : AnyHeader) → AsksFor (map string_bytes words.now) (B.sectors base) h → IsWhole result.status → S.tells result.store → S.records result.store → HasNewImage h (S.disk result.store) }
     ensures safe { (h : AnyHeader) → AsksFor (map string_bytes words.now) (B.sectors base) h → S.tells result.store → S.records result.store → MakesSafely h (S.disk store) (S.disk result.store) }
 
-    // Nothing is written but where the words make an image that has room, and nothing is left in flight.
-    ensures unwritten { ((h : AnyHeader) → AsksFor (map string_bytes words.now) (B.sectors base) h → S.sectors store < need_of h) → OnlyReads (S.flies result.store []) (S.sectors store) (S.sectors result.store) (S.depth store) (S.depth result.store) (S.faults store) (S.faults result.store) (S.tells store) (S.tells result.store) (S.records store) (S.records result.store) (S.disk store) (S.disk result.store) }
+    // Nothing is written but by a run and where the words make an image that has room, and nothing is left in flight.
+    ensures unwritten { IsNoRun (map string_bytes words.now) → ((h : AnyHeader) → AsksFor (map string_bytes words.now) (B.sectors base) h → S.sectors store < need_of h) → OnlyReads (S.flies result.store []) (S.sectors store) (S.sectors result.store) (S.depth store) (S.depth result.store) (S.faults store) (S.faults result.store) (S.tells store) (S.tells result.store) (S.records store) (S.records result.store) (S.disk store) (S.disk result.store) }
     ensures store { Leaves (S.flies result.store []) (S.sectors store) (S.sectors result.store) (S.depth store) (S.depth result.store) (S.faults store) (S.faults result.store) (S.tells store) (S.tells result.store) (S.records store) (S.records result.store) }
     ensures base { OnlyReadsBase (B.flies result.base []) (B.sectors base) (B.sectors result.base) (B.faults base) (B.faults result.base) (B.tells base) (B.tells result.base) (B.content base) (B.content result.base) }
     ensures told_before { O.tells out.new → O.tells out.old }
     ensures calm { O.faults out.old ≤ O.faults out.new }
-    ensures unread { trace.new ≡ trace.old }
-    ensures history { result.history ≡ None }
+    ensures unread { IsNoRun (map string_bytes words.now) → trace.new ≡ trace.old }
+    ensures history { IsNoRun (map string_bytes words.now) → result.history ≡ None }
 {
+    if is_run(words) {
+        return run(alloc, trace, out, store, base);
+    }
     let status = obey(alloc, words, out, &mut store, &mut base);
     End {
         status,

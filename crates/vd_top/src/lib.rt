@@ -10,7 +10,12 @@ mod making;
 mod making_tests;
 mod opening;
 mod printing;
+mod running;
+#[cfg(test)]
+mod running_tests;
 mod showing;
+#[cfg(test)]
+mod showing_tests;
 mod slots;
 #[cfg(test)]
 mod tests;

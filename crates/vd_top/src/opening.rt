@@ -1,4 +1,4 @@
-//! The opening of an image that is as it was made. An image that holds more is not read yet.
+//! The opening of an image that is as it was made, for `run`, which reads none that holds more yet.
 
 ghost use Rattle.std.specs.Prelude.{◌≡◌, ◌≤◌, [], length, IfOk, IfErr, Ok};
 ghost use Rattle.vd_reading.specs.Quiet.{IsReady, OnlyReads, IsFault};
@@ -23,6 +23,8 @@ pub enum OpenError {
     Header(HeaderError),
     /// The image needs more sectors than the store has.
     TooSmall { need: u64, have: u64 },
+    /// The image's version is before the oldest that is taken.
+    OldVersion,
     /// The image holds what this stage of the program does not read.
     NotBuilt,
 }
@@ -78,6 +80,7 @@ fn open_sized<S: Store>(
     room: &mut [Sector],
     header: Header,
     have: u64,
+    oldest: u32,
 ) -> Result<Header, OpenError>
     requires ready { IsReady (S.flies store.old []) (S.depth store.old) (S.tells store.old) (S.disk store.old) }
     requires room { length room.old ≡ MOST }
@@ -86,11 +89,16 @@ fn open_sized<S: Store>(
     ensures fault { ForStoreFault result (λ number. IsFault number (S.last store.new) (S.faults store.old) (S.faults store.new)) }
     ensures quiet { OnlyReads (S.flies store.new []) (S.sectors store.old) (S.sectors store.new) (S.depth store.old) (S.depth store.new) (S.faults store.old) (S.faults store.new) (S.tells store.old) (S.tells store.new) (S.records store.old) (S.records store.new) (S.disk store.old) (S.disk store.new) }
     ensures valid { IfOk result IsValid }
-    ensures opened { S.tells store.new → length (S.disk store.new).held ≡ have → UnlessFault result (opened_by (Ok header) (S.disk store.new).held) }
+    ensures opened { S.tells store.new → length (S.disk store.new).held ≡ have → UnlessFault result (opened_by oldest (Ok header) (S.disk store.new).held) }
+    ensures large { IfOk result (λ h. need_of h ≤ S.sectors store.new) }
+    ensures room { length room.new ≡ length room.old }
 {
     let need = layout_of(&header).need;
     if have < need {
         return Err(OpenError::TooSmall { need, have });
+    }
+    if header.version < oldest {
+        return Err(OpenError::OldVersion);
     }
     match is_fresh(store, room, &header) {
         Ok(true) => Ok(header),
@@ -102,15 +110,20 @@ fn open_sized<S: Store>(
 /// The header of the image, once its store has been flushed and its header, its map and its journal have been read.
 ///
 /// Errors, the first that holds: `TooSmall` with need 1 and have 0 where the store has no sectors; `Header` where the first
-/// sector is none; `TooSmall` where the store has fewer sectors than the layout needs; `NotBuilt` where a chunk has an
-/// entry or a record counts. `Store` comes where a call fails.
-pub fn open_fresh<S: Store>(store: &mut S, room: &mut [Sector]) -> Result<Header, OpenError>
+/// sector is none; `TooSmall` where the store has fewer sectors than the layout needs; `OldVersion` where the version is
+/// before `oldest`; `NotBuilt` where a chunk has an entry or a record counts. `Store` comes where a call fails.
+pub fn open_fresh<S: Store>(
+    store: &mut S,
+    room: &mut [Sector],
+    oldest: u32,
+) -> Result<Header, OpenError>
     requires idle { S.flies store.old [] }
     requires room { length room.old ≡ MOST }
     ensures fault { ForStoreFault result (λ number. IsFault number (S.last store.new) (S.faults store.old) (S.faults store.new)) }
     ensures quiet { OnlyReads (S.flies store.new []) (S.sectors store.old) (S.sectors store.new) (S.depth store.old) (S.depth store.new) (S.faults store.old) (S.faults store.new) (S.tells store.old) (S.tells store.new) (S.records store.old) (S.records store.new) (S.disk store.old) (S.disk store.new) }
     ensures valid { IfOk result IsValid }
-    ensures opened { S.tells store.new → UnlessFault result (opened (S.disk store.new).held) }
+    ensures opened { S.tells store.new → UnlessFault result (opened oldest (S.disk store.new).held) }
+    ensures large { IfOk result (λ h. need_of h ≤ S.sectors store.new) }
 {
     let have = sectors_at_rest(store);
     if have == 0 {
@@ -123,7 +136,7 @@ pub fn open_fresh<S: Store>(store: &mut S, room: &mut [Sector]) -> Result<Header
         return Err(OpenError::Store(ticket));
     }
     match read_header(&room[0]) {
-        Ok(header) => open_sized(store, room, header, have),
+        Ok(header) => open_sized(store, room, header, have, oldest),
         Err(error) => Err(OpenError::Header(error)),
     }
 }

@@ -49,7 +49,7 @@ pub fn say<O: Sink>(out: &mut O, line: Line) -> u8
     let status = status_of(line);
     match put_line(out, line) {
         Ok(()) => status,
-        Err(_) if status == 0 => 6,
+        Err(_) if status < 2 => 6,
         Err(_) => status,
     }
 }

@@ -1,32 +1,63 @@
 //! The command `show`.
 
-ghost use Rattle.std.specs.Prelude.{◌≡◌, ℕ, ◌+◌, ◌^◌, ◌<◌, ◌≤◌, [], length, take, nat_lt};
+ghost use Rattle.std.specs.Prelude.{◌≡◌, ℕ, ◌+◌, ◌^◌, ◌<◌, ◌≤◌, [], length, nat_lt};
 ghost use Rattle.vd_reading.specs.Quiet.{OnlyReads, OnlyReadsBase, IsFault};
 ghost use Rattle.vd_top.specs.Outcomes.{Outcome};
-ghost use Rattle.vd_top.specs.Showing.{outcome_of, open_line, Finds};
+ghost use Rattle.vd_top.specs.Showing.{outcome_of, open_line, header_line, show_line, Finds};
 ghost use Rattle.vd_top.specs.Ending.{Ends};
 
 use crate::area::MOST;
-use crate::opening::{OpenError, open_fresh};
+use crate::opening::OpenError;
 use crate::printing::{print_sectors, say};
 use std::alloc::Global;
 use vd_device::{Base, Store};
 use vd_header::HeaderError;
 use vd_io::sink::Sink;
 use vd_law::entry::Sector;
-use vd_reading::read_background;
+use vd_replay::{DiskFault, OpenError as Refusal, read_disk, recover};
 use vd_report::line::Line;
 
-fn line_of(error: OpenError) -> Line
+fn header_line(error: HeaderError) -> Line
+    ensures { result ≡ header_line error }
+{
+    match error {
+        HeaderError::NotImage => Line::NotImage,
+        HeaderError::Version(version) => Line::Version { version },
+        HeaderError::Field(field) => Line::BadField { field },
+    }
+}
+
+/// The line that says why a fresh image was not opened.
+pub(crate) fn line_of(error: OpenError) -> Line
     ensures { result ≡ open_line error }
 {
     match error {
         OpenError::Store(ticket) => Line::StoreFault { ticket },
-        OpenError::Header(HeaderError::NotImage) => Line::NotImage,
-        OpenError::Header(HeaderError::Version(version)) => Line::Version { version },
-        OpenError::Header(HeaderError::Field(field)) => Line::BadField { field },
+        OpenError::Header(error) => header_line(error),
         OpenError::TooSmall { need, have } => Line::TooSmall { need, have },
+        OpenError::OldVersion => Line::OldVersion,
         OpenError::NotBuilt => Line::NotBuilt,
+    }
+}
+
+/// The line that says why an image was not opened.
+fn show_line(refusal: Refusal) -> Line
+    ensures { result ≡ show_line refusal }
+{
+    match refusal {
+        Refusal::Store(ticket) => Line::StoreFault { ticket },
+        Refusal::Header(error) => header_line(error),
+        Refusal::TooSmall { need, have } => Line::TooSmall { need, have },
+        Refusal::OldVersion => Line::OldVersion,
+        Refusal::BadEntry { chunk, value } => Line::BadEntry { chunk, value },
+        Refusal::BadRecord { slot } => Line::BadRecord { slot },
+        Refusal::DoubleChunk { a, b } => Line::DoubleChunk {
+            first: a,
+            second: b,
+        },
+        Refusal::Changed { field } => Line::Changed { field },
+        Refusal::NotBuilt => Line::NotBuilt,
+        Refusal::NoMemory => Line::NoMemory,
     }
 }
 
@@ -37,35 +68,34 @@ fn is_past(size: u64, first: u64, count: u64) -> bool
     first > size || count > size - first
 }
 
-/// Finds `count` sectors of the disk from `first` on, and puts them at the front of `room`. The error is the line that
-/// says why not, of status 3, 4, 5 or 8.
+/// Finds the sectors of the disk from `first` on, as many as `room` has. The error is the line that says why not, of
+/// status 3, 4, 5, 7 or 8.
 fn find_sectors<S: Store, B: Base>(
+    alloc: Global,
     store: &mut S,
     base: &mut B,
     first: u64,
-    count: u64,
     room: &mut [Sector],
 ) -> Result<(), Line>
     requires store_idle { S.flies store.old [] }
     requires base_idle { B.flies base.old [] }
-    requires room { length room.old ≡ MOST }
-    requires count { count ≤ MOST }
     ensures store { OnlyReads (S.flies store.new []) (S.sectors store.old) (S.sectors store.new) (S.depth store.old) (S.depth store.new) (S.faults store.old) (S.faults store.new) (S.tells store.old) (S.tells store.new) (S.records store.old) (S.records store.new) (S.disk store.old) (S.disk store.new) }
     ensures base { OnlyReadsBase (B.flies base.new []) (B.sectors base.old) (B.sectors base.new) (B.faults base.old) (B.faults base.new) (B.tells base.old) (B.tells base.new) (B.content base.old) (B.content base.new) }
-    ensures found { Finds (S.tells store.new × B.tells base.new) (S.disk store.old).held (B.content base.old) first count
+    ensures found { Finds (S.tells store.new × B.tells base.new) (S.disk store.old).held (B.content base.old) first (length room.old)
         (λ ticket. IsFault ticket (S.last store.new) (S.faults store.old) (S.faults store.new)) (λ ticket. IsFault ticket (B.last base.new) (B.faults base.old) (B.faults base.new))
-        (outcome_of result first (take count room.new)) }
+        (outcome_of result first room.new) }
 {
-    let header = match open_fresh(store, room) {
-        Ok(header) => header,
-        Err(error) => return Err(line_of(error)),
+    let state = match recover(alloc, store, 1) {
+        Ok(state) => state,
+        Err(refusal) => return Err(show_line(refusal)),
     };
-    if is_past(header.size, first, count) {
+    if is_past(state.header.size, first, room.len() as u64) {
         return Err(Line::PastTheDisk);
     }
-    match read_background(base, header.tracked, first, &mut room[..count as usize]) {
+    match read_disk(store, base, &state, first, room) {
         Ok(()) => Ok(()),
-        Err(ticket) => Err(Line::BaseFault { ticket }),
+        Err(DiskFault::Store(ticket)) => Err(Line::StoreFault { ticket }),
+        Err(DiskFault::Base(ticket)) => Err(Line::BaseFault { ticket }),
     }
 }
 
@@ -90,11 +120,11 @@ pub fn show<S: Store, B: Base, O: Sink>(
         (λ ticket. IsFault ticket (S.last store.new) (S.faults store.old) (S.faults store.new)) (λ ticket. IsFault ticket (B.last base.new) (B.faults base.old) (B.faults base.new)) outcome
         × Ends outcome result (O.faults out.old) (O.faults out.new) (O.tells out.new) (O.written out.old) (O.written out.new) }
 {
-    let Ok(mut room) = vec![in alloc; Sector::filled(0); MOST as usize] else {
+    let Ok(mut room) = vec![in alloc; Sector::filled(0); count as usize] else {
         return say(out, Line::NoMemory);
     };
-    match find_sectors(store, base, first, count, room.as_mut_slice()) {
-        Ok(()) => print_sectors(out, first, &room.as_slice()[..count as usize]),
+    match find_sectors(alloc, store, base, first, room.as_mut_slice()) {
+        Ok(()) => print_sectors(out, first, room.as_slice()),
         Err(line) => say(out, line),
     }
 }

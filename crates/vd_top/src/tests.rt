@@ -7,7 +7,7 @@ use vd_device::{Base, Store};
 use vd_io::mem_sink::MemSink;
 use vd_io::mem_source::MemSource;
 use vd_law::entry::{Room, Sector};
-use vd_mem::{Keep, MemBase, MemStore, Rule};
+use vd_mem::{MemBase, MemStore, Rule};
 
 /// The header of a disk of 128 sectors with 96 of them tracked, blocks of 8, chunks of 4 blocks, 3 storage chunks and 4 slots.
 pub(crate) const HEADER: [u8; 56] = [
@@ -18,13 +18,13 @@ pub(crate) const HEADER: [u8; 56] = [
 
 /// A byte of a sector of the store that isn't as in the fresh image.
 #[derive(Clone, Copy, Drop)]
-struct Alteration {
+pub(crate) struct Alteration {
     sector: usize,
     byte: usize,
     value: u8,
 }
 
-fn change(sector: usize, byte: usize, value: u8) -> Alteration {
+pub(crate) fn change(sector: usize, byte: usize, value: u8) -> Alteration {
     Alteration {
         sector,
         byte,
@@ -40,7 +40,11 @@ pub(crate) fn words_of(alloc: Global, text: &str) -> Result<Vec<String>, Fail> {
     Ok(words)
 }
 
-fn image(alloc: Global, sectors: usize, changes: &[Alteration]) -> Result<Vec<Sector>, Fail> {
+pub(crate) fn image(
+    alloc: Global,
+    sectors: usize,
+    changes: &[Alteration],
+) -> Result<Vec<Sector>, Fail> {
     let mut content = vec![in alloc; Sector::filled(0); sectors]?;
     if let Some(first) = content.first_mut() {
         for (byte, value) in first.bytes.iter_mut().zip(&HEADER) {
@@ -66,20 +70,23 @@ pub(crate) fn base(alloc: Global) -> Result<Vec<Sector>, Fail> {
     Ok(content)
 }
 
-/// What can fail: these rules of the store and of the base, and these writes of the sink.
+/// The trace, and what can fail: these rules of the store and of the base, these reads of the source and these writes of
+/// the sink.
 #[derive(Clone, Copy, Drop)]
-struct Faults<'a> {
-    store: &'a [Rule],
-    base: &'a [Rule],
-    sink: &'a [u64],
+pub(crate) struct Given<'a> {
+    pub trace: &'a [u8],
+    pub store: &'a [Rule],
+    pub base: &'a [Rule],
+    pub source: &'a [u64],
+    pub sink: &'a [u64],
 }
 
-fn ends(
+pub(crate) fn ends(
     alloc: Global,
     words: &str,
     content: Vec<Sector>,
     under: Vec<Sector>,
-    faults: &Faults<'_>,
+    given: &Given<'_>,
     text: &[u8],
     status: u8,
 ) -> Result<bool, Fail> {
@@ -88,22 +95,25 @@ fn ends(
         events: 1000,
         sectors: 10_000,
     };
-    let Ok(store) = MemStore::new(alloc, content, room, faults.store.to_vec(alloc)?) else {
+    let Ok(store) = MemStore::new(alloc, content, room, given.store.to_vec(alloc)?) else {
         return Ok(false);
     };
-    let base = MemBase::new(under, faults.base.to_vec(alloc)?);
+    let base = MemBase::new(under, given.base.to_vec(alloc)?);
     if store.in_flight() != 0 || base.in_flight() != 0 {
         return Ok(false);
     }
-    let mut source = MemSource::new(Vec::new(alloc), Vec::new(alloc));
-    let mut sink = MemSink::new(vec![in alloc; 0u8; 20_000]?, faults.sink.to_vec(alloc)?);
+    let mut source = MemSource::new(given.trace.to_vec(alloc)?, given.source.to_vec(alloc)?);
+    let mut sink = MemSink::new(vec![in alloc; 0u8; 20_000]?, given.sink.to_vec(alloc)?);
     let end = still(alloc, words.as_slice(), &mut source, &mut sink, store, base);
     Ok(end.status == status && sink.bytes() == text)
 }
 
-const NONE: Faults<'static> = Faults {
+/// No line, and nothing fails.
+pub(crate) const NONE: Given<'static> = Given {
+    trace: &[],
     store: &[],
     base: &[],
+    source: &[],
     sink: &[],
 };
 
@@ -183,15 +193,21 @@ fn shows_and_refusals(rt: HostRuntime) -> Result<(), Fail> {
         ("show I P 128 1", 104, &[], b"past the disk\n", 4),
         ("show I P 0 0", 104, &[], b"bad words\n", 2),
         ("show I P 0 2049", 104, &[], b"bad words\n", 2),
-        ("run I P 1 0 off 0", 104, &[], b"bad words\n", 2),
+        (
+            "run I P 1 0 off 0",
+            104,
+            &[],
+            b"sum ok 0 full 0 fault 0 worn 0\n",
+            0,
+        ),
         ("", 104, &[], b"bad words\n", 2),
-        // an entry of the map, behind it a byte of no chunk; a range past the disk comes after it
+        // a bit of a block that there is not, behind it a byte of no chunk; a range past the disk comes after it
         (
             "show I P 127 2",
             104,
             &[change(3, 63, 1)],
-            b"not built\n",
-            8,
+            b"bad entry 3 0\n",
+            3,
         ),
         ("show I P 0 1", 104, &[change(3, 64, 1)], b"show 0 *00\n", 0),
         // version 1 has a table and a bitmap in the place of the map
@@ -231,134 +247,6 @@ fn shows_and_refusals(rt: HostRuntime) -> Result<(), Fail> {
             "{words}"
         );
     }
-    Ok(())
-}
-
-/// The changes that put a record's magic of this version, and a generation, into slot 1.
-fn record(version: u8, generation: u8) -> [Alteration; 9] {
-    [
-        change(5, 0, b'F'),
-        change(5, 1, b'V'),
-        change(5, 2, b'D'),
-        change(5, 3, b'R'),
-        change(5, 4, b'E'),
-        change(5, 5, b'C'),
-        change(5, 6, b'O'),
-        change(5, 7, b'0' + version % 8),
-        change(5, 8, generation),
-    ]
-}
-
-#[test]
-fn records_that_count(rt: HostRuntime) -> Result<(), Fail> {
-    let alloc = rt.alloc();
-    for (version, generation, counts) in [
-        (2, 1, true),
-        (2, 2, false),
-        (1, 1, false),
-        (3, 1, false),
-    ] {
-        let content = image(alloc, 104, &record(version, generation))?;
-        let (text, status): (&[u8], u8) = if counts {
-            (b"not built\n", 8)
-        } else {
-            (b"show 8 *08\n", 0)
-        };
-        assert!(rt;
-            ends(
-                alloc,
-                "show I P 8 1",
-                content,
-                base(alloc)?,
-                &NONE,
-                text,
-                status
-            )?
-        );
-    }
-    Ok(())
-}
-
-#[test]
-fn devices_and_sinks_that_fail_once(rt: HostRuntime) -> Result<(), Fail> {
-    let alloc = rt.alloc();
-    let store: [&[u8]; 4] = [
-        b"store fault 1\n",
-        b"store fault 2\n",
-        b"store fault 3\n",
-        b"store fault 4\n",
-    ];
-    for (nth, text) in (1..).zip(store) {
-        let rules = [Rule::FailNth {
-            nth,
-            keep: Keep::Old,
-        }];
-        let faults = Faults {
-            store: &rules,
-            ..NONE
-        };
-        assert!(rt;
-            ends(
-                alloc,
-                "show I P 95 2",
-                image(alloc, 104, &[])?,
-                base(alloc)?,
-                &faults,
-                text,
-                5
-            )?
-        );
-    }
-    let rules = [Rule::FailNth {
-        nth: 1,
-        keep: Keep::Old,
-    }];
-    let faults = Faults {
-        base: &rules,
-        ..NONE
-    };
-    assert!(rt;
-        ends(
-            alloc,
-            "show I P 95 2",
-            image(alloc, 104, &[])?,
-            base(alloc)?,
-            &faults,
-            b"base fault 1\n",
-            5
-        )?
-    );
-    let written: [&[u8]; 4] = [b"", b"show 95", b"show 95 *5f", b"show 95 *5f *00"];
-    for (nth, text) in (1..).zip(written) {
-        let calls = [nth];
-        let faults = Faults {
-            sink: &calls,
-            ..NONE
-        };
-        assert!(rt;
-            ends(
-                alloc,
-                "show I P 95 2",
-                image(alloc, 104, &[])?,
-                base(alloc)?,
-                &faults,
-                text,
-                6
-            )?
-        );
-    }
-    let faults = Faults { sink: &[1], ..NONE };
-    assert!(rt;
-        ends(
-            alloc,
-            "show",
-            image(alloc, 104, &[])?,
-            base(alloc)?,
-            &faults,
-            b"",
-            2
-        )?
-    );
     Ok(())
 }
 

@@ -34,7 +34,7 @@ returns-in-Make-clause-made g c h asks whole told recorded =
     subst (λ (k : Header). HasNewImage k (g.S.Store.disk c.make.new.store)) (sym (making.one h asks)) (c.make.ensures.made whole told recorded)
 
 pub returns-in-Nothing-clause-answer : goal.returns-in-Nothing-clause-answer
-returns-in-Nothing-clause-answer g c = (Says BadWords, Outside c.in-Nothing.ensures, c.say.ensures.ends)
+returns-in-Nothing-clause-answer g c = (Says BadWords, Outside (c.in-Nothing.ensures.0, c.in-Nothing.ensures.1, c.requires.no_run), c.say.ensures.ends)
 
 pub returns-in-Nothing-clause-safe : goal.returns-in-Nothing-clause-safe
 returns-in-Nothing-clause-safe g c h asks told recorded = nothing_safe _ _

@@ -1,0 +1,19 @@
+use Rattle.std.proofs.Common.{ℕ, zero, suc, ◌≡◌, ◌<◌, ◌≤◌, inr, refl, ap, ◌∙◌, arith}
+use Rattle.vd_top.specs.Ending.{unwritten}
+use Rattle.vd_top.proofs.printing.say.Goals as goal
+
+cut : (n : ℕ) → n < 2 → 6 ≡ unwritten n
+cut zero less = refl
+cut (suc zero) less = refl
+cut (suc (suc n)) less = absurd (omega arith)
+
+kept : (n : ℕ) → 2 ≤ n → n ≡ unwritten n
+kept zero more = absurd (omega arith)
+kept (suc zero) more = absurd (omega arith)
+kept (suc (suc n)) more = refl
+
+pub returns-in-Err-clause-ends : goal.returns-in-Err-clause-ends
+returns-in-Err-clause-ends g c = inr (cut c.status_of-status.result c.if-status-lt2.true ∙ ap unwritten c.status_of-status.ensures, c.in-Err.ensures.cause, (λ told. (c.in-Err.ensures.writes told).err))
+
+pub returns-in-Err-2-clause-ends : goal.returns-in-Err-2-clause-ends
+returns-in-Err-2-clause-ends g c = inr (kept c.status_of-status.result c.if-status-lt2.false ∙ ap unwritten c.status_of-status.ensures, c.in-Err-2.ensures.cause, (λ told. (c.in-Err-2.ensures.writes told).err))
