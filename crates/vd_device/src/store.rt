@@ -4,7 +4,7 @@ ghost use Rattle.std.specs.Prelude.{◌≡◌, ◌+◌, ◌-◌, ◌*◌, ◌^�
 ghost use Rattle.vd_device.specs.declared.ticket.Ticket.{Ticket as AnyTicket};
 ghost use Rattle.vd_device.specs.declared.ticket.Kind.TheVariants.{Read, Write, Flush};
 ghost use Rattle.vd_device.specs.Tickets.{IsRange, HasPlace, IsFree, IsInFlight, Puts, IsTicket, reads};
-ghost use Rattle.vd_device.specs.Disks.{Disk, Adds, AreWrites, IsRunning, Records};
+ghost use Rattle.vd_device.specs.Disks.{Disk, Adds, AreWrites, IsHonest, IsRunning, Records};
 ghost use Rattle.vd_device.specs.Calls.{IsCalm, Settles, Tells, IsCaused, next_number, asked_read, asked_flush, issued, settled_of, settle_entries};
 
 use crate::settled::{Settled, Waited};
@@ -66,7 +66,9 @@ pub trait Store {
         ensures many { (tickets : List AnyTicket) → flies self.now tickets → result ≡ length tickets }
         ensures none { result ≡ 0 → flies self.now [] }
         // each write that is open in the log is in flight
-        ensures writes { tells self.now → (tickets : List AnyTicket) → flies self.now tickets → AreWrites tickets (disk self.now) };
+        ensures writes { tells self.now → (tickets : List AnyTicket) → flies self.now tickets → AreWrites tickets (disk self.now) }
+        // what reads give could stand there by the log
+        ensures honest { tells self.now → IsHonest (disk self.now) };
 
     fn events(&self) -> u64
         ensures value { result ≡ events self.now }
