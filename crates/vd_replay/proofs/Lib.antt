@@ -10,3 +10,4 @@ pub mod MapsLaws
 pub mod StateLaws
 pub mod FillingLaws
 pub mod DiskLaws
+pub mod Starting

@@ -119,7 +119,7 @@ double_chunk h held pages entries next a b valid size version found applied twin
 
 -- ---- the state
 
-mask_is : (chunk mask b : ℕ) → 0 < chunk → mask_has (b / chunk * chunk) mask b ≡ (bit_at mask (b % chunk) == 1)
+pub mask_is : (chunk mask b : ℕ) → 0 < chunk → mask_has (b / chunk * chunk) mask b ≡ (bit_at mask (b % chunk) == 1)
 mask_is chunk mask b some =
     let whole = div-add-mod' b chunk in
     let low : nat_le (b / chunk * chunk) b ≡ true = le-leb (b / chunk * chunk) b (omega arith) in
@@ -130,7 +130,7 @@ last_block : (h : Header) (b : ℕ) → IsValid h → b < blocks_of h → b / h.
 last_block h b valid within = let apart = parts_apart h valid in apart.chunks b within
 
 -- the bit of a block is that of its chunk's mask
-in_mask : (h : Header) (map : List Entry) (fresh : Blocks) (b : ℕ) (bit : Bool) → IsValid h → length map ≡ chunks_of h → fresh.chunk ≡ h.chunk → length fresh.bits ≡ blocks_of h → IsSpread map (length map) fresh
+pub in_mask : (h : Header) (map : List Entry) (fresh : Blocks) (b : ℕ) (bit : Bool) → IsValid h → length map ≡ chunks_of h → fresh.chunk ≡ h.chunk → length fresh.bits ≡ blocks_of h → IsSpread map (length map) fresh
     → slice_get fresh.bits b ≡ Some bit → (e : Entry) × (slice_get map (b / h.chunk) ≡ Some e) × (bit ≡ mask_has (b / h.chunk * h.chunk) e.mask b)
 in_mask h map fresh b bit valid size chunk blocks spread at =
     let some : 0 < h.chunk = (let k = (chunk_within h valid).0 in omega (arith, k)) in

@@ -11,6 +11,8 @@ use Rattle.vd_image.specs.Layouts.{layout_of}
 use Rattle.vd_image.specs.Decoders.{Entry, IsEntry, entry_at, this_version, shape_of, mask_has, mapping_in, entry_place, format_of}
 use Rattle.vd_image.specs.Openings.{Opens}
 use Rattle.vd_replay.specs.Images.{image_of}
+use Rattle.vd_replay.specs.Pages.{AreEntries}
+use Rattle.vd_replay.specs.Placing.{IsPlaced, IsSpread}
 use Rattle.vd_replay.specs.Fresh.{is_fresh}
 use Rattle.vd_replay.specs.declared.state.State.{State}
 
@@ -26,6 +28,14 @@ pub record IsSized (s : State) : Type 0 where
   -- one truth value for each sector of the map
   pub more : length s.more ≡ sectors_of (16 * chunks_of s.header)
   pub slots : s.cursor.slots ≡ s.header.slots
+
+-- What holds of a state that isn't void, whatever the store tells: its entries are in the grammar, and its table and its local blocks are theirs.
+pub record IsWhole (s : State) : Type 0 where
+  pub sized : IsSized s
+  pub entries : AreEntries (shape_of s.header) (chunks_of s.header) s.map
+  pub placed : IsPlaced s.map (length s.map) s.table
+  pub spread : IsSpread s.map (length s.map) s.fresh
+  pub next : s.cursor.next ≤ s.cursor.slots
 
 -- the chunk has this entry in the state, and its mapping in the image is that of this entry
 pub record IsEntryOf (h : Header) (image : Image) (map : List Entry) (chunk : ℕ) : Type 0 where

@@ -42,7 +42,9 @@ fn take_slot(
 ) -> Result<u32, u32>
     requires chunks { length map.old ≡ shape.now.chunks }
     requires slots { slot < 4096 }
+    requires within { next ≤ slot }
     ensures size { length map.new ≡ length map.old }
+    ensures within { IfOk result (λ after. after ≤ slot + 1) }
     ensures grammar { AreEntries shape.now shape.now.chunks map.old → OnOk result (AreEntries shape.now shape.now.chunks map.new) }
     ensures replayed { (at : ℕ → AnySector) (pages : List AnyEntry) → at slot ≡ sector.now → AreReplayed shape.now at slot pages map.old next → Replayed shape.now at (slot + 1) pages map.new result }
 {
@@ -66,7 +68,9 @@ fn take_slots(
 ) -> Result<u32, u32>
     requires chunks { length map.old ≡ shape.now.chunks }
     requires slots { slot + length sectors.now ≤ 4096 }
+    requires within { before ≤ slot }
     ensures size { length map.new ≡ length map.old }
+    ensures within { IfOk result (λ after. after ≤ slot + length sectors.now) }
     ensures grammar { AreEntries shape.now shape.now.chunks map.old → OnOk result (AreEntries shape.now shape.now.chunks map.new) }
     ensures replayed { (at : ℕ → AnySector) (pages : List AnyEntry) → ((i : ℕ) → i < length sectors.now → at (slot + i) ≡ slice_index_or sectors.now i zero_sector) → AreReplayed shape.now at slot pages map.old before → Replayed shape.now at (slot + length sectors.now) pages map.new result }
 {
@@ -95,10 +99,12 @@ fn read_slots<S: Store>(
     requires chunks { length map.old ≡ shape.now.chunks }
     requires slots { slot + length room.old ≤ 4096 }
     requires grammar { OnOk so_far (AreEntries shape.now shape.now.chunks map.old) }
+    requires within { IfOk so_far (λ next. next ≤ slot) }
     ensures fault { IfErr result (λ number. IsFault number (S.last store.new) (S.faults store.old) (S.faults store.new)) }
     ensures quiet { OnlyReads (S.flies store.new []) (S.sectors store.old) (S.sectors store.new) (S.depth store.old) (S.depth store.new) (S.faults store.old) (S.faults store.new) (S.tells store.old) (S.tells store.new) (S.records store.old) (S.records store.new) (S.disk store.old) (S.disk store.new) }
     ensures size { length map.new ≡ length map.old }
     ensures grammar { IfOk result (λ after. OnOk after (AreEntries shape.now shape.now.chunks map.new)) }
+    ensures within { IfOk result (λ after. IfOk after (λ next. next ≤ slot + length room.old)) }
     ensures replayed { IfOk result (λ after. S.tells store.new → (pages : List AnyEntry) → Replayed shape.now (area_at (S.disk store.new).held from) slot pages map.old so_far
         → Replayed shape.now (area_at (S.disk store.new).held from) (slot + length room.old) pages map.new after) }
 {
@@ -130,6 +136,7 @@ pub fn replay<S: Store>(
     ensures quiet { OnlyReads (S.flies store.new []) (S.sectors store.old) (S.sectors store.new) (S.depth store.old) (S.depth store.new) (S.faults store.old) (S.faults store.new) (S.tells store.old) (S.tells store.new) (S.records store.old) (S.records store.new) (S.disk store.old) (S.disk store.new) }
     ensures size { length map.new ≡ length map.old }
     ensures grammar { IfOk result (λ after. OnOk after (AreEntries shape.now shape.now.chunks map.new)) }
+    ensures within { IfOk result (λ after. IfOk after (λ next. next ≤ count)) }
     ensures replayed { IfOk result (λ after. S.tells store.new → Replayed shape.now (area_at (S.disk store.new).held from) count map.old map.new after) }
 {
     let mut done = 0;

@@ -13,6 +13,8 @@ mod placing;
 mod slots;
 mod state;
 #[cfg(test)]
+mod state_tests;
+#[cfg(test)]
 mod tests;
 
 pub use buffer::ReadBuffer;

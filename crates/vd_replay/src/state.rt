@@ -10,7 +10,7 @@ ghost use Rattle.vd_replay.specs.Pages.{AreEntries};
 ghost use Rattle.vd_replay.specs.Placing.{IsShape};
 ghost use Rattle.vd_replay.specs.Filling.{AreApplied, Keeps, IsSettled, AreDouble, IsOfReading};
 ghost use Rattle.vd_replay.specs.Finding.{Found, ForStore};
-ghost use Rattle.vd_replay.specs.States.{IsSized, Says};
+ghost use Rattle.vd_replay.specs.States.{IsSized, IsWhole, Says};
 ghost use Rattle.vd_replay.specs.Refusals.{Unfilled, Refused, RefusedAgain, IsOfReload};
 
 use crate::buffer::ReadBuffer;
@@ -92,6 +92,7 @@ fn read_entries<S: Store>(
     ensures pages { length pages.new ≡ length pages.old }
     ensures map { length map.new ≡ length map.old }
     ensures grammar { OnOk result (AreEntries (shape_of header.now) (chunks_of header.now) map.new) }
+    ensures within { IfOk result (λ next. next ≤ header.now.slots) }
     ensures errors { IfErr result IsOfReading }
     ensures read { IfOk result (λ next. S.tells store.new → AreApplied header.now (S.disk store.new).held pages.new map.new next) }
     ensures wrong { IfErr result (λ e. S.tells store.new → header.now.version ≡ 2 → Found (S.disk store.new).held header.now → Unfilled (S.disk store.new).held e) }
@@ -145,11 +146,13 @@ impl State {
     fn settle(&mut self, next: u32) -> Result<(), OpenError>
         requires sized { IsSized self.old }
         requires grammar { AreEntries (shape_of self.old.header) (chunks_of self.old.header) self.old.map }
+        requires within { next ≤ self.old.header.slots }
         ensures kept { Keeps self.old self.new }
         ensures pages { self.new.pages ≡ self.old.pages }
         ensures map { self.new.map ≡ self.old.map }
         ensures sized { IsSized self.new }
         ensures settled { OnOk result (IsSettled self.new next) }
+        ensures whole { OnOk result (IsWhole self.new) }
         ensures twins { IfErr result (AreDouble self.new.map) }
     {
         let shape = shape_of(&self.header);
@@ -177,6 +180,7 @@ impl State {
         ensures quiet { OnlyReads (S.flies store.new []) (S.sectors store.old) (S.sectors store.new) (S.depth store.old) (S.depth store.new) (S.faults store.old) (S.faults store.new) (S.tells store.old) (S.tells store.new) (S.records store.old) (S.records store.new) (S.disk store.old) (S.disk store.new) }
         ensures kept { Keeps self.old self.new }
         ensures sized { IsSized self.new }
+        ensures whole { OnOk result (IsWhole self.new) }
         ensures errors { IfErr result IsOfReading }
         ensures says { OnOk result (S.tells store.new → Found (S.disk store.new).held self.new.header → Says (S.disk store.new).held self.new) }
         ensures wrong { IfErr result (λ e. S.tells store.new → Found (S.disk store.new).held self.new.header → Unfilled (S.disk store.new).held e) }
@@ -204,6 +208,7 @@ impl State {
         ensures quiet { OnlyReads (S.flies store.new []) (S.sectors store.old) (S.sectors store.new) (S.depth store.old) (S.depth store.new) (S.faults store.old) (S.faults store.new) (S.tells store.old) (S.tells store.new) (S.records store.old) (S.records store.new) (S.disk store.old) (S.disk store.new) }
         ensures kept { Keeps self.old self.new }
         ensures sized { IsSized self.new }
+        ensures whole { OnOk result (IsWhole self.new) }
         ensures errors { IfErr result IsOfReading }
         ensures says { OnOk result (S.tells store.new → Found (S.disk store.new).held self.new.header → Says (S.disk store.new).held self.new) }
         ensures wrong { IfErr result (λ e. S.tells store.new → Found (S.disk store.new).held self.new.header → Unfilled (S.disk store.new).held e) }
@@ -229,6 +234,7 @@ impl State {
         ensures quiet { OnlyReads (S.flies store.new []) (S.sectors store.old) (S.sectors store.new) (S.depth store.old) (S.depth store.new) (S.faults store.old) (S.faults store.new) (S.tells store.old) (S.tells store.new) (S.records store.old) (S.records store.new) (S.disk store.old) (S.disk store.new) }
         ensures kept { Keeps self.old self.new }
         ensures sized { IsSized self.new }
+        ensures whole { OnOk result (IsWhole self.new) }
         ensures errors { IfErr result IsOfReading }
         ensures says { OnOk result (S.tells store.new → Found (S.disk store.new).held self.new.header → Says (S.disk store.new).held self.new) }
         ensures wrong { IfErr result (λ e. S.tells store.new → Found (S.disk store.new).held self.new.header → Unfilled (S.disk store.new).held e) }
@@ -252,6 +258,7 @@ impl State {
         ensures full { OnOk result (self.new.void ≡ false) }
         ensures void { OnErr result (self.new.void ≡ true) }
         ensures sized { IsSized self.new }
+        ensures whole { OnOk result (IsWhole self.new) }
         ensures errors { IfErr result IsOfReading }
         ensures says { OnOk result (S.tells store.new → Found (S.disk store.new).held self.new.header → Says (S.disk store.new).held self.new) }
         ensures wrong { IfErr result (λ e. S.tells store.new → Found (S.disk store.new).held self.new.header → Unfilled (S.disk store.new).held e) }
@@ -270,6 +277,7 @@ impl State {
         ensures fault { IfErr result (ForStore (λ number. IsFault number (S.last store.new) (S.faults store.old) (S.faults store.new))) }
         ensures quiet { OnlyReads (S.flies store.new []) (S.sectors store.old) (S.sectors store.new) (S.depth store.old) (S.depth store.new) (S.faults store.old) (S.faults store.new) (S.tells store.old) (S.tells store.new) (S.records store.old) (S.records store.new) (S.disk store.old) (S.disk store.new) }
         ensures sized { IsSized self.new }
+        ensures whole { OnOk result (IsWhole self.new) }
         ensures same { geometry_of self.new.header ≡ geometry_of self.old.header }
         ensures full { OnOk result (self.new.void ≡ false) }
         ensures void { OnErr result (self.new.void ≡ true) }
@@ -305,6 +313,7 @@ pub fn recover<S: Store>(alloc: Global, store: &mut S, oldest: u32) -> Result<St
     ensures fault { IfErr result (ForStore (λ number. IsFault number (S.last store.new) (S.faults store.old) (S.faults store.new))) }
     ensures quiet { OnlyReads (S.flies store.new []) (S.sectors store.old) (S.sectors store.new) (S.depth store.old) (S.depth store.new) (S.faults store.old) (S.faults store.new) (S.tells store.old) (S.tells store.new) (S.records store.old) (S.records store.new) (S.disk store.old) (S.disk store.new) }
     ensures sized { IfOk result IsSized }
+    ensures whole { IfOk result IsWhole }
     ensures full { IfOk result (λ state. state.void ≡ false) }
     ensures version { IfOk result (λ state. oldest ≤ state.header.version) }
     ensures room { IfOk result (λ state. need_of state.header ≤ S.sectors store.new) }

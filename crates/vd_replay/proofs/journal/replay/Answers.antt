@@ -1,4 +1,5 @@
-use Rattle.std.proofs.Common.{ℕ, ◌+◌, ◌≡◌, ◌<◌, List, length, take, ap, sym, ◌∙◌, subst, arith, length-take-le}
+use Rattle.std.proofs.Common.{ℕ, ◌+◌, ◌≡◌, ◌<◌, ◌≤◌, List, length, take, ap, sym, ◌∙◌, subst, arith, length-take-le}
+use Rattle.std.specs.Prelude.{IfOk}
 use Rattle.vd_law.specs.declared.entry.Sector.{Sector}
 use Rattle.vd_reading.proofs.QuietLaws.{reads_twice}
 use Rattle.vd_replay.specs.Pages.{area_at}
@@ -13,6 +14,7 @@ loop-done-preserved g c =
       quiet = reads_twice c.loop-done.invariant.quiet c.read_slots.ensures.quiet;
       most = omega arith;
       size = c.read_slots.ensures.size ∙ c.loop-done.invariant.size;
+      within = subst (λ (k : ℕ). IfOk c.in_ok-so_far.so_far (λ next. next ≤ c.loop-done.done + k)) n c.in_ok-so_far.ensures.within;
       grammar = c.in_ok-so_far.ensures.grammar;
       replayed = λ told. subst (λ (k : ℕ). Replayed c.args.shape.now (area_at new c.args.from) (c.loop-done.done + k) c.args.map.now c.read_slots.new.map c.in_ok-so_far.so_far) n
           (c.in_ok-so_far.ensures.replayed told c.args.map.now

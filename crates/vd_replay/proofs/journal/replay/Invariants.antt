@@ -1,5 +1,5 @@
 use Rattle.std.proofs.Common.{◌-◌, ◌≤◌, ◌≡◌, [], length}
-use Rattle.std.specs.Prelude.{OnOk}
+use Rattle.std.specs.Prelude.{IfOk, OnOk}
 use Rattle.vd_reading.specs.Quiet.{OnlyReads}
 use Rattle.vd_replay.specs.Pages.{area_at, AreEntries}
 use Rattle.vd_replay.specs.Journal.{Replayed}
@@ -11,6 +11,7 @@ invariant-loop-done g l = record {
       (g.S.Store.tells l.fn.store) (g.S.Store.tells l.store) (g.S.Store.records l.fn.store) (g.S.Store.records l.store) (g.S.Store.disk l.fn.store) (g.S.Store.disk l.store);
   most : l.done ≤ l.count;
   size : length l.map ≡ length l.fn.map;
+  within : IfOk l.so_far (λ next. next ≤ l.done);
   grammar : OnOk l.so_far (AreEntries l.shape l.shape.chunks l.map);
   replayed : g.S.Store.tells l.store → Replayed l.shape (area_at (g.S.Store.disk l.store).held l.from) l.done l.fn.map l.map l.so_far;
 }
