@@ -68,7 +68,8 @@ pub trait Store {
         // each write that is open in the log is in flight
         ensures writes { tells self.now → (tickets : List AnyTicket) → flies self.now tickets → AreWrites tickets (disk self.now) }
         // what reads give could stand there by the log
-        ensures honest { tells self.now → IsHonest (disk self.now) };
+        ensures honest { tells self.now → IsHonest (disk self.now) }
+        ensures recorded { tells self.now → records self.now };
 
     fn events(&self) -> u64
         ensures value { result ≡ events self.now }
