@@ -10,7 +10,7 @@ use Rattle.vd_law.specs.Contents.{Open, open_writes}
 use Rattle.vd_law.proofs.RuleLaws.{past-append}
 use Rattle.vd_device.specs.Disks.{Disk, GrowsBy, RecordsSome, IsRunning, HasStopped, IsOneOf}
 use Rattle.vd_device.specs.Now.{read_entries, flush_entries}
-use Rattle.vd_reading.specs.Quiet.{IsAtRest, IsNoWrite, AddsNoWrite, IsReady, OnlyReads}
+use Rattle.vd_reading.specs.Quiet.{IsAtRest, IsNoWrite, AddsNoWrite, AddsFlush, IsReady, OnlyReads}
 
 -- two lists are the same where each of their places is
 pub same_list : {X : Type 0} (xs ys : List X) → length xs ≡ length ys → ((i : ℕ) → slice_get xs i ≡ slice_get ys i) → xs ≡ ys
@@ -93,18 +93,18 @@ only_reads es {before = before} {after = after} {old = old} {new = new} only_idl
   recorded = λ r. recorded_after es before after old new only_idle (recorded r);
 }
 
+no_write_append : (xs ys : List Entry) → AllByRecursion IsNoWrite xs → AllByRecursion IsNoWrite ys → AllByRecursion IsNoWrite (xs ++ ys)
+no_write_append [] ys p q = q
+no_write_append (e ∷ xs) ys p q = (p.0, no_write_append xs ys p.1 q)
+
 -- one such call after another
 pub adds_twice : (a b c : Disk) → AddsNoWrite a b → AddsNoWrite b c → AddsNoWrite a c
 adds_twice a b c x y = record {
   start = y.start ∙ x.start;
   more = x.more ++ y.more;
-  none = join x.more y.more x.none y.none;
+  none = no_write_append x.more y.more x.none y.none;
   log = y.log ∙ ap (λ l. l ++ y.more) x.log ∙ append_assoc a.log x.more y.more;
 }
-  where
-    join : (xs ys : List Entry) → AllByRecursion IsNoWrite xs → AllByRecursion IsNoWrite ys → AllByRecursion IsNoWrite (xs ++ ys)
-    join [] ys p q = q
-    join (e ∷ xs) ys p q = (p.0, join xs ys p.1 q)
 
 pub reads_twice : {i1 i2 : Type 0} {s0 s1 s2 d0 d1 d2 f0 f1 f2 : ℕ} {t0 t1 t2 r0 r1 r2 : Type 0} {a b c : Disk} → OnlyReads i1 s0 s1 d0 d1 f0 f1 t0 t1 r0 r1 a b → OnlyReads i2 s1 s2 d1 d2 f1 f2 t1 t2 r1 r2 b c
     → OnlyReads i2 s0 s2 d0 d2 f0 f2 t0 t2 r0 r2 a c
@@ -147,3 +147,23 @@ on_ok (Err e) f p = tt
 pub none_open : (s : ℕ) (ws : List Open) → All (IsOneOf [] s) ws → ws ≡ []
 none_open s [] all = refl
 none_open s (w ∷ ws) all = let one = All-head (IsOneOf [] s) w ws all in let place = one.among in absurd (omega (arith, place.1))
+
+-- A flush that succeeded, and then calls that begin no write.
+pub flush_first : {old mid new : Disk} (number : ℕ) → mid.start ≡ old.start → mid.log ≡ old.log ++ flush_entries number (Ok tt) → AddsNoWrite mid new → AddsFlush old new
+flush_first {old} {mid} {new} number start log adds = record {
+  start = adds.start ∙ start;
+  number = number;
+  more = adds.more;
+  none = adds.none;
+  log = adds.log ∙ ap (λ (l : List Entry). l ++ adds.more) log ∙ append_assoc old.log (flush_entries number (Ok tt)) adds.more;
+}
+
+pub flush_before : {old mid new : Disk} → AddsFlush old mid → AddsNoWrite mid new → AddsFlush old new
+flush_before {old} {mid} {new} flushed adds = record {
+  start = adds.start ∙ flushed.start;
+  number = flushed.number;
+  more = flushed.more ++ adds.more;
+  none = no_write_append flushed.more adds.more flushed.none adds.none;
+  log = adds.log ∙ ap (λ (l : List Entry). l ++ adds.more) flushed.log ∙ append_assoc old.log (flush_entries flushed.number (Ok tt) ++ flushed.more) adds.more
+      ∙ ap (λ (l : List Entry). old.log ++ l) (append_assoc (flush_entries flushed.number (Ok tt)) flushed.more adds.more);
+}

@@ -1,10 +1,11 @@
 -- What calls that write nothing leave of a store.
-use Rattle.std.specs.Prelude.{ℕ, ◌≡◌, ◌<◌, ◌≤◌, List, ◌++◌, take, drop}
+use Rattle.std.specs.Prelude.{ℕ, ◌≡◌, ◌<◌, ◌≤◌, List, ◌++◌, take, drop, Ok}
 use Rattle.vd_law.specs.declared.entry.Sector.{Sector}
 use Rattle.vd_law.specs.Entries.{Entry, Issue}
 use Rattle.std.specs.List.{AllByRecursion}
 use Rattle.vd_device.specs.Disks.{Disk, IsCalmAt}
 use Rattle.vd_device.specs.Calls.{Rose}
+use Rattle.vd_device.specs.Now.{flush_entries}
 
 -- so many sectors of a disk from `first` on
 abbrev pub sectors_from : List Sector → (first count : ℕ) → List Sector
@@ -25,6 +26,14 @@ pub record AddsNoWrite (old new : Disk) : Type 0 where
   pub more : List Entry
   pub none : AllByRecursion IsNoWrite more
   pub log : new.log ≡ old.log ++ more
+
+-- the log has grown by a flush that succeeded, and then by entries that begin no write
+pub record AddsFlush (old new : Disk) : Type 0 where
+  pub start : new.start ≡ old.start
+  pub number : ℕ
+  pub more : List Entry
+  pub none : AllByRecursion IsNoWrite more
+  pub log : new.log ≡ old.log ++ (flush_entries number (Ok tt) ++ more)
 
 -- Nothing is in flight, there is a place in flight, and where the contents are told no write is open.
 pub record IsReady (idle : Type 0) (depth : ℕ) (tells : Type 0) (d : Disk) : Type 0 where

@@ -1,7 +1,7 @@
 //! Finding the header of a store.
 
 ghost use Rattle.std.specs.Prelude.{◌≡◌, ◌≤◌, [], length, IfOk, IfErr};
-ghost use Rattle.vd_reading.specs.Quiet.{IsReady, OnlyReads, IsFault};
+ghost use Rattle.vd_reading.specs.Quiet.{IsReady, OnlyReads, AddsFlush, IsFault};
 ghost use Rattle.vd_format.specs.Headers.{IsValid};
 ghost use Rattle.vd_format.specs.Layouts.{need_of};
 ghost use Rattle.vd_replay.specs.Headers.{first_changed};
@@ -70,6 +70,7 @@ pub fn find_header<S: Store>(store: &mut S, kept: Option<Header>) -> Result<Head
     ensures agrees { IfOk result (Agrees kept) }
     ensures room { IfOk result (λ h. need_of h ≤ S.sectors store.new) }
     ensures errors { IfErr result IsOfHeader }
+    ensures flushed { IfOk result (λ h. S.tells store.new → AddsFlush (S.disk store.old) (S.disk store.new)) }
     ensures found { IfOk result (λ h. S.tells store.new → Found (S.disk store.new).held h) }
     ensures not_found { IfErr result (λ e. S.tells store.new → NotFound kept (S.disk store.new).held e) }
 {
@@ -84,6 +85,8 @@ pub fn find_header<S: Store>(store: &mut S, kept: Option<Header>) -> Result<Head
     if let Err(ticket) = read_only(store, 0, &mut first) {
         return Err(OpenError::Store(ticket));
     }
+    // For what its clause says alone: a store that tells records.
+    let _telling = store.in_flight();
     match read_header(&first[0]) {
         Ok(header) => judge(header, kept, have),
         Err(error) => Err(OpenError::Header(error)),

@@ -1,7 +1,7 @@
 //! A state: what an image says, as a disk goes on from it.
 
 ghost use Rattle.std.specs.Prelude.{◌≡◌, ◌⊎◌, ◌^◌, ◌<◌, ◌≤◌, [], false, true, length, None, Some, IfOk, IfErr, OnOk, OnErr};
-ghost use Rattle.vd_reading.specs.Quiet.{IsReady, OnlyReads, IsFault};
+ghost use Rattle.vd_reading.specs.Quiet.{IsReady, OnlyReads, AddsFlush, IsFault};
 ghost use Rattle.vd_format.specs.Headers.{IsValid};
 ghost use Rattle.vd_format.specs.Layouts.{chunks_of, need_of};
 ghost use Rattle.vd_image.specs.Image.{geometry_of};
@@ -317,6 +317,7 @@ pub fn recover<S: Store>(alloc: Global, store: &mut S, oldest: u32) -> Result<St
     ensures full { IfOk result (λ state. state.void ≡ false) }
     ensures version { IfOk result (λ state. oldest ≤ state.header.version) }
     ensures room { IfOk result (λ state. need_of state.header ≤ S.sectors store.new) }
+    ensures flushed { IfOk result (λ state. S.tells store.new → AddsFlush (S.disk store.old) (S.disk store.new)) }
     ensures says { IfOk result (λ state. S.tells store.new → Says (S.disk store.new).held state) }
     ensures refused { IfErr result (λ e. S.tells store.new → Refused oldest (S.disk store.new).held e) }
 {
@@ -326,5 +327,7 @@ pub fn recover<S: Store>(alloc: Global, store: &mut S, oldest: u32) -> Result<St
     }
     let mut state = State::empty(alloc, header)?;
     state.fill(store)?;
+    // For what its clause says alone: a store that tells records.
+    let _telling = store.in_flight();
     Ok(state)
 }

@@ -1,7 +1,7 @@
 use Rattle.std.proofs.Common.{ℕ, ◌≡◌, ◌<◌, length, Ok, refl, ap, sym, ◌∙◌, arith}
 use Rattle.vd_format.specs.Headers.{header_of}
 use Rattle.vd_reading.specs.Quiet.{IsReady}
-use Rattle.vd_reading.proofs.QuietLaws.{reads_twice, ready_again}
+use Rattle.vd_reading.proofs.QuietLaws.{reads_twice, ready_again, flush_first}
 use Rattle.vd_replay.specs.Images.{image_of}
 use Rattle.vd_replay.proofs.FindingLaws.{no_sectors, first_sector, bad_header, found_header, not_found_header, valid_header, on_good}
 use Rattle.vd_replay.proofs.header.find_header.Given.{Over}
@@ -52,3 +52,8 @@ returns-in-Err-read_header-clause-not_found g c told =
     let some : 0 < length (g.S.Store.disk c.read_only.new.store).held = (let k = c.if-have-eq0.false in omega arith) in
     bad_header c.args.kept (g.S.Store.disk c.read_only.new.store).held c.in-Err-read_header.error some
     (sym (c.in-Err-read_header.ensures.read ∙ ap header_of (first_sector (g.S.Store.disk c.read_only.new.store).held c.read_only.new.out _ (c.in_default-read_only.ensures.read told) some)))
+
+pub returns-in-Ok-clause-flushed : goal.returns-in-Ok-clause-flushed
+returns-in-Ok-clause-flushed g c = on_good _ c.judge.result (λ told.
+    let recorded = c.in_flight-telling.ensures.recorded told in let quiet = c.read_only.ensures.quiet in
+    flush_first (g.S.Store.last c.flush_only.new.store) (c.flush_only.ensures.quiet.recorded (quiet.recorded_before recorded)).start (c.in_default.ensures.flushed (quiet.told_before told)) (quiet.recorded recorded))
