@@ -1,5 +1,5 @@
 -- The chunks of a write's range, and the room that a request needs.
-use Rattle.std.proofs.Common.{◌≢◌, ℕ, suc, ◌+◌, ◌-◌, ◌*◌, ◌/◌, ◌<◌, ◌≤◌, length, sym, ◌∙◌, ap, arith, Some}
+use Rattle.std.proofs.Common.{◌≢◌, ℕ, suc, ◌+◌, ◌-◌, ◌*◌, ◌/◌, ◌<◌, ◌≤◌, length, refl, sym, ◌∙◌, ap, arith, Some}
 use Rattle.std.proofs.Math.Nat.{div-mul-le_self, add-div_right, mul-suc, mul_comm}
 use Rattle.std.proofs.lemmas.Nat.{le-div}
 use Rattle.vd_law.specs.Entries.{Asked, Read, Write, Flush}
@@ -12,7 +12,7 @@ use Rattle.vd_passes.specs.Needs.{need_of, sectors_of}
 use Rattle.vd_passes.proofs.Places.{block-below}
 use Rattle.vd_passes.proofs.PlacesGiven.{place-some, has-place, place-from}
 use Rattle.vd_passes.proofs.Asking.{IsPlaced}
-use Rattle.vd_core.specs.Asking.{run_from, run_count, Claims}
+use Rattle.vd_core.specs.Asking.{run_from, run_count, HasSize, Claims}
 use Rattle.vd_core.specs.Kept.{IsStorage}
 
 -- what a request needs at the least: its Ask and its Reply, and the sectors that the Ask tells
@@ -26,8 +26,11 @@ need-sectors block (Read first count) = omega arith
 need-sectors block (Write first content) = omega arith
 need-sectors block Flush = omega arith
 
-pub not-flush : (r : Asked) → 0 < sectors_of r → r ≢ Flush
-not-flush r some is = let e = ap sectors_of is in omega arith
+-- a request that isn't a flush has sectors
+pub some-sectors : (r : Asked) → HasSize r → r ≢ Flush → 0 < sectors_of r
+some-sectors (Read first count) size other = size.0
+some-sectors (Write first content) size other = size.0
+some-sectors Flush size other = absurd (other refl)
 
 -- a range in a disk lies in a greater one, and is no longer
 pub inside-more : (r : Asked) (size more : ℕ) → size ≤ more → IsInside size r → IsInside more r
@@ -47,14 +50,15 @@ pub quotient-near : (k m n : ℕ) → 0 < k → m ≤ n + 1 → m / k ≤ n / k 
 quotient-near k m n some near = let h = quotient-rises k m (n + k) some (omega arith) in let e = add-div_right n some in omega arith
 
 -- The chunks of a range in the disk are chunks of the table.
-pub run-inside : (shape : Shape) (r : Asked) (n : ℕ) → ((b : ℕ) → b < shape.blocks → b / shape.chunk < n) → 0 < shape.block → 0 < shape.chunk → 0 < sectors_of r → IsInside (shape.block * shape.blocks) r
+pub run-inside : (shape : Shape) (r : Asked) (n : ℕ) → ((b : ℕ) → b < shape.blocks → b / shape.chunk < n) → 0 < shape.block → 0 < shape.chunk → HasSize r → IsInside (shape.block * shape.blocks) r
     → run_from shape r + run_count shape r ≤ n
-run-inside shape (Read first count) n chunks some_block some_chunk some inside = omega arith
-run-inside shape (Write first content) n chunks some_block some_chunk some inside =
+run-inside shape (Read first count) n chunks some_block some_chunk size inside = omega arith
+run-inside shape (Write first content) n chunks some_block some_chunk size inside =
+    let some = size.0 in
     let last = chunks ((first + length content - 1) / shape.block) (block-below shape.block shape.blocks (first + length content - 1) some_block (omega arith)) in
     let rises = quotient-rises shape.chunk (first / shape.block) ((first + length content - 1) / shape.block) some_chunk (quotient-rises shape.block first (first + length content - 1) some_block (omega arith)) in
     omega arith
-run-inside shape Flush n chunks some_block some_chunk some inside = omega arith
+run-inside shape Flush n chunks some_block some_chunk size inside = omega arith
 
 -- Where each of them has storage, each block of the range has a place.
 pub run-placed : (shape : Shape) (table : Given) (r : Asked) → 0 < shape.block → 0 < shape.chunk → ((chunk : ℕ) → run_from shape r ≤ chunk → chunk < run_from shape r + run_count shape r → (p : ℕ) × Has table chunk p)

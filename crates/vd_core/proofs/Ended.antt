@@ -1,8 +1,8 @@
 -- A pass after the settle of its write.
-use Rattle.std.proofs.Common.{◌≡◌, ℕ, zero, suc, List, [], ◌∷◌, ◌++◌, refl, sym, ◌∙◌, ap, subst, append-nil, arith, Some, None, slice_get, slice_set}
+use Rattle.std.proofs.Common.{◌≡◌, ℕ, zero, suc, List, [], ◌∷◌, ◌++◌, length, refl, sym, ◌∙◌, ap, subst, append-nil, arith, Some, None, slice_get, slice_set}
 use Rattle.vd_law.specs.declared.entry.Sector.{Sector}
 use Rattle.vd_law.specs.declared.entry.CallId.{CallId}
-use Rattle.vd_law.specs.Entries.{Entry, Broke}
+use Rattle.vd_law.specs.Entries.{Entry, Done, Broke}
 use Rattle.vd_law.specs.Histories.{Numbered}
 use Rattle.vd_device.specs.declared.ticket.Ticket.{Ticket}
 use Rattle.vd_device.specs.declared.settled.Settled.{Settled}
@@ -41,3 +41,11 @@ extends-none history = record { numbers = sym (append-nil history.numbers); open
 pub broke-entry : (id : CallId) (i : ℕ) (q : Pass) (history history' : List Entry) → id.pass ≡ i → id.call ≡ q.call → history' ≡ history ++ Broke id ∷ [] → history' ≡ history ++ Broke (call_of i q) ∷ []
 broke-entry id i q history history' pass call entry =
     entry ∙ ap (λ (n : ℕ). history ++ Broke (record { pass = n; call = id.call }) ∷ []) pass ∙ ap (λ (n : ℕ). history ++ Broke (record { pass = i; call = n }) ∷ []) call
+
+pub done-entry : (id : CallId) (i : ℕ) (q : Pass) (history history' : List Entry) → id.pass ≡ i → id.call ≡ q.call → history' ≡ history ++ Done id ∷ [] → history' ≡ history ++ Done (call_of i q) ∷ []
+done-entry id i q history history' pass call entry =
+    entry ∙ ap (λ (n : ℕ). history ++ Done (record { pass = n; call = id.call }) ∷ []) pass ∙ ap (λ (n : ℕ). history ++ Done (record { pass = i; call = n }) ∷ []) call
+
+pub nothing-long : (xs : List Sector) → length xs ≡ 0 → xs ≡ []
+nothing-long [] none = refl
+nothing-long (x ∷ xs) none = absurd (omega arith)

@@ -4,11 +4,16 @@ pub mod Devices
 pub mod Ending
 pub mod Entering
 pub mod Fetching
+pub mod Flushing
+pub mod FlushingReady
 pub mod Following
 pub mod Issuing
 pub mod Looking
 pub mod Opening
+pub mod OpeningTold
+pub mod Recording
 pub mod Replying
 pub mod Seeing
 pub mod Settling
 pub mod Standing
+pub mod Telling

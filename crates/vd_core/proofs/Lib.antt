@@ -1,4 +1,5 @@
 pub mod Claiming
+pub mod Copied
 pub mod Ended
 pub mod Entered
 pub mod Entries
@@ -13,6 +14,11 @@ pub mod Rooming
 pub mod Seen
 pub mod Serving
 pub mod Settled
+pub mod Starting
+pub mod StartingDisk
+pub mod StartingTold
 pub mod Storing
+pub mod StoringCounts
+pub mod StoringFull
 pub mod StoringSteps
 pub mod Views

@@ -30,16 +30,16 @@ use Rattle.vd_core.proofs.Ended.{set-there}
 use Rattle.vd_core.specs.Moves.{IsNoAsk, steps_in, steps_left, Moves, Drives, IsStanding}
 
 -- a room is as large as itself
-same-room : (left : Room) → (left.events ≤ left.events) × (left.sectors ≤ left.sectors)
+pub same-room : (left : Room) → (left.events ≤ left.events) × (left.sectors ≤ left.sectors)
 same-room left = (omega arith, omega arith)
 
 -- A step that adds no entry, or one.
-quiet : {i : ℕ} {p p' : Pass} {passes passes' : List Pass} (entries : List Entry) → slice_get passes i ≡ Some p → passes' ≡ slice_set passes i p' → p'.write ≡ p.write → p'.count ≡ p.count → p'.call ≡ p.call → Moves i p p' passes passes' entries entries
-quiet entries there after write count call = record { there = there; after = after; write = write; count = count; call = call; more = []; none_asked = tt; entries_after = sym (append-nil entries) }
+pub quiet : {i : ℕ} {p p' : Pass} {passes passes' : List Pass} (entries : List Entry) → slice_get passes i ≡ Some p → passes' ≡ slice_set passes i p' → p'.write ≡ p.write → p'.flush ≡ p.flush → p'.count ≡ p.count → p'.call ≡ p.call → Moves i p p' passes passes' entries entries
+quiet entries there after write flush count call = record { there = there; after = after; write = write; flush = flush; count = count; call = call; more = []; none_asked = tt; entries_after = sym (append-nil entries) }
 
-adds : {i : ℕ} {p p' : Pass} {passes passes' : List Pass} (entries entries' : List Entry) (e : Entry) → IsNoAsk e → slice_get passes i ≡ Some p → passes' ≡ slice_set passes i p' → p'.write ≡ p.write → p'.count ≡ p.count → p'.call ≡ p.call
+pub adds : {i : ℕ} {p p' : Pass} {passes passes' : List Pass} (entries entries' : List Entry) (e : Entry) → IsNoAsk e → slice_get passes i ≡ Some p → passes' ≡ slice_set passes i p' → p'.write ≡ p.write → p'.flush ≡ p.flush → p'.count ≡ p.count → p'.call ≡ p.call
     → entries' ≡ entries ++ e ∷ [] → Moves i p p' passes passes' entries entries'
-adds entries entries' e none there after write count call more = record { there = there; after = after; write = write; count = count; call = call; more = e ∷ []; none_asked = (none, tt); entries_after = more }
+adds entries entries' e none there after write flush count call more = record { there = there; after = after; write = write; flush = flush; count = count; call = call; more = e ∷ []; none_asked = (none, tt); entries_after = more }
 
 asked-held : (write : Bool) (n : ℕ) → steps_in Held write n < steps_in Asked write n
 asked-held true n = omega arith
@@ -56,7 +56,7 @@ module _ {shape : Shape} {i : ℕ} {passes passes' : List Pass} (entries : List 
       record {
         pass = step.pass;
         pass' = record step.pass { phase = Held; block = step.block; piece = step.piece; at = step.at };
-        moves = quiet entries step.there step.after refl refl refl;
+        moves = quiet entries step.there step.after refl refl refl refl;
         tells = ((λ e. cc), (let steps = steps-at shape.block step.pass Asked step.pass.write asked refl in let less = asked-held step.pass.write (pieces_left shape.block step.pass) in omega (arith, steps, less)));
         events_left = (same-room left).0;
         sectors_left = (same-room left).1;
@@ -80,7 +80,7 @@ module _ {shape : Shape} {i : ℕ} {passes passes' : List Pass} (entries : List 
       record {
         pass = step.pass;
         pass' = after_fetch step.pass step.ticket;
-        moves = quiet entries step.there step.after refl refl refl;
+        moves = quiet entries step.there step.after refl refl refl refl;
         tells = ((λ e. cc), (let before = steps-at shape.block step.pass Held true held writes in let after = steps-at shape.block (after_fetch step.pass step.ticket) Fetching true refl writes in omega (arith, before, after, less.0)));
         events_left = (same-room left).0;
         sectors_left = (same-room left).1;
@@ -94,7 +94,7 @@ module _ {shape : Shape} {i : ℕ} {passes passes' : List Pass} (entries : List 
       record {
         pass = step.pass;
         pass' = after_filled step.pass zeros;
-        moves = quiet entries step.there step.after refl refl refl;
+        moves = quiet entries step.there step.after refl refl refl refl;
         tells = ((λ e. cc), (let before = steps-at shape.block step.pass Held true held writes in let after = steps-at shape.block (after_filled step.pass zeros) Filled true refl writes in omega (arith, before, after, less.1)));
         events_left = (same-room left).0;
         sectors_left = (same-room left).1;
@@ -111,7 +111,7 @@ module _ {shape : Shape} {i : ℕ} {passes passes' : List Pass} (entries : List 
       record {
         pass = s.pass;
         pass' = after_filled s.pass buffer;
-        moves = quiet entries s.there s.after refl refl refl;
+        moves = quiet entries s.there s.after refl refl refl refl;
         tells = ((λ e. cc), (let before = steps-at shape.block s.pass Fetching true fetching writes in let after = steps-at shape.block (after_filled s.pass buffer) Filled true refl writes in omega (arith, before, after, less.4)));
         events_left = (same-room left).0;
         sectors_left = (same-room left).1;
@@ -119,7 +119,7 @@ module _ {shape : Shape} {i : ℕ} {passes passes' : List Pass} (entries : List 
   fetch_settled-drives {base_flies} {base_flies'} {base_tells} {base} (settled.NotYet t) p there phase stands s = record {
     pass = s.pass;
     pass' = s.pass;
-    moves = quiet entries s.there s.after refl refl refl;
+    moves = quiet entries s.there s.after refl refl refl refl;
     tells = s.after ∙ set-there passes i s.pass s.there;
     events_left = (same-room left).0;
     sectors_left = (same-room left).1;
@@ -132,7 +132,7 @@ module _ {shape : Shape} {i : ℕ} {passes passes' : List Pass} (entries : List 
       record {
         pass = s.pass;
         pass' = after_fault (fault.Base s.ticket.number) s.pass;
-        moves = quiet entries s.there s.after refl refl refl;
+        moves = quiet entries s.there s.after refl refl refl refl;
         tells = ((λ e. cc), (let before = steps-at shape.block s.pass Fetching true fetching writes in omega (arith, before, less.3)));
         events_left = (same-room left).0;
         sectors_left = (same-room left).1;
@@ -166,7 +166,7 @@ module _ {shape : Shape} {i : ℕ} {passes passes' : List Pass} {entries entries
       record {
         pass = step.pass;
         pass' = after_issue step.pass step.ticket step.buffer;
-        moves = adds entries entries' (Issue _ _ _) tt step.there step.after refl refl refl step.event;
+        moves = adds entries entries' (Issue _ _ _) tt step.there step.after refl refl refl refl step.event;
         tells = (
           (λ e. cc),
           (let after = steps-at shape.block (after_issue step.pass step.ticket step.buffer) Issuing true refl writes in elim phase [
@@ -191,7 +191,7 @@ module _ {shape : Shape} {i : ℕ} {passes passes' : List Pass} {entries entries
       record {
         pass = s.pass;
         pass' = spent 1 0 (after_piece s.pass);
-        moves = adds entries entries' (Done _) tt s.there e.1 refl refl refl e.2;
+        moves = adds entries entries' (Done _) tt s.there e.1 refl refl refl refl e.2;
         tells = (
           goes-on (nat_lt (s.pass.done + s.pass.piece) s.pass.count),
           (let before = steps-at shape.block s.pass Issuing true issuing writes in let after = steps-at shape.block (spent 1 0 (after_piece s.pass)) (if nat_lt (s.pass.done + s.pass.piece) s.pass.count then Asked else Ready) true refl writes in
@@ -203,7 +203,7 @@ module _ {shape : Shape} {i : ℕ} {passes passes' : List Pass} {entries entries
   write_settled-drives (settled.NotYet t) p there phase stands s = let e = s.effect in record {
     pass = s.pass;
     pass' = s.pass;
-    moves = subst (λ (h : List Entry). Moves i s.pass s.pass passes passes' entries h) (sym e.2) (quiet entries s.there (e.1 ∙ sym (set-there passes i s.pass s.there)) refl refl refl);
+    moves = subst (λ (h : List Entry). Moves i s.pass s.pass passes passes' entries h) (sym e.2) (quiet entries s.there (e.1 ∙ sym (set-there passes i s.pass s.there)) refl refl refl refl);
     tells = e.1;
     events_left = (same-room left).0;
     sectors_left = (same-room left).1;
@@ -216,7 +216,7 @@ module _ {shape : Shape} {i : ℕ} {passes passes' : List Pass} {entries entries
       record {
         pass = s.pass;
         pass' = spent 1 0 (after_fault (fault.Store s.ticket.number) s.pass);
-        moves = adds entries entries' (Broke _) tt s.there e.1 refl refl refl e.2;
+        moves = adds entries entries' (Broke _) tt s.there e.1 refl refl refl refl e.2;
         tells = ((λ e. cc), (let before = steps-at shape.block s.pass Issuing true issuing writes in omega (arith, before, less.6)));
         events_left = (same-room left).0;
         sectors_left = (same-room left).1;
@@ -231,7 +231,7 @@ module _ {i : ℕ} {passes passes' : List Pass} {entries entries' : List Entry} 
       record {
         pass = s.pass;
         pass' = after_reply s.pass;
-        moves = adds entries entries' (Reply _ _) tt s.there s.after refl refl refl s.event;
+        moves = adds entries entries' (Reply _ _) tt s.there s.after refl refl refl refl s.event;
         tells = (refl, s.is, (let before = steps-at block s.pass Ready s.pass.write ready refl in omega (arith, before)));
         events_left = events_more;
         sectors_left = sectors_more;
@@ -252,7 +252,7 @@ module _ {shape : Shape} {i : ℕ} {passes passes' : List Pass} (left : Room) wh
       record {
         pass = step.pass;
         pass' = after_look step.pass step.ticket;
-        moves = quiet entries step.there step.after refl refl refl;
+        moves = quiet entries step.there step.after refl refl refl refl;
         tells = ((λ e. cc), (let before = steps-at shape.block step.pass Held false held reads in let after = steps-at shape.block (after_look step.pass step.ticket) Looking false refl reads in omega (arith, before, after, less.0)));
         events_left = (same-room left).0;
         sectors_left = (same-room left).1;
@@ -268,7 +268,7 @@ module _ {shape : Shape} {i : ℕ} {passes passes' : List Pass} (left : Room) wh
       record {
         pass = step.pass;
         pass' = after_base_look step.pass step.ticket;
-        moves = quiet entries step.there step.after refl refl refl;
+        moves = quiet entries step.there step.after refl refl refl refl;
         tells = ((λ e. cc), (let before = steps-at shape.block step.pass Held false held reads in let after = steps-at shape.block (after_base_look step.pass step.ticket) Looking false refl reads in omega (arith, before, after, less.0)));
         events_left = (same-room left).0;
         sectors_left = (same-room left).1;
@@ -283,7 +283,7 @@ module _ {shape : Shape} {i : ℕ} {passes passes' : List Pass} (left : Room) wh
       record {
         pass = s.pass;
         pass' = spent 1 s.pass.piece (after_piece s.pass);
-        moves = adds entries entries' (Seen _ _ content) tt s.there s.after refl refl refl s.event;
+        moves = adds entries entries' (Seen _ _ content) tt s.there s.after refl refl refl refl s.event;
         tells = (
           goes-on (nat_lt (s.pass.done + s.pass.piece) s.pass.count),
           (let after = steps-at shape.block (spent 1 s.pass.piece (after_piece s.pass)) (if nat_lt (s.pass.done + s.pass.piece) s.pass.count then Asked else Ready) false refl reads in
@@ -307,7 +307,7 @@ module _ {shape : Shape} {i : ℕ} {passes passes' : List Pass} (left : Room) wh
   ends_read-drives {entries} {entries'} content out out' (settled.NotYet t) why q p there phase stands there_q e = record {
     pass = q;
     pass' = q;
-    moves = subst (λ (h : List Entry). Moves i q q passes passes' entries h) (sym e.1) (quiet entries there_q (e.0 ∙ sym (set-there passes i q there_q)) refl refl refl);
+    moves = subst (λ (h : List Entry). Moves i q q passes passes' entries h) (sym e.1) (quiet entries there_q (e.0 ∙ sym (set-there passes i q there_q)) refl refl refl refl);
     tells = e.0;
     events_left = (same-room left).0;
     sectors_left = (same-room left).1;
@@ -319,7 +319,7 @@ module _ {shape : Shape} {i : ℕ} {passes passes' : List Pass} (left : Room) wh
       record {
         pass = q;
         pass' = after_fault why q;
-        moves = subst (λ (h : List Entry). Moves i q (after_fault why q) passes passes' entries h) (sym e.1) (quiet entries there_q e.0 refl refl refl);
+        moves = subst (λ (h : List Entry). Moves i q (after_fault why q) passes passes' entries h) (sym e.1) (quiet entries there_q e.0 refl refl refl refl);
         tells = ((λ x. cc), (let before = steps-at shape.block q Looking false looking reads in omega (arith, before, less.1)));
         events_left = (same-room left).0;
         sectors_left = (same-room left).1;
@@ -330,7 +330,7 @@ pub still-drives : {i : ℕ} {passes passes' : List Pass} (by block : ℕ) (entr
 still-drives {i} {passes} {passes'} by block entries left p there same = record {
   pass = p;
   pass' = p;
-  moves = quiet entries there (same ∙ sym (set-there passes i p there)) refl refl refl;
+  moves = quiet entries there (same ∙ sym (set-there passes i p there)) refl refl refl refl;
   tells = same;
   events_left = (same-room left).0;
   sectors_left = (same-room left).1;

@@ -1,9 +1,9 @@
 -- A request is asked.
-use Rattle.std.specs.Prelude.{ℕ, ◌≡◌, ◌↔◌, ◌⊎◌, ◌+◌, ◌-◌, ◌/◌, ◌^◌, ◌<◌, ◌≤◌, List, [], ◌∷◌, Option, None, Some, length}
+use Rattle.std.specs.Prelude.{ℕ, ◌≡◌, ◌↔◌, ◌⊎◌, ◌+◌, ◌-◌, ◌/◌, ◌^◌, ◌<◌, ◌≤◌, false, List, [], ◌∷◌, Option, None, Some, length}
 use Rattle.vd_law.specs.declared.entry.Room.{Room}
 use Rattle.vd_law.specs.declared.entry.Answer.{Answer}
 use Rattle.vd_law.specs.declared.entry.Answer.TheVariants.{Ok, NoRoom, Full}
-use Rattle.vd_law.specs.Entries.{Asked, Write}
+use Rattle.vd_law.specs.Entries.{Asked, Read, Write, Flush}
 use Rattle.vd_law.specs.Logs.{asked_content}
 use Rattle.vd_law.specs.Histories.{Numbered, last_number}
 use Rattle.vd_law.specs.Rules.{IsInside}
@@ -11,7 +11,7 @@ use Rattle.vd_table.specs.Tables.{Given, Has, IsOneToOne, used}
 use Rattle.vd_table.specs.Runs.{lacking, TakesRun}
 use Rattle.vd_passes.specs.declared.shape.Shape.{Shape}
 use Rattle.vd_passes.specs.declared.pass.Pass.{Pass}
-use Rattle.vd_passes.specs.Needs.{need_of, sectors_of}
+use Rattle.vd_passes.specs.Needs.{need_of}
 use Rattle.vd_passes.specs.Steps.{IsAt, Asks, AsksFull}
 use Rattle.vd_core.specs.Adding.{Extends}
 
@@ -34,6 +34,12 @@ pub record Claims (table table' : Given) (from count : ℕ) : Type 0 where
   pub chunks : length table'.chunks ≡ length table.chunks
   pub storage : table'.storage ≡ table.storage
   pub one_to_one : IsOneToOne table'
+
+-- a read or a write has 1 to 2,048 sectors
+abbrev pub HasSize : Asked → Type 0
+HasSize (Read first count) = (0 < count) × (count ≤ 2048)
+HasSize (Write first content) = (0 < length content) × (length content ≤ 2048)
+HasSize Flush = Unit {0}
 
 -- the room suffices
 abbrev pub Suffices : (need left : Room) → Type 0
@@ -58,7 +64,7 @@ pub record CanAsk (shape : Shape) (table : Given) (passes : List Pass) (history 
   pub some_chunk : 0 < shape.chunk
   pub few : length passes ≤ 64
   pub there : IsAt passes i (λ p. p.call + history.log.left.events < 2 ^ 64)
-  pub some : 0 < sectors_of request
+  pub size : HasSize request
   pub range : IsInside (2 ^ 26) request
   pub run : run_from shape request + run_count shape request ≤ length table.chunks
   pub spare_events : spare.events ≤ history.log.left.events
@@ -73,9 +79,9 @@ pub record CanReply (passes : List Pass) (history : Numbered) (spare : Room) (ev
   pub part_sectors : spare.sectors + p.sectors ≤ history.log.left.sectors
   pub later : last_number history.opened history.numbers ≤ events
 
--- the answer is Ok exactly where all sectors of the request are done
+-- the answer to a read or a write is Ok exactly where all its sectors are done
 abbrev pub IsOkWhereDone : Answer → Pass → Type 0
-IsOkWhereDone answer p = (answer ≡ Ok) ↔ (p.done ≡ p.count)
+IsOkWhereDone answer p = p.flush ≡ false → (answer ≡ Ok) ↔ (p.done ≡ p.count)
 
 -- nothing of these has changed
 pub record IsSame (table table' : Given) (passes passes' : List Pass) (history history' : Numbered) (left left' : Room) : Type 0 where

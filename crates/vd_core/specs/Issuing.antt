@@ -7,6 +7,10 @@ use Rattle.vd_device.specs.declared.ticket.Kind.TheVariants.{Write}
 use Rattle.vd_device.specs.Tickets.{Puts}
 use Rattle.vd_device.specs.Disks.{Disk, Adds}
 use Rattle.vd_device.specs.Calls.{issued}
+use Rattle.vd_device.specs.declared.settled.Settled.{Settled}
+use Rattle.vd_device.specs.declared.settled.Settled.TheVariants as settled
+use Rattle.vd_meta.specs.Keeping.{Keeping}
+use Rattle.vd_meta.specs.Moves.{owing}
 use Rattle.vd_passes.specs.declared.shape.Shape.{Shape}
 use Rattle.vd_passes.specs.declared.pass.Pass.{Pass}
 use Rattle.vd_passes.specs.declared.pass.Phase.TheVariants.{Held, Filled}
@@ -40,3 +44,9 @@ pub record CanIssue (shape : Shape) (fresh : List Bool) (sectors depth : ℕ) (f
 pub record IsWritable (shape : Shape) (fresh : List Bool) (p : Pass) : Type 0 where
   pub write : p.write ≡ true
   pub way : ((p.phase ≡ Held) × ((slice_get fresh p.block ≡ Some true) ⊎ (p.piece ≡ shape.block))) ⊎ (p.phase ≡ Filled)
+
+-- what the end of a write makes of the metadata: where it is done its block is owed, unless every image has it
+abbrev pub owed_after : Settled → (block : ℕ) → Keeping → Keeping
+owed_after settled.Done block k = owing block k
+owed_after (settled.NotYet same) block k = k
+owed_after (settled.Failed number) block k = k

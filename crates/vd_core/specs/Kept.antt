@@ -8,16 +8,25 @@ use Rattle.vd_law.specs.Histories.{Numbered, last_number}
 use Rattle.vd_device.specs.declared.ticket.Ticket.{Ticket}
 use Rattle.vd_device.specs.Disks.{Disk}
 use Rattle.vd_regions.specs.declared.regions.Region.{Region}
+use Rattle.vd_format.specs.declared.header.Header.{Header}
+use Rattle.vd_format.specs.declared.map.Entry.{Entry as MapEntry}
 use Rattle.vd_table.specs.Tables.{Given, IsOneToOne}
-use Rattle.vd_reading.specs.Background.{background, background_run}
+use Rattle.vd_replay.specs.declared.state.State.{State}
+use Rattle.vd_replay.specs.States.{IsSized}
+use Rattle.vd_image.specs.Image.{geometry_of}
+use Rattle.vd_meta.specs.Keeping.{Keeping}
+use Rattle.vd_metadata.specs.Attending.{IsAttended}
+use Rattle.vd_reading.specs.Background.{background}
 use Rattle.vd_passes.specs.declared.shape.Shape.{Shape}
 use Rattle.vd_passes.specs.declared.pass.Pass.{Pass}
 use Rattle.vd_passes.specs.Places.{place_of}
 use Rattle.vd_passes.specs.Needs.{HasRoom}
 use Rattle.vd_passes.specs.Passes.{region_of}
 use Rattle.vd_passes.specs.Coherent.{IsCoherent, IsFaithful}
+use Rattle.vd_passes.specs.Following.{IsFollowed}
 use Rattle.vd_passes.specs.Causes.{OfStore, OfBase, IsBlamed, AreOfPasses}
 use Rattle.vd_core.specs.Storing.{IsStoredBy}
+use Rattle.vd_core.specs.Start.{IsStart, opening_at}
 
 -- The room in the history: each pass has reserved what its request may still need, the spare room is what is left beside that,
 -- and the numbers of the entries are not above the store's number of events.
@@ -46,18 +55,27 @@ pub record IsKept (shape : Shape) (table : Given) (fresh : List Bool) (regions :
 
 -- Why the answers of a history are as they are: each fault names a ticket of its device, which has failed as often, a Full is due
 -- to what writes have taken, and each entry is of one of the passes.
-pub record IsAccounted (shape : Shape) (table : Given) (passes : List Pass) (history : List Entry)
+pub record IsAccounted (shape : Shape) (had : List MapEntry) (table : Given) (passes : List Pass) (history : List Entry)
     (last faults_at_opening faults base_last base_faults_at_opening base_faults : ℕ) : Type 0 where
   pub of_store : IsBlamed OfStore passes history last faults_at_opening faults
   pub of_base : IsBlamed OfBase passes history base_last base_faults_at_opening base_faults
-  pub stored : IsStoredBy shape table history
+  pub stored : IsStoredBy shape had table history
   pub of_passes : AreOfPasses passes history
 
--- the guest's disk at opening: no block is local
-abbrev pub start_of : Shape → (base : List Sector) → List Sector
-start_of shape base = background_run base shape.tracked 0 (shape.block * shape.blocks)
+-- What is kept where the store tells: what it had told at opening is the first part of its log, and the store faults are traced.
+pub record IsLogged (passes : List Pass) (history : Numbered) (disk : Disk) : Type 0 where
+  pub since : history.opened ≤ length disk.log
+  pub followed : IsFollowed passes history.log.entries history.numbers disk.log
 
--- and what is kept where both devices tell
-pub record IsTold (shape : Shape) (table : Given) (fresh : List Bool) (passes : List Pass) (history : Numbered) (disk : Disk) (last : ℕ) (base : List Sector) (base_sectors : ℕ) : Type 0 where
+-- And what is kept where both devices tell: from whatever the guest's disk was when the core was made, by the store's first `opened`
+-- events, each read saw what could stand there, and the store agrees with the history.
+pub record IsTold (shape : Shape) (h : Header) (table : Given) (fresh : List Bool) (passes : List Pass) (history : Numbered) (disk : Disk) (last : ℕ) (base : List Sector) (base_sectors : ℕ) : Type 0 where
   pub base_size : length base ≡ base_sectors
-  pub faithful : IsFaithful (start_of shape base) (background base shape.tracked) shape fresh (place_of shape table.chunks) passes history.log.entries disk last
+  pub faithful : (start : List Sector) → IsStart (opening_at history.opened disk) base h start
+      → IsFaithful start (background base shape.tracked) shape fresh (place_of shape table.chunks) passes history.log.entries disk last
+
+-- The metadata: the keeper and the pass that flushes are attended to, and the state from which the core was opened can be read again.
+pub record IsRecorded (shape : Shape) (state : State) (passes : List Pass) (flusher : Option ℕ) (k : Keeping) : Type 0 where
+  pub attended : IsAttended shape state.table state.fresh.bits passes flusher k
+  pub sized : IsSized state
+  pub same : geometry_of k.header ≡ geometry_of state.header

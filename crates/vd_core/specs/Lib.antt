@@ -12,3 +12,5 @@ pub mod Opening
 pub mod Moves
 pub mod Storing
 pub mod Leaving
+pub mod Start
+pub mod Flushing

@@ -5,7 +5,7 @@ use Rattle.vd_law.specs.declared.entry.Room.{Room}
 use Rattle.vd_law.specs.Entries.{Entry, Ask}
 use Rattle.vd_passes.specs.declared.pass.Pass.{Pass}
 use Rattle.vd_passes.specs.declared.pass.Phase.{Phase}
-use Rattle.vd_passes.specs.declared.pass.Phase.TheVariants.{Idle, Asked, Held, Fetching, Filled, Issuing, Looking, Ready}
+use Rattle.vd_passes.specs.declared.pass.Phase.TheVariants.{Idle, Asked, Held, Fetching, Filled, Issuing, Looking, Flushing, Ready}
 use Rattle.vd_passes.specs.Needs.{pieces_left}
 use Rattle.vd_passes.specs.declared.shape.Shape.{Shape}
 use Rattle.vd_passes.specs.Passes.{has_region, writes_in, IsPiece, answer_of}
@@ -27,6 +27,7 @@ steps_in Fetching write pieces = 5 * pieces - 1
 steps_in Filled write pieces = 5 * pieces - 2
 steps_in Issuing write pieces = 5 * pieces - 3
 steps_in Looking write pieces = 3 * pieces - 1
+steps_in Flushing write pieces = 0
 steps_in Ready write pieces = 1
 
 abbrev pub steps_left : (block : ℕ) → Pass → ℕ
@@ -37,6 +38,7 @@ pub record Moves (i : ℕ) (p p' : Pass) (passes passes' : List Pass) (entries e
   pub there : slice_get passes i ≡ Some p
   pub after : passes' ≡ slice_set passes i p'
   pub write : p'.write ≡ p.write
+  pub flush : p'.flush ≡ p.flush
   pub count : p'.count ≡ p.count
   pub call : p'.call ≡ p.call
   pub more : List Entry
@@ -64,5 +66,7 @@ pub record IsStanding (shape : Shape) (p : Pass) : Type 0 where
   pub some : 0 < shape.block
   pub write : writes_in p.phase ≡ true → p.write ≡ true
   pub read : p.phase ≡ Looking → p.write ≡ false
-  pub left : p.phase ≡ Asked → p.done < p.count
+  pub left : p.phase ≡ Asked → p.flush ≡ false → p.done < p.count
+  pub flush : p.phase ≡ Flushing → p.flush ≡ true
+  pub no_flush : has_region p.phase ≡ true → p.flush ≡ false
   pub piece : has_region p.phase ≡ true → IsPiece shape p

@@ -1,17 +1,23 @@
 -- A core as it is made.
 use Rattle.std.specs.Prelude.{ℕ, ◌≡◌, min, List, [], true, false, None, IsSome, length, replicate, Some, slice_get}
+use Rattle.vd_device.specs.Disks.{Disk}
 use Rattle.vd_law.specs.declared.entry.Room.{Room}
 use Rattle.vd_law.specs.declared.entry.CallId.{CallId}
 use Rattle.vd_law.specs.Entries.{Entry, past}
 use Rattle.vd_law.specs.Calls.{progress}
 use Rattle.vd_law.specs.Histories.{Numbered}
 use Rattle.vd_format.specs.declared.header.Header.{Header}
-use Rattle.vd_format.specs.Layouts.{blocks_of, chunks_of, storage_start}
+use Rattle.vd_format.specs.Layouts.{blocks_of, storage_start}
+use Rattle.vd_replay.specs.declared.state.State.{State}
+use Rattle.vd_meta.specs.declared.stage.Stage.TheVariants.{Rest}
+use Rattle.vd_meta.specs.declared.stage.Way.TheVariants.{Nothing}
+use Rattle.vd_meta.specs.Keeping.{Keeping, nothing, pages_of}
 use Rattle.vd_reading.specs.Background.{zero_sector}
 use Rattle.vd_passes.specs.declared.shape.Shape.{Shape}
 use Rattle.vd_passes.specs.declared.pass.Pass.{Pass}
 use Rattle.vd_passes.specs.Passes.{IsNew}
 use Rattle.vd_core.specs.View.{View}
+use Rattle.vd_core.specs.Start.{opening_at}
 
 -- the shape of the disk of an image with this header
 abbrev pub shape_of : Header → (base_sectors : ℕ) → Shape
@@ -33,16 +39,38 @@ pub record AreNew (count block : ℕ) (passes : List Pass) : Type 0 where
 abbrev pub empty_history : Room → (events : ℕ) → Numbered
 empty_history room events = record { log = record { entries = []; left = room; room = room }; numbers = []; opened = events }
 
--- a core in which no block is local and nothing was asked
-pub record IsOpened {S B : Type 0} (h : Header) (passes : ℕ) (room : Room) (store : S) (base : B) (base_sectors events store_faults base_faults : ℕ) (core : View S B) : Type 0 where
+-- what the keeper of an image knows that was opened as this state: every image has its local blocks, and nothing is owed
+abbrev pub new_keeping : State → Keeping
+new_keeping s = record {
+  header = s.header;
+  sure = true;
+  next = s.cursor.next;
+  stage = Rest;
+  way = Nothing;
+  stale = s.fresh.bits;
+  owed = nothing (blocks_of s.header);
+  snapshot = nothing (blocks_of s.header);
+  marked = s.more;
+  put = nothing (pages_of s.header);
+  logged = 0;
+  head = false;
+}
+
+-- a core over an image that was opened as this state, in which nothing was asked
+pub record IsOpened {S B : Type 0} (s : State) (passes : ℕ) (room : Room) (store : S) (base : B) (base_sectors events store_faults base_faults : ℕ) (disk : Disk) (core : View S B) : Type 0 where
   pub store_is : core.store ≡ store
   pub base_is : core.base ≡ base
-  pub shape_is : core.shape ≡ shape_of h base_sectors
-  pub table_is : core.table ≡ record { chunks = replicate (chunks_of h) None; storage = h.storage }
-  pub fresh_is : core.fresh ≡ replicate (blocks_of h) false
-  pub passes_are : AreNew passes h.block core.passes
+  pub shape_is : core.shape ≡ shape_of s.header base_sectors
+  pub table_is : core.table ≡ s.table
+  pub fresh_is : core.fresh ≡ s.fresh.bits
+  pub keeping_is : core.keeping ≡ new_keeping s
+  pub flusher_is : core.flusher ≡ None
+  pub passes_are : AreNew passes s.header.block core.passes
   pub history_is : core.history ≡ empty_history room events
   pub spare_is : core.spare ≡ room
+  pub header_is : core.header ≡ s.header
+  pub entries_are : core.entries ≡ s.map
+  pub opening_is : core.opening ≡ opening_at events disk
   pub store_faults_are : core.store_faults ≡ store_faults
   pub base_faults_are : core.base_faults ≡ base_faults
 

@@ -6,14 +6,9 @@ use Rattle.vd_regions.specs.declared.regions.Region.{Region}
 use Rattle.vd_core.specs.declared.outcome.Step.{Step}
 use Rattle.vd_core.specs.declared.outcome.Step.TheVariants.{Again}
 use Rattle.vd_core.specs.declared.outcome.Step.TheVariants as step
-use Rattle.vd_core.specs.declared.outcome.Outcome.{Outcome}
-use Rattle.vd_core.specs.declared.outcome.Outcome.TheVariants.{Done, Late, Failed}
-
--- the outcome of this answer
-abbrev pub outcome_of : Settled → Outcome
-outcome_of settled.Done = Done
-outcome_of (settled.NotYet same) = Late
-outcome_of (settled.Failed number) = Failed
+use Rattle.vd_metadata.specs.declared.outcome.Outcome.{Outcome}
+use Rattle.vd_metadata.specs.declared.outcome.Outcome.TheVariants.{Done, Late, Failed}
+pub use Rattle.vd_metadata.specs.Flushing.{outcome_of}
 
 -- the numbers of the entries that a settle adds: one, unless it was late
 abbrev pub numbers_of : Settled → (events : ℕ) → List ℕ

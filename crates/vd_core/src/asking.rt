@@ -1,7 +1,7 @@
 //! A request is asked, and a reply is given.
 
-ghost use Rattle.std.specs.Prelude.{◌≡◌, ◌≢◌, ◌+◌, ◌-◌, ◌*◌, ◌^◌, [], ◌∷◌, ◌<◌, ◌≤◌, length};
-ghost use Rattle.vd_law.specs.Entries.{asked_of, Flush};
+ghost use Rattle.std.specs.Prelude.{◌≡◌, ◌+◌, ◌-◌, ◌*◌, ◌^◌, [], ◌∷◌, ◌<◌, ◌≤◌, length};
+ghost use Rattle.vd_law.specs.Entries.{asked_of};
 ghost use Rattle.vd_law.specs.declared.entry.Answer.TheVariants.{Full};
 ghost use Rattle.vd_law.specs.Logs.{asked_content};
 ghost use Rattle.vd_passes.specs.Needs.{need_of, pieces, sectors_of};
@@ -63,7 +63,6 @@ pub(crate) fn ask_request<S: Store>(
 )
     requires there { IsAt passes.old.items pass (λ p. p.call < 2 ^ 64 - 1) }
     requires few { length passes.old.items ≤ 64 }
-    requires no_flush { asked_of request ≢ Flush }
     requires room { CanAdd (length (asked_content (asked_of request))) history.old (S.events store.now) }
     ensures asks { Asks (asked_of request.entry) left.events left.sectors pass passes.old.items passes.new.items history.old.log.entries history.new.log.entries }
     ensures extends { Extends (S.events store.now ∷ []) (length (asked_content (asked_of request.entry))) history.old history.new }

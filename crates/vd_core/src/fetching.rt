@@ -10,8 +10,8 @@ ghost use Rattle.vd_core.specs.Outcomes.{outcome_of};
 ghost use Rattle.vd_core.specs.Devices.{BaseStays};
 ghost use Rattle.vd_core.specs.Fetching.{FetchesBlock};
 
-use crate::outcome::Outcome;
 use vd_device::{Base, Settled};
+use vd_metadata::Outcome;
 use vd_passes::pass::{Fault, Pass};
 use vd_passes::shape::Shape;
 

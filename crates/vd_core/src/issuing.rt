@@ -11,14 +11,16 @@ ghost use Rattle.vd_passes.specs.Steps.{IsAt, CanWrite, IsWaiting, Issues, Write
 ghost use Rattle.vd_core.specs.Adding.{CanAdd, Extends};
 ghost use Rattle.vd_core.specs.Outcomes.{outcome_of, numbers_of};
 ghost use Rattle.vd_core.specs.Devices.{Stays};
-ghost use Rattle.vd_core.specs.Issuing.{Submits, CanIssue};
+ghost use Rattle.vd_core.specs.Issuing.{Submits, CanIssue, owed_after};
+ghost use Rattle.vd_format.specs.Layouts.{blocks_of};
 
 use crate::adding::{add, call_id};
-use crate::outcome::Outcome;
 use vd_bits::bits::Bits;
 use vd_device::{Settled, Store, Ticket};
 use vd_law::entry::{Event, Sector};
 use vd_law::history::History;
+use vd_meta::Keeper;
+use vd_metadata::Outcome;
 use vd_passes::pass::{Fault, Pass, Phase};
 use vd_passes::shape::Shape;
 
@@ -77,22 +79,25 @@ pub(crate) fn issue_piece<S: Store>(
     p.begin_issue(ticket);
 }
 
-/// Settles the write of a pass. Where it is done its block is fresh.
+/// Settles the write of a pass. Where it is done its block is fresh, and owed unless every image has it.
 pub(crate) fn settle_write<S: Store>(
     store: &mut S,
     shape: &Shape,
     fresh: &mut Bits,
+    keeper: &mut Keeper,
     passes: &mut Vec<Pass>,
     history: &mut History,
     pass: usize,
 ) -> Outcome
+    requires blocks { blocks_of keeper.old.header ≡ length fresh.old.bits }
     requires waiting { IsAt passes.old.items pass (λ p. IsWaiting Write shape.now (S.flies store.old) p × (p.block < length fresh.old.bits)) }
     requires few { length passes.old.items ≤ 64 }
     requires room { CanAdd 0 history.old (S.events store.old) }
     ensures settled { (answer : AnySettled) × (result ≡ outcome_of answer) × WriteSettled answer pass fresh.old.bits fresh.new.bits passes.old.items passes.new.items history.old.log.entries history.new.log.entries
         (S.flies store.old) (S.flies store.new) (S.tells store.old) (S.tells store.new) (S.disk store.old) (S.disk store.new) (S.last store.old) (S.last store.new)
         × Extends (numbers_of answer (S.events store.new)) 0 history.old history.new
-        × IsCaused answer (S.faults store.old) (S.faults store.new) (S.late store.old) (S.late store.new) }
+        × IsCaused answer (S.faults store.old) (S.faults store.new) (S.late store.old) (S.late store.new)
+        × IsAt passes.old.items pass (λ p. keeper.new ≡ owed_after answer p.block keeper.old) }
     ensures chunk { fresh.new.chunk ≡ fresh.old.chunk }
     ensures recorded_before { S.records store.new → S.records store.old }
     ensures stays { Stays (S.sectors store.old) (S.sectors store.new) (S.depth store.old) (S.depth store.new) (S.events store.old) (S.events store.new) }
@@ -104,6 +109,7 @@ pub(crate) fn settle_write<S: Store>(
         Settled::Done => {
             add(store, history, Event::Done { id });
             fresh.set(p.block as u32);
+            keeper.owe(p.block as u32);
             p.end_piece();
             p.spend(1, 0);
             Outcome::Done

@@ -5,6 +5,7 @@ mod adding;
 mod asking;
 mod entering;
 mod fetching;
+mod flushing;
 mod issuing;
 mod looking;
 mod opening;
@@ -14,6 +15,7 @@ mod requests;
 mod state;
 mod writes;
 
+pub use flushing::Begun;
 pub use opening::{Closed, Unopened};
 pub use outcome::Step;
 pub use state::Core;

@@ -16,10 +16,10 @@ ghost use Rattle.vd_core.specs.Devices.{Stays, BaseStays};
 
 use crate::adding::{add, call_id};
 use crate::fetching::below;
-use crate::outcome::Outcome;
 use vd_device::{Base, Settled, Store, Ticket};
 use vd_law::entry::{Event, Sector};
 use vd_law::history::History;
+use vd_metadata::Outcome;
 use vd_passes::buffer::clear;
 use vd_passes::pass::{Fault, Pass};
 use vd_passes::shape::Shape;

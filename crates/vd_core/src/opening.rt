@@ -1,8 +1,10 @@
 //! A core is made over two devices, and taken apart.
 
-ghost use Rattle.std.specs.Prelude.{ℕ, ◌≡◌, ◌+◌, ◌*◌, ◌^◌, ◌<◌, ◌≤◌, ◌++◌, [], ◌∷◌, None, false, replicate, min, IfOk, IfErr, length, slice_get, Some, vec_capacity};
+ghost use Rattle.std.specs.Prelude.{ℕ, ◌≡◌, ◌+◌, ◌*◌, ◌^◌, ◌<◌, ◌≤◌, ◌++◌, List, [], ◌∷◌, None, replicate, IfOk, IfErr, length, slice_get, Some, vec_capacity};
+ghost use Rattle.vd_law.specs.declared.entry.Sector.{Sector};
 ghost use Rattle.vd_format.specs.Headers.{IsValid};
-ghost use Rattle.vd_format.specs.Layouts.{blocks_of, chunks_of, need_of};
+ghost use Rattle.vd_format.specs.Layouts.{need_of};
+ghost use Rattle.vd_replay.specs.States.{IsSized, IsWhole, Says};
 ghost use Rattle.vd_passes.specs.declared.pass.Pass.{Pass as AnyPass};
 ghost use Rattle.vd_passes.specs.declared.pass.Phase.TheVariants.{Idle};
 ghost use Rattle.vd_law.specs.Rules.{IsRegular, IsLegal};
@@ -10,22 +12,23 @@ ghost use Rattle.vd_passes.specs.Passes.{IsNew};
 ghost use Rattle.vd_passes.specs.Causes.{OfStore, OfBase, AreCaused};
 ghost use Rattle.vd_passes.specs.Tracing.{AreTraced};
 ghost use Rattle.vd_core.specs.Storing.{AreFullsCaused};
-ghost use Rattle.vd_core.specs.Kept.{start_of};
-ghost use Rattle.vd_core.specs.Opening.{AreReplied, shape_of, AreNew, IsOpened, empty_history};
+ghost use Rattle.vd_core.specs.Start.{IsStart};
+ghost use Rattle.vd_core.specs.Opening.{AreReplied, shape_of, new_keeping, AreNew, IsOpened, empty_history};
 
 use crate::state::Core;
 use std::alloc::Global;
-use vd_bits::bits::Bits;
+use vd_bits::marked::Marked;
 use vd_device::{Base, Store};
 use vd_format::Header;
 use vd_header::layout_of;
 use vd_law::entry::{NoMemory, Room};
 use vd_law::history::History;
+use vd_meta::Keeper;
 use vd_passes::buffer::Buffer;
 use vd_passes::pass::Pass;
 use vd_passes::shape::Shape;
 use vd_regions::regions::Regions;
-use vd_table::table::Table;
+use vd_replay::State;
 
 /// The devices of a core for which there was no memory.
 pub struct Unopened<S, B> {
@@ -38,6 +41,8 @@ pub struct Closed<S, B> {
     pub store: S,
     pub base: B,
     pub history: History,
+    /// As the image was opened, to read it again.
+    pub state: State,
 }
 
 /// The shape of the disk of an image with this header, over a base of so many sectors.
@@ -64,6 +69,7 @@ fn end_passes(passes: Vec<Pass>) {
             phase: _,
             call: _,
             write: _,
+            flush: _,
             first: _,
             count: _,
             done: _,
@@ -90,34 +96,54 @@ fn end_passes(passes: Vec<Pass>) {
 /// The parts of a core that take memory, but for its passes.
 #[derive(Drop)]
 struct Parts {
-    table: Table,
-    fresh: Bits,
+    keeper: Keeper,
     regions: Regions,
     history: History,
 }
 
-/// The parts for an image with this header, in which no block is local, opened when its store has had so many events.
+/// The same marks, which a state keeps too.
+fn copied(alloc: Global, marks: &Marked, pages: u64) -> Result<Marked, NoMemory>
+    requires { pages ≡ length marks.now }
+    ensures { IfOk result (λ copy. copy ≡ marks.now) }
+{
+    let mut copy = Marked::new(alloc, pages)?;
+    let mut from = 0;
+    while let Some(page) = marks.first_from(from) {
+        copy.mark(page);
+        from = page + 1;
+    }
+    Ok(copy)
+}
+
+/// The parts for an image that was opened as this state, when its store has had so many events.
 fn new_parts(
     alloc: Global,
-    header: &Header,
+    state: &State,
     passes: u32,
     room: Room,
     events: u64,
 ) -> Result<Parts, NoMemory>
-    requires header { IsValid header.now }
+    requires whole { IsWhole state.now }
+    requires version { state.now.header.version ≡ 2 }
     requires some { 0 < passes }
     requires most { passes ≤ 64 }
-    ensures table { IfOk result (λ parts. parts.table ≡ record { chunks = replicate (chunks_of header.now) None; storage = header.now.storage }) }
-    ensures fresh { IfOk result (λ parts. parts.fresh ≡ record { chunk = header.now.chunk; bits = replicate (blocks_of header.now) false }) }
+    ensures keeper { IfOk result (λ parts. parts.keeper ≡ new_keeping state.now) }
     ensures regions { IfOk result (λ parts. parts.regions ≡ replicate passes None) }
     ensures history { IfOk result (λ parts. parts.history ≡ empty_history room events) }
 {
-    let layout = layout_of(header);
+    let layout = layout_of(&state.header);
     let mut history = History::new(alloc, room)?;
     history.open_at(events);
+    let marked = copied(alloc, &state.more, layout.slots_at - layout.spare_at)?;
+    let keeper = Keeper::new(
+        alloc,
+        &state.header,
+        &state.fresh,
+        marked,
+        state.cursor.next,
+    )?;
     Ok(Parts {
-        table: Table::new(alloc, layout.chunks, header.storage)?,
-        fresh: Bits::new(alloc, layout.blocks, header.chunk)?,
+        keeper,
         regions: Regions::new(alloc, passes)?,
         history,
     })
@@ -160,25 +186,26 @@ fn room_of(events: u64, sectors: u64) -> Room
 }
 
 impl<S: Store, B: Base> Core<S, B> {
-    /// A core over the store of an image with this header, in which no block is local and no journal record counts, and over
-    /// its base, with 1 to 64 passes and room for a history. Nothing is in flight on either device. Want of memory hands both back.
+    /// A core over the store of an image of version 2 that was opened as this state, since when the store had no call, and over its
+    /// base, with 1 to 64 passes and room for a history. Nothing is in flight on either device. Want of memory hands all back.
     pub fn new(
         alloc: Global,
         store: S,
         base: B,
-        header: &Header,
+        state: State,
         passes: u32,
         room: Room,
     ) -> Result<Core<S, B>, Unopened<S, B>>
-        requires header { IsValid header.now }
-        requires fits { need_of header.now ≤ S.sectors store }
+        requires whole { IsWhole state }
+        requires version { state.header.version ≡ 2 }
+        requires fits { need_of state.header ≤ S.sectors store }
+        requires says { S.tells store → Says (S.disk store).held state }
         requires idle { S.flies store [] }
         requires base_idle { B.flies base [] }
         requires some { 0 < passes }
         requires most { passes ≤ 64 }
         ensures back { IfErr result (λ refused. (refused.store ≡ store) × (refused.base ≡ base)) }
-        ensures opened { IfOk result (λ core. IsOpened header.now passes room store base (B.sectors base) (S.events store) (S.faults store) (B.faults base) core) }
-        ensures start { IfOk result (λ core. core.start ≡ start_of core.shape (B.content base)) }
+        ensures opened { IfOk result (λ core. IsOpened state passes room store base (B.sectors base) (S.events store) (S.faults store) (B.faults base) (S.disk store) core) }
     {
         // Asked for what their clauses say alone: the invariant bounds what the devices tell.
         let _known = (
@@ -188,16 +215,15 @@ impl<S: Store, B: Base> Core<S, B> {
             base.depth(),
         );
         let (store_faults, base_faults) = (store.faults(), base.faults());
-        let shape = shape_of(header, base.sectors());
+        let shape = shape_of(&state.header, base.sectors());
         let spare = room_of(room.events, room.sectors);
-        match new_parts(alloc, header, passes, room, store.events()) {
+        match new_parts(alloc, &state, passes, room, store.events()) {
             Err(NoMemory) => Err(Unopened { store, base }),
             Ok(parts) => match new_passes(alloc, passes, shape.block as usize) {
                 Err(NoMemory) => Err(Unopened { store, base }),
                 Ok(passes) => {
                     let Parts {
-                        table,
-                        fresh,
+                        keeper,
                         regions,
                         history,
                     } = parts;
@@ -205,8 +231,9 @@ impl<S: Store, B: Base> Core<S, B> {
                         store,
                         base,
                         shape,
-                        table,
-                        fresh,
+                        state,
+                        keeper,
+                        flusher: None,
                         regions,
                         passes,
                         history,
@@ -219,28 +246,31 @@ impl<S: Store, B: Base> Core<S, B> {
         }
     }
 
-    /// Takes the core apart, once all passes are idle. Nothing is in flight on either device.
+    /// Takes the core apart, once all passes are idle. Nothing is in flight on either device. The state is the one from which the
+    /// core was made, but for its table and its local blocks: it can be read again.
     pub fn finish(self) -> Closed<S, B>
         requires idle { (i : ℕ) (p : AnyPass) → slice_get self.passes i ≡ Some p → p.phase ≡ Idle }
         ensures store { result.store ≡ self.store }
         ensures base { result.base ≡ self.base }
         ensures history { result.history ≡ self.history }
+        ensures state { IsSized result.state × (result.state.header ≡ self.header) }
         ensures calm { S.flies result.store [] }
         ensures base_calm { B.flies result.base [] }
         ensures regular { IsRegular (self.shape.block * self.shape.blocks) result.history.log.entries }
-        ensures legal { S.tells result.store → B.tells result.base → IsLegal self.start result.history.log.entries }
+        ensures legal { S.tells result.store → B.tells result.base → (start : List Sector) → IsStart self.opening (B.content result.base) self.header start → IsLegal start result.history.log.entries }
         ensures replied { AreReplied result.history.log.entries }
         ensures store_faults { AreCaused OfStore result.history.log.entries self.store_faults (S.faults result.store) }
         ensures base_faults { AreCaused OfBase result.history.log.entries self.base_faults (B.faults result.base) }
         ensures traced { S.tells result.store → AreTraced (S.disk result.store).log result.history.log.entries result.history.numbers }
-        ensures full { AreFullsCaused self.shape (length self.table.chunks) self.table.storage result.history.log.entries }
+        ensures full { AreFullsCaused self.shape self.entries (length self.table.chunks) self.table.storage result.history.log.entries }
     {
         let Core {
             store,
             base,
             shape: _,
-            table: _,
-            fresh: _,
+            state,
+            keeper: _,
+            flusher: _,
             regions: _,
             passes,
             history,
@@ -253,6 +283,7 @@ impl<S: Store, B: Base> Core<S, B> {
             store,
             base,
             history,
+            state,
         }
     }
 }

@@ -4,16 +4,8 @@ ghost use Rattle.std.specs.Prelude.{◌≡◌, ◌<◌, length};
 ghost use Rattle.vd_core.specs.Outcomes.{step_of, released, released_failed};
 
 use vd_law::entry::Answer;
+use vd_metadata::Outcome;
 use vd_regions::regions::Regions;
-
-/// How a call in flight went on.
-#[derive(Clone, Copy, Debug, PartialEq, Eq, Drop)]
-pub enum Outcome {
-    Done,
-    /// It isn't done yet.
-    Late,
-    Failed,
-}
 
 /// What a step of a pass tells its caller.
 #[derive(Clone, Copy, PartialEq, Eq, Drop)]
@@ -56,5 +48,15 @@ pub(crate) fn release_failed(regions: &mut Regions, pass: u32, outcome: Outcome)
             regions.free(pass);
             Step::Again
         }
+    }
+}
+
+/// What the step tells its caller.
+pub(crate) fn step_of(outcome: Outcome) -> Step
+    ensures { result ≡ step_of outcome }
+{
+    match outcome {
+        Outcome::Late => Step::Late,
+        Outcome::Done | Outcome::Failed => Step::Again,
     }
 }

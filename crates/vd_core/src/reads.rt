@@ -28,7 +28,8 @@ impl<S: Store, B: Base> Core<S, B> {
         ensures recorded_before { S.records self.new.store → S.records self.old.store }
         ensures calm { IsCalm (S.faults self.old.store) (S.faults self.new.store) (S.late self.old.store) (S.late self.new.store) }
         ensures stays { Stays (S.sectors self.old.store) (S.sectors self.new.store) (S.depth self.old.store) (S.depth self.new.store) (S.events self.old.store) (S.events self.new.store) }
-        ensures others { self.new ≡ record self.old { store = self.new.store; passes = self.new.passes } }
+        ensures others { self.new ≡ record self.old { store = self.new.store; passes = self.new.passes; opening = self.new.opening } }
+        ensures opening { S.tells self.new.store → self.new.opening ≡ self.old.opening }
     {
         look_at_store(
             &mut self.store,
@@ -45,9 +46,8 @@ impl<S: Store, B: Base> Core<S, B> {
         ensures number { IsAt self.new.passes pass (IsNumbered OfBase (B.last self.old.base) (B.last self.new.base)) }
         ensures base_stays { BaseStays (B.sectors self.old.base) (B.sectors self.new.base) (B.depth self.old.base) (B.depth self.new.base) (B.tells self.old.base) (B.tells self.new.base) (B.content self.old.base) (B.content self.new.base) }
         ensures calm { IsCalm (B.faults self.old.base) (B.faults self.new.base) (B.late self.old.base) (B.late self.new.base) }
-        ensures others { self.new ≡ record self.old { base = self.new.base; passes = self.new.passes; start = self.new.start } }
+        ensures others { self.new ≡ record self.old { base = self.new.base; passes = self.new.passes } }
         ensures told_before { B.tells self.new.base → B.tells self.old.base }
-        ensures start { B.tells self.new.base → self.new.start ≡ self.old.start }
     {
         look_at_base(&mut self.base, &self.shape, &mut self.passes, pass as usize);
     }
@@ -84,14 +84,14 @@ impl<S: Store, B: Base> Core<S, B> {
         ensures stays { Stays (S.sectors self.old.store) (S.sectors self.new.store) (S.depth self.old.store) (S.depth self.new.store) (S.events self.old.store) (S.events self.new.store) }
         ensures store_same { IsAt self.old.passes pass (λ p. slice_get self.old.fresh p.block ≡ Some false → self.new.store ≡ self.old.store) }
         ensures base_same { IsAt self.old.passes pass (λ p. (slice_get self.old.fresh p.block ≡ Some true) ⊎ (below self.old.shape.limit (p.first + p.done) p.piece ≡ 0) → self.new.base ≡ self.old.base) }
-        ensures others { self.new ≡ record self.old { store = self.new.store; base = self.new.base; passes = self.new.passes; history = self.new.history; start = self.new.start } }
+        ensures others { self.new ≡ record self.old { store = self.new.store; base = self.new.base; passes = self.new.passes; history = self.new.history; opening = self.new.opening } }
+        ensures opening { S.tells self.new.store → self.new.opening ≡ self.old.opening }
         ensures told_before { S.tells self.new.store → S.tells self.old.store }
         ensures base_told_before { B.tells self.new.base → B.tells self.old.base }
-        ensures start { B.tells self.new.base → self.new.start ≡ self.old.start }
     {
         let p = &self.passes[pass as usize];
         let count = below(&self.shape, p.first + p.done, p.piece);
-        if self.fresh.get(p.block as u32) {
+        if self.state.fresh.get(p.block as u32) {
             self.look_in_store(pass);
         } else if count > 0 {
             self.look_in_base(pass);
@@ -109,7 +109,8 @@ impl<S: Store, B: Base> Core<S, B> {
             × IsCaused answer (S.faults self.old.store) (S.faults self.new.store) (S.late self.old.store) (S.late self.new.store) }
         ensures stays { Stays (S.sectors self.old.store) (S.sectors self.new.store) (S.depth self.old.store) (S.depth self.new.store) (S.events self.old.store) (S.events self.new.store) }
         ensures recorded_before { S.records self.new.store → S.records self.old.store }
-        ensures others { self.new ≡ record self.old { store = self.new.store; passes = self.new.passes; history = self.new.history } }
+        ensures others { self.new ≡ record self.old { store = self.new.store; passes = self.new.passes; history = self.new.history; opening = self.new.opening } }
+        ensures opening { S.tells self.new.store → self.new.opening ≡ self.old.opening }
     {
         let outcome = settle_store_look(
             &mut self.store,
@@ -131,9 +132,8 @@ impl<S: Store, B: Base> Core<S, B> {
             × IsCaused answer (B.faults self.old.base) (B.faults self.new.base) (B.late self.old.base) (B.late self.new.base) }
         ensures number { B.last self.new.base ≡ B.last self.old.base }
         ensures base_stays { BaseStays (B.sectors self.old.base) (B.sectors self.new.base) (B.depth self.old.base) (B.depth self.new.base) (B.tells self.old.base) (B.tells self.new.base) (B.content self.old.base) (B.content self.new.base) }
-        ensures others { self.new ≡ record self.old { base = self.new.base; passes = self.new.passes; history = self.new.history; start = self.new.start } }
+        ensures others { self.new ≡ record self.old { base = self.new.base; passes = self.new.passes; history = self.new.history } }
         ensures told_before { B.tells self.new.base → B.tells self.old.base }
-        ensures start { B.tells self.new.base → self.new.start ≡ self.old.start }
     {
         let outcome = settle_base_look(
             &self.store,
@@ -163,10 +163,10 @@ impl<S: Store, B: Base> Core<S, B> {
         ensures recorded_before { S.records self.new.store → S.records self.old.store }
         ensures store_same { IsAt self.old.passes pass (λ p. p.ticket ≡ None → self.new.store ≡ self.old.store) }
         ensures base_same { IsAt self.old.passes pass (λ p. IsSome p.ticket → self.new.base ≡ self.old.base) }
-        ensures others { self.new ≡ record self.old { store = self.new.store; base = self.new.base; passes = self.new.passes; history = self.new.history; start = self.new.start } }
+        ensures others { self.new ≡ record self.old { store = self.new.store; base = self.new.base; passes = self.new.passes; history = self.new.history; opening = self.new.opening } }
+        ensures opening { S.tells self.new.store → self.new.opening ≡ self.old.opening }
         ensures told_before { S.tells self.new.store → S.tells self.old.store }
         ensures base_told_before { B.tells self.new.base → B.tells self.old.base }
-        ensures start { B.tells self.new.base → self.new.start ≡ self.old.start }
     {
         if self.passes[pass as usize].ticket.is_some() {
             self.settle_store(pass, out)

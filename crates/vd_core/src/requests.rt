@@ -5,13 +5,12 @@ ghost use Rattle.vd_law.specs.Entries.{asked_of};
 ghost use Rattle.vd_law.specs.Logs.{asked_content};
 ghost use Rattle.vd_law.specs.Rules.{IsInside};
 ghost use Rattle.vd_passes.specs.declared.pass.Phase.TheVariants.{Idle, Ready};
-ghost use Rattle.vd_passes.specs.Needs.{sectors_of};
 ghost use Rattle.vd_passes.specs.Steps.{IsAt, Replies};
 ghost use Rattle.vd_table.specs.Tables.{used};
 ghost use Rattle.vd_table.specs.Runs.{lacking};
 ghost use Rattle.vd_core.specs.Adding.{Extends};
 ghost use Rattle.vd_device.specs.Disks.{IsRunning};
-ghost use Rattle.vd_core.specs.Asking.{CanAsk, AskEnds, Claims, CanReply, IsOkWhereDone, run_from, run_count, freed, without};
+ghost use Rattle.vd_core.specs.Asking.{CanAsk, AskEnds, Claims, HasSize, CanReply, IsOkWhereDone, run_from, run_count, freed, without};
 
 use crate::asking::{ask_full, ask_request, need_of, reply_request};
 use crate::state::Core;
@@ -148,15 +147,14 @@ fn reply_in_room<S: Store>(
 }
 
 impl<S: Store, B: Base> Core<S, B> {
-    /// Asks a read or a write of an idle pass, of 1 to 2,048 sectors that lie in the disk. The answer is NoRoom exactly where
+    /// Asks a request of an idle pass: a flush, or a read or a write of 1 to 2,048 sectors that lie in the disk. The answer is NoRoom exactly where
     /// the request needs more events or more sectors than the room that is left has, with that room; then nothing changes.
     /// Else it is Full exactly where a write's range has more chunks without storage than storage chunks are free, with these
     /// two numbers; the call has its Ask and its Reply, and the pass is idle. Else each of the chunks has got the least free
     /// storage chunk, in rising order, the room that the request needs is reserved, and the pass has asked.
     pub fn ask(&mut self, pass: u32, request: Request<'_>) -> Option<Answer>
         requires phase { IsAt self.old.passes pass (λ p. p.phase ≡ Idle) }
-        requires some { 0 < sectors_of (asked_of request) }
-        requires most { sectors_of (asked_of request) ≤ 2048 }
+        requires size { HasSize (asked_of request) }
         requires inside { IsInside (self.old.shape.block * self.old.shape.blocks) (asked_of request) }
         ensures ends { AskEnds result (asked_of request.entry) self.old.shape pass self.old.table self.new.table self.old.passes self.new.passes self.old.history self.new.history self.old.spare self.new.spare (S.events self.old.store) }
         ensures running { S.tells self.new.store → (self.new.history ≡ self.old.history) ⊎ IsRunning (S.events self.new.store) (S.disk self.new.store) }
@@ -165,7 +163,7 @@ impl<S: Store, B: Base> Core<S, B> {
         ask_in_room(
             &self.store,
             &self.shape,
-            &mut self.table,
+            &mut self.state.table,
             &mut self.passes,
             &mut self.history,
             &mut self.spare,
@@ -174,8 +172,8 @@ impl<S: Store, B: Base> Core<S, B> {
         )
     }
 
-    /// Gives a pass that is ready its reply: Ok exactly where all its sectors are done, else the fault of the device that
-    /// failed it, with the ticket and the number of sectors done. The room that the call reserved and didn't use is left again.
+    /// Gives a pass that is ready its reply: to a read or a write Ok exactly where all its sectors are done, else the fault of the
+    /// device that failed it, with the ticket and the number of sectors done. The room that the call reserved and didn't use is left again.
     pub fn reply(&mut self, pass: u32) -> Answer
         requires phase { IsAt self.old.passes pass (λ p. p.phase ≡ Ready) }
         ensures replies { Replies result pass self.old.passes self.new.passes self.old.history.log.entries self.new.history.log.entries }

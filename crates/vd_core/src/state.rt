@@ -1,6 +1,12 @@
 //! The core's parts, and what its type keeps.
 
-ghost use Rattle.std.specs.Prelude.{◌≡◌, ◌*◌, ◌<◌, ◌↔◌, IsTrue, true, length, Some, slice_get};
+ghost use Rattle.std.specs.Prelude.{◌≡◌, ◌*◌, ◌<◌, ◌↔◌, IsTrue, true, List, length, Some, is_some, slice_get};
+ghost use Rattle.vd_law.specs.declared.entry.Sector.{Sector};
+ghost use Rattle.vd_format.specs.Headers.{IsValid};
+ghost use Rattle.vd_image.specs.Image.{geometry_of};
+ghost use Rattle.vd_passes.specs.declared.pass.Phase.TheVariants.{Flushing};
+ghost use Rattle.vd_metadata.specs.Attending.{IsAttended};
+ghost use Rattle.vd_core.specs.Start.{IsStart};
 ghost use Rattle.vd_passes.specs.Passes.{has_region};
 ghost use Rattle.vd_core.specs.Moves.{IsStanding};
 ghost use Rattle.vd_passes.specs.Steps.{IsAt};
@@ -11,14 +17,15 @@ ghost use Rattle.vd_core.specs.Storing.{AreFullsCaused};
 ghost use Rattle.vd_passes.specs.declared.pass.Pass.{Pass as AnyPass};
 
 use std::marker::Model;
-use vd_bits::bits::Bits;
 use vd_device::{Base, Store};
+use vd_format::Header;
 use vd_law::entry::Room;
 use vd_law::history::History;
+use vd_meta::{Keeper, Stage};
 use vd_passes::pass::{Pass, Phase};
 use vd_passes::shape::Shape;
 use vd_regions::regions::Regions;
-use vd_table::table::Table;
+use vd_replay::State;
 
 /// A disk over a store and a base, with a pass for each caller. Each call of a pass is one step; whatever the order of the
 /// steps and whatever the devices answer, the history is a legal one of a flat disk.
@@ -26,8 +33,11 @@ pub struct Core<S: Store, B: Base> {
     pub(crate) store: S,
     pub(crate) base: B,
     pub(crate) shape: Shape,
-    pub(crate) table: Table,
-    pub(crate) fresh: Bits,
+    /// As it was opened, but for the table and the local blocks, which are those of now.
+    pub(crate) state: State,
+    pub(crate) keeper: Keeper,
+    /// The pass whose flush is under way.
+    pub(crate) flusher: Option<u32>,
     pub(crate) regions: Regions,
     pub(crate) passes: Vec<Pass>,
     pub(crate) history: History,
@@ -42,16 +52,33 @@ impl<S: Store, B: Base> Model for Core<S, B> {
 
     ghost Value = { View S B };
 
-    ghost use Rattle.vd_passes.specs.Following.{IsFollowed};
-    ghost use Rattle.vd_core.specs.Kept.{IsKept, IsTold, IsAccounted, start_of};
+    ghost use Rattle.vd_core.specs.Start.{opening_at};
+    ghost use Rattle.vd_core.specs.Kept.{IsKept, IsTold, IsLogged, IsAccounted, IsRecorded};
 
-    ghost view = { λ c. record { store = c.store; base = c.base; shape = c.shape; table = c.table; fresh = c.fresh.bits; passes = c.passes.items; history = c.history; spare = c.spare; start = start_of c.shape (B.content c.base); store_faults = c.store_faults; base_faults = c.base_faults } };
+    ghost view = { λ c. record {
+      store = c.store;
+      base = c.base;
+      shape = c.shape;
+      table = c.state.table;
+      fresh = c.state.fresh.bits;
+      keeping = c.keeper;
+      flusher = c.flusher;
+      passes = c.passes.items;
+      history = c.history;
+      spare = c.spare;
+      header = c.state.header;
+      entries = c.state.map;
+      opening = opening_at c.history.opened (S.disk c.store);
+      store_faults = c.store_faults;
+      base_faults = c.base_faults;
+    } };
 
-    ghost invariant = { λ c. IsKept c.shape c.table c.fresh.bits c.regions c.passes.items c.history c.spare
+    ghost invariant = { λ c. IsKept c.shape c.state.table c.state.fresh.bits c.regions c.passes.items c.history c.spare
         (S.sectors c.store) (S.depth c.store) (S.events c.store) (B.sectors c.base) (B.depth c.base) (S.flies c.store) (B.flies c.base)
-        × (S.tells c.store → B.tells c.base → IsTold c.shape c.table c.fresh.bits c.passes.items c.history (S.disk c.store) (S.last c.store) (B.content c.base) (B.sectors c.base))
-        × IsAccounted c.shape c.table c.passes.items c.history.log.entries (S.last c.store) c.store_faults (S.faults c.store) (B.last c.base) c.base_faults (B.faults c.base)
-        × (S.tells c.store → IsFollowed c.passes.items c.history.log.entries c.history.numbers (S.disk c.store).log) };
+        × (S.tells c.store → B.tells c.base → IsTold c.shape c.state.header c.state.table c.state.fresh.bits c.passes.items c.history (S.disk c.store) (S.last c.store) (B.content c.base) (B.sectors c.base))
+        × IsAccounted c.shape c.state.map c.state.table c.passes.items c.history.log.entries (S.last c.store) c.store_faults (S.faults c.store) (B.last c.base) c.base_faults (B.faults c.base)
+        × (S.tells c.store → IsLogged c.passes.items c.history (S.disk c.store))
+        × IsRecorded c.shape c.state c.passes.items c.flusher c.keeper };
 }
 
 impl<S: Store, B: Base> Core<S, B> {
@@ -60,6 +87,7 @@ impl<S: Store, B: Base> Core<S, B> {
         requires { pass < length self.now.passes }
         ensures phase { (p : AnyPass) → slice_get self.now.passes pass ≡ Some p → result ≡ p.phase }
         ensures stands { (p : AnyPass) → slice_get self.now.passes pass ≡ Some p → IsStanding self.now.shape p }
+        ensures attended { IsAttended self.now.shape self.now.table self.now.fresh self.now.passes self.now.flusher self.now.keeping }
     {
         self.passes[pass as usize].phase
     }
@@ -68,11 +96,11 @@ impl<S: Store, B: Base> Core<S, B> {
     pub fn history(&self) -> &History
         ensures history { result.now ≡ self.now.history }
         ensures regular { IsRegular (self.now.shape.block * self.now.shape.blocks) self.now.history.log.entries }
-        ensures legal { S.tells self.now.store → B.tells self.now.base → IsLegal self.now.start self.now.history.log.entries }
+        ensures legal { S.tells self.now.store → B.tells self.now.base → (start : List Sector) → IsStart self.now.opening (B.content self.now.base) self.now.header start → IsLegal start self.now.history.log.entries }
         ensures store_faults { AreCaused OfStore self.now.history.log.entries self.now.store_faults (S.faults self.now.store) }
         ensures base_faults { AreCaused OfBase self.now.history.log.entries self.now.base_faults (B.faults self.now.base) }
         ensures traced { S.tells self.now.store → AreTraced (S.disk self.now.store).log self.now.history.log.entries self.now.history.numbers }
-        ensures full { AreFullsCaused self.now.shape (length self.now.table.chunks) self.now.table.storage self.now.history.log.entries }
+        ensures full { AreFullsCaused self.now.shape self.now.entries (length self.now.table.chunks) self.now.table.storage self.now.history.log.entries }
     {
         &self.history
     }
@@ -90,7 +118,31 @@ impl<S: Store, B: Base> Core<S, B> {
         ensures { IsAt self.now.passes pass (λ p. slice_get self.now.fresh p.block ≡ Some result) }
     {
         let block = self.passes[pass as usize].block;
-        self.fresh.get(block as u32)
+        self.state.fresh.get(block as u32)
+    }
+
+    /// Whether a pass whose flush is under way has a call in flight.
+    pub fn is_waiting(&self, pass: u32) -> bool
+        requires { IsAt self.now.passes pass (λ p. p.phase ≡ Flushing) }
+        ensures { IsAt self.now.passes pass (λ p. result ≡ is_some p.ticket) }
+    {
+        self.passes[pass as usize].ticket.is_some()
+    }
+
+    /// How far the flush under way has come.
+    pub fn stage(&self) -> Stage
+        ensures { result ≡ self.now.keeping.stage }
+    {
+        self.keeper.stage()
+    }
+
+    /// The image's header, as every image has it since the last flush that wrote one.
+    pub fn header(&self) -> Header
+        ensures header { result ≡ self.now.keeping.header }
+        ensures valid { IsValid result }
+        ensures same { geometry_of result ≡ geometry_of self.now.header }
+    {
+        self.keeper.header()
     }
 
     /// Whether the piece that a pass is at is the whole of its block.

@@ -13,7 +13,7 @@ ghost use Rattle.vd_device.specs.Disks.{IsRunning};
 ghost use Rattle.vd_passes.specs.Causes.{OfStore, OfBase, IsNumbered};
 ghost use Rattle.vd_core.specs.Entering.{IsKeptOut, EntersBlock};
 ghost use Rattle.vd_core.specs.Fetching.{FetchesBlock};
-ghost use Rattle.vd_core.specs.Issuing.{IsWritable};
+ghost use Rattle.vd_core.specs.Issuing.{IsWritable, owed_after};
 
 use crate::entering::enter_block;
 use crate::fetching::{fetch_block, settle_block};
@@ -28,14 +28,14 @@ impl<S: Store, B: Base> Core<S, B> {
     /// Gives a pass that has asked the region of its next piece's block, to itself for a write, else shared. Busy comes
     /// exactly where another pass holds the block and one of the two writes, by the lowest such pass; then nothing changes.
     pub fn enter(&mut self, pass: u32) -> Result<(), Busy>
-        requires phase { IsAt self.old.passes pass (λ p. p.phase ≡ Asked) }
+        requires phase { IsAt self.old.passes pass (λ p. (p.phase ≡ Asked) × (p.flush ≡ false)) }
         ensures busy { IfErr result (λ busy. IsKeptOut self.old.shape (map region_of self.old.passes) (map region_of self.new.passes) pass self.old.passes self.new.passes busy.by) }
         ensures enters { OnOk result (EntersBlock self.old.shape self.old.table.chunks (map region_of self.old.passes) (map region_of self.new.passes) pass self.old.passes self.new.passes) }
         ensures others { self.new ≡ record self.old { passes = self.new.passes } }
     {
         enter_block(
             &self.shape,
-            &self.table,
+            &self.state.table,
             &mut self.regions,
             &mut self.passes,
             pass as usize,
@@ -50,9 +50,8 @@ impl<S: Store, B: Base> Core<S, B> {
         ensures number { IsAt self.new.passes pass (IsNumbered OfBase (B.last self.old.base) (B.last self.new.base)) }
         ensures base_stays { BaseStays (B.sectors self.old.base) (B.sectors self.new.base) (B.depth self.old.base) (B.depth self.new.base) (B.tells self.old.base) (B.tells self.new.base) (B.content self.old.base) (B.content self.new.base) }
         ensures calm { IsCalm (B.faults self.old.base) (B.faults self.new.base) (B.late self.old.base) (B.late self.new.base) }
-        ensures others { self.new ≡ record self.old { base = self.new.base; passes = self.new.passes; start = self.new.start } }
+        ensures others { self.new ≡ record self.old { base = self.new.base; passes = self.new.passes } }
         ensures told_before { B.tells self.new.base → B.tells self.old.base }
-        ensures start { B.tells self.new.base → self.new.start ≡ self.old.start }
     {
         fetch_block(&mut self.base, &self.shape, &mut self.passes, pass as usize);
     }
@@ -65,9 +64,8 @@ impl<S: Store, B: Base> Core<S, B> {
         ensures out { out.new ≡ out.old }
         ensures number { B.last self.new.base ≡ B.last self.old.base }
         ensures base_stays { BaseStays (B.sectors self.old.base) (B.sectors self.new.base) (B.depth self.old.base) (B.depth self.new.base) (B.tells self.old.base) (B.tells self.new.base) (B.content self.old.base) (B.content self.new.base) }
-        ensures others { self.new ≡ record self.old { base = self.new.base; passes = self.new.passes; start = self.new.start } }
+        ensures others { self.new ≡ record self.old { base = self.new.base; passes = self.new.passes } }
         ensures told_before { B.tells self.new.base → B.tells self.old.base }
-        ensures start { B.tells self.new.base → self.new.start ≡ self.old.start }
     {
         let _ = out;
         let outcome = settle_block(&mut self.base, &self.shape, &mut self.passes, pass as usize);
@@ -87,12 +85,13 @@ impl<S: Store, B: Base> Core<S, B> {
         ensures recorded_before { S.records self.new.store → S.records self.old.store }
         ensures calm { IsCalm (S.faults self.old.store) (S.faults self.new.store) (S.late self.old.store) (S.late self.new.store) }
         ensures stays { Stays (S.sectors self.old.store) (S.sectors self.new.store) (S.depth self.old.store) (S.depth self.new.store) (S.events self.old.store) (S.events self.new.store) }
-        ensures others { self.new ≡ record self.old { store = self.new.store; passes = self.new.passes; history = self.new.history } }
+        ensures others { self.new ≡ record self.old { store = self.new.store; passes = self.new.passes; history = self.new.history; opening = self.new.opening } }
+        ensures opening { S.tells self.new.store → self.new.opening ≡ self.old.opening }
     {
         issue_piece(
             &mut self.store,
             &self.shape,
-            &self.fresh,
+            &self.state.fresh,
             &mut self.passes,
             &mut self.history,
             pass as usize,
@@ -100,21 +99,24 @@ impl<S: Store, B: Base> Core<S, B> {
         );
     }
 
-    /// Settles the write of a pass. Where it is done its block is fresh; where it failed the pass is ready with a store fault.
+    /// Settles the write of a pass. Where it is done its block is fresh, and owed to the next flush unless every image has it; where it failed the pass is ready with a store fault.
     pub fn settle_issue(&mut self, pass: u32) -> Step
         requires phase { IsAt self.old.passes pass (λ p. p.phase ≡ Issuing) }
         ensures settled { (answer : AnySettled) × (result ≡ step_of (outcome_of answer)) × WriteSettled answer pass self.old.fresh self.new.fresh self.old.passes self.new.passes self.old.history.log.entries self.new.history.log.entries
             (S.flies self.old.store) (S.flies self.new.store) (S.tells self.old.store) (S.tells self.new.store) (S.disk self.old.store) (S.disk self.new.store) (S.last self.old.store) (S.last self.new.store)
             × Extends (numbers_of answer (S.events self.new.store)) 0 self.old.history self.new.history
-            × IsCaused answer (S.faults self.old.store) (S.faults self.new.store) (S.late self.old.store) (S.late self.new.store) }
+            × IsCaused answer (S.faults self.old.store) (S.faults self.new.store) (S.late self.old.store) (S.late self.new.store)
+            × IsAt self.old.passes pass (λ p. self.new.keeping ≡ owed_after answer p.block self.old.keeping) }
         ensures stays { Stays (S.sectors self.old.store) (S.sectors self.new.store) (S.depth self.old.store) (S.depth self.new.store) (S.events self.old.store) (S.events self.new.store) }
         ensures recorded_before { S.records self.new.store → S.records self.old.store }
-        ensures others { self.new ≡ record self.old { store = self.new.store; fresh = self.new.fresh; passes = self.new.passes; history = self.new.history } }
+        ensures others { self.new ≡ record self.old { store = self.new.store; fresh = self.new.fresh; keeping = self.new.keeping; passes = self.new.passes; history = self.new.history; opening = self.new.opening } }
+        ensures opening { S.tells self.new.store → self.new.opening ≡ self.old.opening }
     {
         let outcome = settle_write(
             &mut self.store,
             &self.shape,
-            &mut self.fresh,
+            &mut self.state.fresh,
+            &mut self.keeper,
             &mut self.passes,
             &mut self.history,
             pass as usize,

@@ -1,22 +1,19 @@
 -- Asking and replying keep a core coherent, and true to its devices.
-use Rattle.std.proofs.Common.{◌≡◌, ◌≢◌, ℕ, ◌+◌, ◌*◌, ◌<◌, ◌≤◌, ◌==◌, Bool, true, false, List, [], ◌∷◌, ◌++◌, length, refl, sym, ◌∙◌, ap, subst, inl, inr, arith, Option, Some, None, slice_get, slice_set}
+use Rattle.std.proofs.Common.{◌≡◌, ◌≢◌, ℕ, ◌+◌, ◌*◌, ◌<◌, ◌≤◌, Bool, true, false, List, [], ◌∷◌, ◌++◌, length, refl, sym, ◌∙◌, ap, subst, arith, Option, Some, slice_get, slice_set}
 use Rattle.std.specs.List.{Contains}
-use Rattle.std.proofs.lemmas.Bool.{eq-eqb, eqb-true, cases_Bool}
 use Rattle.std.proofs.lemmas.List.{append_assoc}
 use Rattle.vd_law.specs.declared.entry.Sector.{Sector}
 use Rattle.vd_law.specs.declared.entry.CallId.{CallId}
 use Rattle.vd_law.specs.declared.entry.Answer.{Answer}
 use Rattle.vd_law.specs.declared.entry.Answer.TheVariants.{Full}
 use Rattle.vd_law.specs.Entries.{Asked, Read, Write, Flush, Entry, Ask, Reply, past}
-use Rattle.vd_law.specs.Calls.{Progress, unasked, gone_on}
+use Rattle.vd_law.specs.Calls.{unasked, gone_on}
 use Rattle.vd_law.specs.Rules.{Each, IsInside, IsReply, IsRegular, IsShown}
 use Rattle.vd_device.specs.declared.ticket.Ticket.{Ticket}
 use Rattle.vd_device.specs.Disks.{Disk}
 use Rattle.vd_passes.specs.declared.shape.Shape.{Shape}
 use Rattle.vd_passes.specs.declared.pass.Pass.{Pass}
 use Rattle.vd_passes.specs.declared.pass.Phase.TheVariants.{Idle, Issuing, Ready}
-use Rattle.vd_passes.specs.declared.pass.Fault.{Fault}
-use Rattle.vd_passes.specs.declared.pass.Fault.TheVariants as fault
 use Rattle.vd_passes.specs.Standings.{Standing, standing}
 use Rattle.vd_passes.specs.Places.{ArePlaces, Extends}
 use Rattle.vd_passes.specs.Tracks.{Track, track, writes}
@@ -28,7 +25,8 @@ use Rattle.vd_passes.proofs.Standing.{last_of, next_of, standing-other, standing
 use Rattle.vd_passes.proofs.Lists.{some-inj, tickets-same, fetches-same}
 use Rattle.vd_passes.proofs.Growing.{grown-coherent, grown-faithful}
 use Rattle.vd_passes.proofs.Calm.{calm-coherent, calm-faithful, apart-free}
-use Rattle.vd_passes.specs.Passes.{has_region, writes_in, call_of, IsRequestOf, HasNone, HasTicket, pending_of, HasOutcome, StandsAs, after_ask, after_reply, answer_by}
+use Rattle.vd_passes.proofs.Replying.{answers, answers-full}
+use Rattle.vd_passes.specs.Passes.{has_region, writes_in, call_of, HasNone, HasTicket, pending_of, StandsAs, after_ask, after_reply}
 
 -- each block that a write touches has a place
 abbrev pub IsPlaced : (block : ℕ) → (ℕ → Option ℕ) → Asked → Type 0
@@ -41,12 +39,12 @@ abbrev pub asked_for : ℕ → Asked → Standing
 asked_for call request = record { call = call; progress = record unasked { asked = Some request } }
 
 pub stands-asked : {shape : Shape} {fresh : List Bool} {places : ℕ → Option ℕ} {t : Standing} {p : Pass} (r : Asked) (events sectors : ℕ) → StandsAs shape fresh places t p → p.phase ≡ Idle
-    → 0 < sectors_of r → IsInside (shape.block * shape.blocks) r → IsPlaced shape.block places r → StandsAs shape fresh places (asked_for (p.call + 1) r) (after_ask p r events sectors)
+    → (r ≢ Flush → 0 < sectors_of r) → IsInside (shape.block * shape.blocks) r → IsPlaced shape.block places r → StandsAs shape fresh places (asked_for (p.call + 1) r) (after_ask p r events sectors)
 stands-asked {shape} {fresh} {places} {t} {p} (Read first count) events sectors stands idle some inside placed =
     let none : HasNone p = subst (λ ph. HasTicket ph shape fresh p) idle stands.ticket in record {
       call = refl;
       idle = λ e. absurd (cc);
-      busy = λ e. (Read first count, refl, (refl, refl, refl));
+      busy = λ e. (Read first count, refl, (refl, refl, refl, refl));
       unanswered = λ e. refl;
       done = λ e. refl;
       range = λ e. (inside, omega arith);
@@ -55,7 +53,10 @@ stands-asked {shape} {fresh} {places} {t} {p} (Read first count) events sectors 
       ready = λ e. absurd (cc);
       write = λ e. absurd (cc);
       read = λ e. absurd (cc);
-      left = λ e. some;
+      left = λ e f. some (λ h. cc);
+      flush = λ e. absurd (cc);
+      no_flush = λ e. absurd (cc);
+      unstarted = λ e f. refl;
       placed = λ e w. absurd (cc);
       piece = λ e. absurd (cc);
       at = λ e. absurd (cc);
@@ -66,7 +67,7 @@ stands-asked {shape} {fresh} {places} {t} {p} (Write first content) events secto
     let none : HasNone p = subst (λ ph. HasTicket ph shape fresh p) idle stands.ticket in record {
       call = refl;
       idle = λ e. absurd (cc);
-      busy = λ e. (Write first content, refl, (refl, refl, refl));
+      busy = λ e. (Write first content, refl, (refl, refl, refl, refl));
       unanswered = λ e. refl;
       done = λ e. refl;
       range = λ e. (inside, omega arith);
@@ -75,14 +76,39 @@ stands-asked {shape} {fresh} {places} {t} {p} (Write first content) events secto
       ready = λ e. absurd (cc);
       write = λ e. absurd (cc);
       read = λ e. absurd (cc);
-      left = λ e. some;
+      left = λ e f. some (λ h. cc);
+      flush = λ e. absurd (cc);
+      no_flush = λ e. absurd (cc);
+      unstarted = λ e f. refl;
       placed = λ e w b from to. placed b from to;
       piece = λ e. absurd (cc);
       at = λ e. absurd (cc);
       ticket = record { ticket = none.ticket; fetch = none.fetch };
       buffer = stands.buffer;
     }
-stands-asked {shape} {fresh} {places} {t} {p} Flush events sectors stands idle some inside placed = absurd (omega arith)
+stands-asked {shape} {fresh} {places} {t} {p} Flush events sectors stands idle some inside placed =
+    let none : HasNone p = subst (λ ph. HasTicket ph shape fresh p) idle stands.ticket in record {
+      call = refl;
+      idle = λ e. absurd (cc);
+      busy = λ e. (Flush, refl, (refl, refl, refl, refl));
+      unanswered = λ e. refl;
+      done = λ e. refl;
+      range = λ e. (omega arith, omega arith);
+      pending = λ e. refl;
+      whole = λ e f. (refl, refl);
+      ready = λ e. absurd (cc);
+      write = λ e. absurd (cc);
+      read = λ e. absurd (cc);
+      left = λ e f. absurd (cc);
+      flush = λ e. refl;
+      no_flush = λ e. absurd (cc);
+      unstarted = λ e f. refl;
+      placed = λ e w. absurd (cc);
+      piece = λ e. absurd (cc);
+      at = λ e. absurd (cc);
+      ticket = record { ticket = none.ticket; fetch = none.fetch };
+      buffer = stands.buffer;
+    }
 
 -- A pass whose last call has its reply.
 pub stands-idle : {shape : Shape} {fresh : List Bool} {places : ℕ → Option ℕ} (t : Standing) (p : Pass) → p.phase ≡ Idle → t.call ≡ p.call → t.progress.answered ≡ true → HasNone p → length p.buffer ≡ shape.block → StandsAs shape fresh places t p
@@ -99,33 +125,15 @@ stands-idle {shape} {fresh} {places} t p idle call answered none buffer = record
   write = λ e. absurd (let w = ap writes_in idle in cc);
   read = λ e. absurd (cc);
   left = λ e. absurd (cc);
+  flush = λ e. absurd (cc);
+  no_flush = λ e. absurd (let h = ap has_region idle in cc);
+  unstarted = λ e. absurd (e idle);
   placed = λ e. absurd (e idle);
   piece = λ e. absurd (let h = ap has_region idle in cc);
   at = λ e. absurd (let h = ap has_region idle in cc);
   ticket = subst (λ ph. HasTicket ph shape fresh p) (sym idle) none;
   buffer = buffer;
 }
-
--- What a pass that is ready replies answers its request.
-
-equal : (a b : ℕ) → a ≡ b → (a == b) ≡ true
-equal a b same = eq-eqb a b same
-
-unequal : (a b : ℕ) → a < b → (a == b) ≡ false
-unequal a b less = elim (cases_Bool (a == b)) [ inl h ↦ absurd (let e = eqb-true a b h in omega arith) | inr h ↦ h ]
-
-pub answers : (p : Pass) (r : Asked) (c : Progress) (f : Option Fault) → IsRequestOf p r → c.done ≡ p.done → c.pending ≡ 0 → HasOutcome p c.broken f → IsReply r c (answer_by f p.done)
-answers p (Read first count) c None is done none outcome = record { none_open = none; all_done = sym (equal c.done count (done ∙ outcome.0 ∙ sym is.2)); broken = tt; fits = tt }
-answers p (Read first count) c (Some (fault.Store ticket)) is done none outcome = record { none_open = none; all_done = sym (unequal c.done count (let less = outcome.0 in let e = is.2 in omega arith)); broken = tt; fits = sym done }
-answers p (Read first count) c (Some (fault.Base ticket)) is done none outcome = record { none_open = none; all_done = sym (unequal c.done count (let less = outcome.0 in let e = is.2 in omega arith)); broken = tt; fits = sym done }
-answers p (Write first content) c None is done none outcome = record { none_open = none; all_done = sym (equal c.done (length content) (done ∙ outcome.0 ∙ sym is.2)); broken = sym outcome.1; fits = tt }
-answers p (Write first content) c (Some (fault.Store ticket)) is done none outcome = record { none_open = none; all_done = sym (unequal c.done (length content) (let less = outcome.0 in let e = is.2 in omega arith)); broken = sym (outcome.1 ∙ is.0); fits = sym done }
-answers p (Write first content) c (Some (fault.Base ticket)) is done none outcome = record { none_open = none; all_done = sym (unequal c.done (length content) (let less = outcome.0 in let e = is.2 in omega arith)); broken = sym outcome.1; fits = sym done }
-answers p Flush c f is done none outcome = absurd is
-
--- and that its store is too full answers a write that has done nothing
-pub answers-full : (first : ℕ) (content : List Sector) (needed free : ℕ) → 0 < length content → IsReply (Write first content) (record unasked { asked = Some (Write first content) }) (Full needed free)
-answers-full first content needed free some = record { none_open = refl; all_done = sym (unequal 0 (length content) some); broken = refl; fits = refl }
 
 -- A step of a pass with entries that tell no content, where it has nothing in flight before or after it.
 module _ {shape : Shape} {fresh : List Bool} {places : ℕ → Option ℕ} {passes : List Pass} {history : List Entry} {sectors depth base_sectors base_depth : ℕ} {flies base_flies : List Ticket → Type 0}
@@ -149,7 +157,7 @@ module _ {shape : Shape} {fresh : List Bool} {places : ℕ → Option ℕ} {pass
       → IsFaithful start rest shape fresh places (slice_set passes i p') history' disk last
   wordless-faithful {start} {rest} {disk} {last} fa shown = calm-faithful co i p there before p' not-after history' quiet fa disk last (omega arith) shown
       (λ t is. absurd (let e = sym is ∙ none'.ticket in cc))
-      (λ a. refl)
+      (λ a low. refl)
       (λ s inside. subst (λ (g : Track). StandsFor shape.block fresh places rest s g (track disk.start disk.log)) (sym (same start s)) (fa.stands s inside))
       (λ a w v among. subst (λ (g : Track). Contains g.contents v) (sym (same start w.sector)) among)
       (λ is. absurd (let h = ap has_region is in cc))
@@ -185,22 +193,22 @@ module _ {shape : Shape} {fresh : List Bool} {places : ℕ → Option ℕ} (hist
 after-none : (p : Pass) (r : Asked) (events sectors : ℕ) → HasNone p → HasNone (after_ask p r events sectors)
 after-none p (Read first count) events sectors none = record { ticket = none.ticket; fetch = none.fetch }
 after-none p (Write first content) events sectors none = record { ticket = none.ticket; fetch = none.fetch }
-after-none p Flush events sectors none = none
+after-none p Flush events sectors none = record { ticket = none.ticket; fetch = none.fetch }
 
-after-region : (p : Pass) (r : Asked) (events sectors : ℕ) → 0 < sectors_of r → has_region (after_ask p r events sectors).phase ≡ false
-after-region p (Read first count) events sectors some = refl
-after-region p (Write first content) events sectors some = refl
-after-region p Flush events sectors some = absurd (omega arith)
+after-region : (p : Pass) (r : Asked) (events sectors : ℕ) → has_region (after_ask p r events sectors).phase ≡ false
+after-region p (Read first count) events sectors = refl
+after-region p (Write first content) events sectors = refl
+after-region p Flush events sectors = refl
 
-after-call : (p : Pass) (r : Asked) (events sectors : ℕ) → 0 < sectors_of r → (after_ask p r events sectors).call ≡ p.call + 1
-after-call p (Read first count) events sectors some = refl
-after-call p (Write first content) events sectors some = refl
-after-call p Flush events sectors some = absurd (omega arith)
+after-call : (p : Pass) (r : Asked) (events sectors : ℕ) → (after_ask p r events sectors).call ≡ p.call + 1
+after-call p (Read first count) events sectors = refl
+after-call p (Write first content) events sectors = refl
+after-call p Flush events sectors = refl
 
--- A pass asks a read or a write, for which blocks may have got their places.
+-- A pass asks a request, for which blocks may have got their places.
 module _ {shape : Shape} {fresh : List Bool} {places places' : ℕ → Option ℕ} {passes passes' : List Pass} {history history' : List Entry} {sectors depth base_sectors base_depth events_left sectors_left i : ℕ} {flies base_flies : List Ticket → Type 0}
     (request : Asked) (co : IsCoherent shape fresh places passes history sectors depth base_sectors base_depth flies base_flies) (at : IsAt passes i (λ p. p.phase ≡ Idle))
-    (some : 0 < sectors_of request) (inside : IsInside (shape.block * shape.blocks) request)
+    (some : request ≢ Flush → 0 < sectors_of request) (inside : IsInside (shape.block * shape.blocks) request)
     (extends : Extends places places') (placed : ArePlaces shape.block shape.storage_at sectors places') (has : IsPlaced shape.block places' request)
     (step : Asks request events_left sectors_left i passes passes' history history') where
   abbrev asking : Pass
@@ -228,11 +236,11 @@ module _ {shape : Shape} {fresh : List Bool} {places places' : ℕ → Option �
   ask-id = record { pass = i; call = asking.call + 1 }
 
   ask-history : history' ≡ history ++ Ask ask-id request ∷ []
-  ask-history = step.event ∙ ap (λ (n : ℕ). history ++ Ask (record { pass = i; call = n }) request ∷ []) (after-call asking request events_left sectors_left some)
+  ask-history = step.event ∙ ap (λ (n : ℕ). history ++ Ask (record { pass = i; call = n }) request ∷ []) (after-call asking request events_left sectors_left)
 
   pub asks-coherent : IsCoherent shape fresh places' passes' history' sectors depth base_sectors base_depth flies base_flies
   asks-coherent = rw (step.after, ask-history)
-      (wordless-coherent grown i asking step.there asking-none asking-not asked (after-none asking request events_left sectors_left asking-none) (after-region asking request events_left sectors_left some)
+      (wordless-coherent grown i asking step.there asking-none asking-not asked (after-none asking request events_left sectors_left asking-none) (after-region asking request events_left sectors_left)
       (history ++ Ask ask-id request ∷ []) (same-after-ask history ask-id request)
       (regular-asked history i asking-stands grown.regular asking-idle request inside)
       (others-asked history i asking-stands grown.regular asking-idle request inside)
@@ -241,7 +249,7 @@ module _ {shape : Shape} {fresh : List Bool} {places places' : ℕ → Option �
 
   pub asks-faithful : {start : List Sector} {rest : ℕ → Sector} {disk : Disk} {last : ℕ} → IsFaithful start rest shape fresh places passes history disk last → IsFaithful start rest shape fresh places' passes' history' disk last
   asks-faithful {start} {rest} {disk} {last} fa = rw (step.after, ask-history)
-      (wordless-faithful grown i asking step.there asking-none asking-not asked (after-none asking request events_left sectors_left asking-none) (after-region asking request events_left sectors_left some)
+      (wordless-faithful grown i asking step.there asking-none asking-not asked (after-none asking request events_left sectors_left asking-none) (after-region asking request events_left sectors_left)
       (history ++ Ask ask-id request ∷ []) (same-after-ask history ask-id request)
       (grown-faithful co places' extends fa)
       (shown-push start history (Ask ask-id request) fa.shown tt))
@@ -357,7 +365,7 @@ module _ {shape : Shape} {fresh : List Bool} {places : ℕ → Option ℕ} {pass
       (regular-reply i b.0 answer co.regular (record { asked = b.1; unanswered = ready-stands.unanswered was-busy })
       (subst (λ (a : Answer). IsReply b.0 (standing history i).progress a) (sym step.is)
       (answers ready-pass b.0 (standing history i).progress ready-pass.fault b.2 (ready-stands.done was-busy)
-      (ready-stands.pending was-busy ∙ ap (λ ph. pending_of ph ready-pass.piece) was-ready) (ready-stands.ready was-ready))))
+      (ready-stands.pending was-busy ∙ ap (λ ph. pending_of ph ready-pass.piece) was-ready) (ready-stands.unstarted was-busy) (ready-stands.ready was-ready))))
 
   reply-after : standing (history ++ reply ∷ []) i ≡ record (standing history i) { progress = gone_on (standing history i).progress reply }
   reply-after = standing-own history reply i (sym (last-is history i ready-stands)) tt

@@ -29,7 +29,7 @@ use Rattle.vd_passes.proofs.Onward.{not-idle, not-ready}
 use Rattle.vd_passes.proofs.Blaming.{IsLeft, to_name_of, flying-same, flying-none, kept-blamed, kept-untold, numbered-blamed, numbered-untold, failed-blamed, failed-untold, told-blamed, later-blamed}
 
 -- A pass that no device has failed has nothing to name.
-faultless : (device : Device) (why : Option Fault) → why ≡ None → fault_of device why ≡ None
+pub faultless : (device : Device) (why : Option Fault) → why ≡ None → fault_of device why ≡ None
 faultless OfStore why none = ap (fault_of OfStore) none
 faultless OfBase why none = ap (fault_of OfBase) none
 
@@ -53,7 +53,7 @@ module _ {shape : Shape} {fresh : List Bool} {places : ℕ → Option ℕ} {t : 
   region-faultless holds = (stands.whole (not-idle p.phase holds) (not-ready p.phase holds)).1
 
 -- the pass after a step that may submit a call
-numbered-at : (device : Device) (passes passes' : List Pass) (last last' i : ℕ) (p p' : Pass) → slice_get passes i ≡ Some p → passes' ≡ slice_set passes i p' → IsAt passes' i (IsNumbered device last last') → IsNumbered device last last' p'
+pub numbered-at : (device : Device) (passes passes' : List Pass) (last last' i : ℕ) (p p' : Pass) → slice_get passes i ≡ Some p → passes' ≡ slice_set passes i p' → IsAt passes' i (IsNumbered device last last') → IsNumbered device last last' p'
 numbered-at device passes passes' last last' i p p' there after at = subst (IsNumbered device last last') (some-inj (sym at.1 ∙ ap (λ ps. slice_get ps i) after ∙ get-set-same passes i p' p there)) at.2
 
 -- The pass has the next ticket of the device, or none and the device gave none.
@@ -68,12 +68,12 @@ module _ (device : Device) (passes passes' : List Pass) (last last' i : ℕ) (p 
 asked-flying : (device : Device) (p : Pass) (request : Asked) (events sectors : ℕ) → flying_of device (after_ask p request events sectors) ≡ flying_of device p
 asked-flying device p (Read first count) events sectors = flying-same device p (after_ask p (Read first count) events sectors) refl refl
 asked-flying device p (Write first content) events sectors = flying-same device p (after_ask p (Write first content) events sectors) refl refl
-asked-flying device p Flush events sectors = refl
+asked-flying device p Flush events sectors = flying-same device p (after_ask p Flush events sectors) refl refl
 
 asked-naming : (device : Device) (p : Pass) (request : Asked) (events sectors : ℕ) → IsLeft (to_name_of device p) (to_name_of device (after_ask p request events sectors))
 asked-naming device p (Read first count) events sectors = inr refl
 asked-naming device p (Write first content) events sectors = inr refl
-asked-naming device p Flush events sectors = inl refl
+asked-naming device p Flush events sectors = inr refl
 
 full-names : (device : Device) (needed free : ℕ) → named_by device (Full needed free) ≡ None
 full-names OfStore needed free = refl
@@ -83,9 +83,11 @@ fault-names : (device : Device) (why : Option Fault) (done : ℕ) → named_by d
 fault-names OfStore None done = refl
 fault-names OfStore (Some (fault.Store ticket)) done = refl
 fault-names OfStore (Some (fault.Base ticket)) done = refl
+fault-names OfStore (Some (fault.Worn generation)) done = refl
 fault-names OfBase None done = refl
 fault-names OfBase (Some (fault.Store ticket)) done = refl
 fault-names OfBase (Some (fault.Base ticket)) done = refl
+fault-names OfBase (Some (fault.Worn generation)) done = refl
 
 -- Steps that call no device.
 module _ {device : Device} {passes passes' : List Pass} {history history' : List Entry} {last faults_at_opening faults i : ℕ} (blamed : IsBlamed device passes history last faults_at_opening faults) where

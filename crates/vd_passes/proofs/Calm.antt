@@ -58,7 +58,7 @@ module _ {shape : Shape} {fresh : List Bool} {places : ℕ → Option ℕ} {pass
 
     pub calm-faithful : (disk' : Disk) (last' : ℕ) → last ≤ last' → Each (IsShown start) (past history')
         → ((t : Ticket) → p'.ticket ≡ Some t → HasNumber last' t)
-        → ((a : ℕ) → (track disk'.start disk'.log a).writes ≡ (track disk.start disk.log a).writes)
+        → ((a : ℕ) → shape.storage_at ≤ a → (track disk'.start disk'.log a).writes ≡ (track disk.start disk.log a).writes)
         → ((s : ℕ) → s < length start → StandsFor shape.block fresh places rest s (track start history' s) (track disk'.start disk'.log))
         → ((a : ℕ) (w : IsFilled shape.block passes a (track start history) (track disk.start disk.log a)) → (v : Sector) → Contains (track start history w.sector).contents v → Contains (track start history' w.sector).contents v)
         → (p'.phase ≡ Filled → IsRest rest (shape.block * p'.block) p'.buffer)
@@ -81,10 +81,10 @@ module _ {shape : Shape} {fresh : List Bool} {places : ℕ → Option ℕ} {pass
         ]
       ];
       stands = stands;
-      filling = λ a. elim (fa.filling a) [
-        | inl none ↦ inl (unfilled-set passes i p p' there a (track disk.start disk.log a) (track disk'.start disk'.log a) none (λ w. after w.phase) (same a ∙ none.none))
+      filling = λ a low. elim (fa.filling a low) [
+        | inl none ↦ inl (unfilled-set passes i p p' there a (track disk.start disk.log a) (track disk'.start disk'.log a) none (λ w. after w.phase) (same a low ∙ none.none))
         | inr w ↦ inr (filled-set passes i p p' there shape.block a (track start history) (track start history') (track disk.start disk.log a) (track disk'.start disk'.log a) w
-            (not-this w.pass w.by w.there w.filling.phase) (same a) (track-writes start history' w.sector ∙ quiet w.sector ∙ sym (track-writes start history w.sector)) (more a w))
+            (not-this w.pass w.by w.there w.filling.phase) (same a low) (track-writes start history' w.sector ∙ quiet w.sector ∙ sym (track-writes start history w.sector)) (more a w))
       ];
       buffers = λ j q at is. elim (at-set passes i j p' p q there at) [
         | inl a ↦ subst (λ (x : Pass). IsRest rest (shape.block * x.block) x.buffer) (sym a.1) (buffer (ap (λ (x : Pass). x.phase) (sym a.1) ∙ is))
@@ -103,16 +103,16 @@ module _ {shape : Shape} {fresh : List Bool} {places : ℕ → Option ℕ} {pass
       calm-coherent co i p there before p' after history (λ s. refl) flies' base_flies' co.regular (λ j ne. refl) next apart flight base_flight
 
   module _ {start : List Sector} {rest : ℕ → Sector} {disk : Disk} {last : ℕ} (fa : IsFaithful start rest shape fresh places passes history disk last) where
-    -- each sector of the store may hold what it might
+    -- each sector of the store from the storage on may hold what it might
     pub quiet-faithful : (disk' : Disk) (last' : ℕ) → last ≤ last'
         → ((t : Ticket) → p'.ticket ≡ Some t → (t.number ≤ last') × ((j : ℕ) (q : Pass) (u : Ticket) → slice_get passes j ≡ Some q → j ≢ i → q.ticket ≡ Some u → u.number ≢ t.number))
-        → ((a : ℕ) → track disk'.start disk'.log a ≡ track disk.start disk.log a)
+        → ((a : ℕ) → shape.storage_at ≤ a → track disk'.start disk'.log a ≡ track disk.start disk.log a)
         → (p'.phase ≡ Filled → IsRest rest (shape.block * p'.block) p'.buffer)
         → IsFaithful start rest shape fresh places (slice_set passes i p') history disk' last'
     quiet-faithful disk' last' later ticket same buffer =
-        calm-faithful co i p there before p' after history (λ s. refl) fa disk' last' later fa.shown ticket (λ a. ap (λ (x : Track). x.writes) (same a))
+        calm-faithful co i p there before p' after history (λ s. refl) fa disk' last' later fa.shown ticket (λ a low. ap (λ (x : Track). x.writes) (same a low))
         (λ s inside. let old = fa.stands s inside in record {
-          local = λ b x in_b is at v among. old.local b x in_b is at v (subst (λ (d : Track). Contains d.contents v) (same (x + (s - shape.block * b))) among);
+          local = λ b x in_b is at v among. old.local b x in_b is at v (subst (λ (d : Track). Contains d.contents v) (same (x + (s - shape.block * b)) (let low = (co.placed.inside b x at).0 in omega arith)) among);
           other = old.other;
         })
         (λ a w v among. among) buffer
@@ -120,7 +120,7 @@ module _ {shape : Shape} {fresh : List Bool} {places : ℕ → Option ℕ} {pass
     -- and nothing happened at the store
     pub still-faithful : ((t : Ticket) → p'.ticket ≡ Some t → p.ticket ≡ Some t) → (p'.phase ≡ Filled → IsRest rest (shape.block * p'.block) p'.buffer) → IsFaithful start rest shape fresh places (slice_set passes i p') history disk last
     still-faithful kept buffer = quiet-faithful disk last (omega arith)
-        (λ t is. (fa.numbers i p t there (kept t is), λ j q u at ne has. fa.distinct j i q p u t at there ne has (kept t is))) (λ a. refl) buffer
+        (λ t is. (fa.numbers i p t there (kept t is), λ j q u at ne has. fa.distinct j i q p u t at there ne has (kept t is))) (λ a low. refl) buffer
 
 -- A pass that holds the region that it held keeps apart from the others as it did.
 pub apart-kept : (passes : List Pass) → ((i j : ℕ) (p q : Pass) → slice_get passes i ≡ Some p → slice_get passes j ≡ Some q → i ≢ j → AreApart p q)

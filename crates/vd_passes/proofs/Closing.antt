@@ -167,10 +167,10 @@ module _ {shape : Shape} {fresh : List Bool} {places : ℕ → Option ℕ} {pass
     ]
 
     module _ (p' : Pass) (freed : has_region p'.phase ≡ false) where
-      pub close-filling : (a : ℕ) (guest' : ℕ → Track) (store' : Track) → ((s : ℕ) → Closes (call_of i p) (guest-of s).writes (guest' s).writes) → Closes (ticket_id t) (store-of a).writes store'.writes
+      pub close-filling : (a : ℕ) → shape.storage_at ≤ a → (guest' : ℕ → Track) (store' : Track) → ((s : ℕ) → Closes (call_of i p) (guest-of s).writes (guest' s).writes) → Closes (ticket_id t) (store-of a).writes store'.writes
           → ((w : IsFilled shape.block passes a (track start history) (store-of a)) → (w.by ≡ i → ⊥) → (v : Sector) → Contains (guest-of w.sector).contents v → Contains (guest' w.sector).contents v)
           → IsUnfilled (slice_set passes i p') a store' ⊎ IsFilled shape.block (slice_set passes i p') a guest' store'
-      close-filling a guest' store' closes closes' more = elim (fa.filling a) [
+      close-filling a low guest' store' closes closes' more = elim (fa.filling a low) [
         | inl none ↦ inl (unfilled-set passes i p p' there a _ _ none (λ w. idle-now p' freed w.phase) (closes'.none none.none))
         | inr w ↦ elim (cases_eq w.by i) [
           | inl e ↦
@@ -209,8 +209,8 @@ module _ {shape : Shape} {fresh : List Bool} {places : ℕ → Option ℕ} {pass
           local = λ b x in_b is at v among. subst (λ (g : Track). Contains g.contents v) (sym (track-more start history e s)) (next.local b x in_b is at v (subst (λ (d : Track). Contains d.contents v) (disk-track (x + (s - shape.block * b)) adds) among));
           other = λ b in_b is. subst (λ (g : Track). Contains g.contents (rest s)) (sym (track-more start history e s)) (next.other b in_b is);
         };
-        filling = λ a. subst (λ d. IsUnfilled (slice_set passes i p') a d ⊎ IsFilled shape.block (slice_set passes i p') a (track start (history ++ e ∷ [])) d) (sym (disk-track a adds))
-            (close-filling a (track start (history ++ e ∷ [])) (follow a (store-of a) e')
+        filling = λ a low. subst (λ d. IsUnfilled (slice_set passes i p') a d ⊎ IsFilled shape.block (slice_set passes i p') a (track start (history ++ e ∷ [])) d) (sym (disk-track a adds))
+            (close-filling a low (track start (history ++ e ∷ [])) (follow a (store-of a) e')
             (λ s. subst (λ (g : Track). Closes (call_of i p) (guest-of s).writes g.writes) (sym (track-more start history e s)) (closes s)) (closes' a)
             (λ w ne v among. subst (λ (g : Track). Contains g.contents v) (sym (track-more start history e w.sector)) (more a w ne v among)));
         buffers = λ j q at is. elim (at-set passes i j p' p q there at) [

@@ -1,9 +1,9 @@
 -- A pass that takes the region of its next piece's block keeps a core coherent, and true to its devices.
-use Rattle.std.proofs.Common.{◌≡◌, ◌≢◌, ℕ, ◌+◌, ◌*◌, ◌<◌, ◌≤◌, ◌⊎◌, Bool, true, List, map, refl, sym, ◌∙◌, ap, subst, inl, inr, arith, Option, Some, slice_get, slice_set}
+use Rattle.std.proofs.Common.{◌≡◌, ◌≢◌, ℕ, ◌+◌, ◌*◌, ◌<◌, ◌≤◌, ◌⊎◌, Bool, true, false, List, map, refl, sym, ◌∙◌, ap, subst, inl, inr, arith, Option, Some, slice_get, slice_set}
 use Rattle.std.proofs.Math.Nat.{mul-le-mul_left}
 use Rattle.std.proofs.lemmas.Bool.{cases_lt}
 use Rattle.vd_law.specs.declared.entry.Sector.{Sector}
-use Rattle.vd_law.specs.Entries.{Entry}
+use Rattle.vd_law.specs.Entries.{Asked, Read, Write, Flush, Entry}
 use Rattle.vd_regions.specs.declared.regions.Region.{Region}
 use Rattle.vd_regions.specs.Holding.{Hinders}
 use Rattle.vd_device.specs.declared.ticket.Ticket.{Ticket}
@@ -12,7 +12,7 @@ use Rattle.vd_passes.specs.declared.shape.Shape.{Shape}
 use Rattle.vd_passes.specs.declared.pass.Pass.{Pass}
 use Rattle.vd_passes.specs.declared.pass.Phase.TheVariants.{Idle, Asked as HasAsked, Issuing, Ready}
 use Rattle.vd_passes.specs.Standings.{Standing, standing}
-use Rattle.vd_passes.specs.Passes.{region_of, IsPiece, HasNone, HasTicket, pending_of, StandsAs, after_enter}
+use Rattle.vd_passes.specs.Passes.{region_of, IsRequestOf, IsPiece, HasNone, HasTicket, pending_of, StandsAs, after_enter}
 use Rattle.vd_passes.specs.Coherent.{IsCoherent, IsFaithful}
 use Rattle.vd_passes.specs.Steps.{IsAt, IsNextPiece, Enters}
 use Rattle.vd_passes.proofs.Lists.{some-inj, tickets-same, fetches-same}
@@ -27,13 +27,19 @@ below-end block b blocks s from to = elim (cases_lt b blocks) [
   | inr more ↦ absurd (let h : block * blocks ≤ block * b = mul-le-mul_left block more in omega arith)
 ]
 
+-- a request of some sectors is no flush
+pub served : (p : Pass) (r : Asked) → IsRequestOf p r → 0 < p.count → p.flush ≡ false
+served p (Read first count) is some = is.3
+served p (Write first content) is some = is.3
+served p Flush is some = absurd (let none = is.2 in omega arith)
+
 pub next-piece : {shape : Shape} {fresh : List Bool} {places : ℕ → Option ℕ} {t : Standing} {p : Pass} {block piece : ℕ} (at : ℕ) → StandsAs shape fresh places t p → p.phase ≡ HasAsked → IsNextPiece shape p block piece → IsPiece shape (after_enter p block piece at)
 next-piece {shape} {fresh} {places} {t} {p} {block} {piece} at stands was next = record {
   some = next.some;
   no_more = next.no_more;
   from = next.from;
   to = next.inside;
-  in_disk = let range = stands.range (λ e. absurd (cc)) in below-end shape.block block shape.blocks (p.first + p.done) next.from (let r = range.0 in let left = stands.left was in omega arith);
+  in_disk = let range = stands.range (λ e. absurd (cc)) in below-end shape.block block shape.blocks (p.first + p.done) next.from (let r = range.0 in let some = next.some in let no_more = next.no_more in omega arith);
   ends = next.ends;
 }
 
@@ -66,10 +72,14 @@ module _ {shape : Shape} {fresh : List Bool} {places : ℕ → Option ℕ} {pass
   entering-unready : entering.phase ≢ Ready
   entering-unready e = let a = was-asked in cc
 
+  -- a flush has no piece
+  entering-serves : entering.flush ≡ false
+  entering-serves = let b = entering-stands.busy entering-busy in served entering b.0 b.2 (let some = step.is_next.some in let no_more = step.is_next.no_more in omega arith)
+
   -- the block has its place where it is written or fresh
   entered-at : (entering.write ≡ true) ⊎ (slice_get fresh step.block ≡ Some true) → places step.block ≡ Some step.at
   entered-at (inl write) =
-      let next = step.is_next in let left = entering-stands.left was-asked in let from = next.from in let to = next.to in
+      let next = step.is_next in let some = next.some in let no_more = next.no_more in let from = next.from in let to = next.to in
       let had = entering-stands.placed entering-busy write step.block (omega arith) (omega arith) in had.1 ∙ ap Some (sym (step.place had.0 had.1))
   entered-at (inr is) = let had = co.fresh_placed step.block is in had.1 ∙ ap Some (sym (step.place had.0 had.1))
 
@@ -77,7 +87,7 @@ module _ {shape : Shape} {fresh : List Bool} {places : ℕ → Option ℕ} {pass
   stands-entered = record {
     call = entering-stands.call;
     idle = λ e. absurd (cc);
-    busy = λ e. let b = entering-stands.busy entering-busy in (b.0, b.1, request-kept entering entered b.0 refl refl refl b.2);
+    busy = λ e. let b = entering-stands.busy entering-busy in (b.0, b.1, request-kept entering entered b.0 refl refl refl refl b.2);
     unanswered = λ e. entering-stands.unanswered entering-busy;
     done = λ e. entering-stands.done entering-busy;
     range = λ e. entering-stands.range entering-busy;
@@ -87,6 +97,9 @@ module _ {shape : Shape} {fresh : List Bool} {places : ℕ → Option ℕ} {pass
     write = λ e. absurd (cc);
     read = λ e. absurd (cc);
     left = λ e. absurd (cc);
+    flush = λ e. absurd (cc);
+    no_flush = λ e. entering-serves;
+    unstarted = λ e f. absurd (let n = entering-serves in cc);
     placed = λ e. entering-stands.placed entering-busy;
     piece = λ e. next-piece step.at entering-stands was-asked step.is_next;
     at = λ e. entered-at;

@@ -14,7 +14,7 @@ use Rattle.vd_reading.specs.Background.{zero_sector}
 use Rattle.vd_passes.specs.declared.shape.Shape.{Shape}
 use Rattle.vd_passes.specs.declared.pass.Pass.{Pass}
 use Rattle.vd_passes.specs.declared.pass.Phase.{Phase}
-use Rattle.vd_passes.specs.declared.pass.Phase.TheVariants.{Idle, Asked as HasAsked, Held, Fetching, Filled, Issuing, Looking, Ready}
+use Rattle.vd_passes.specs.declared.pass.Phase.TheVariants.{Idle, Asked as HasAsked, Held, Fetching, Filled, Issuing, Looking, Flushing, Ready}
 use Rattle.vd_passes.specs.declared.pass.Fault.TheVariants as fault
 use Rattle.vd_passes.specs.Laying.{below, IsRest, Backs}
 use Rattle.vd_passes.specs.Standings.{standing}
@@ -59,6 +59,7 @@ base-reads Looking shape fresh q u has is = elim has.1 [
   | inl store ↦ absurd (let n = store.none in cc)
   | inr base ↦ ap (λ (t : Ticket). t.kind) (some-inj (sym is ∙ base.has)) ∙ base.kind
 ]
+base-reads Flushing shape fresh q u has is = absurd (let n = has.0 in cc)
 base-reads Ready shape fresh q u has is = absurd (let n = has.fetch in cc)
 
 module _ {shape : Shape} {fresh : List Bool} {places : ℕ → Option ℕ} {passes : List Pass} {history : List Entry} {sectors depth base_sectors base_depth : ℕ} {flies base_flies : List Ticket → Type 0}

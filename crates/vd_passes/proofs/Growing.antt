@@ -26,6 +26,9 @@ stands-grown {shape} {fresh} {places} {places'} {t} {p} extends stands = record 
   write = stands.write;
   read = stands.read;
   left = stands.left;
+  flush = stands.flush;
+  no_flush = stands.no_flush;
+  unstarted = stands.unstarted;
   placed = λ busy writes b from to. let had = stands.placed busy writes b from to in (had.0, extends b had.0 had.1);
   piece = stands.piece;
   at = λ has known. extends p.block p.at (stands.at has known);

@@ -107,14 +107,14 @@ holds-none passes i p p' there at none = regions-kept passes i p' p there (regio
 piece-frees : (p : Pass) → has_region (after_piece p).phase ≡ false
 piece-frees p = elim (nat_lt (p.done + p.piece) p.count) as (λ b. has_region (if b then HasAsked else Ready) ≡ false) [ true ↦ refl | false ↦ refl ]
 
-asked-holds : (p : Pass) (r : Asked) (events sectors : ℕ) → has_region p.phase ≡ false → has_region (after_ask p r events sectors).phase ≡ false
-asked-holds p (Read first count) events sectors none = refl
-asked-holds p (Write first content) events sectors none = refl
-asked-holds p Flush events sectors none = none
+asked-holds : (p : Pass) (r : Asked) (events sectors : ℕ) → has_region (after_ask p r events sectors).phase ≡ false
+asked-holds p (Read first count) events sectors = refl
+asked-holds p (Write first content) events sectors = refl
+asked-holds p Flush events sectors = refl
 
 pub asks-regions : {request : Asked} {events sectors i : ℕ} {passes passes' : List Pass} {history history' : List Entry} → IsAt passes i (λ p. has_region p.phase ≡ false) → Asks request events sectors i passes passes' history history' → map region_of passes' ≡ map region_of passes
 asks-regions {request} {events} {sectors} {i} {passes} {passes'} {history} {history'} at step =
-    rw step.after (holds-none passes i step.pass _ step.there at (asked-holds step.pass request events sectors (this-holds false passes i step.pass step.there at)))
+    rw step.after (holds-none passes i step.pass _ step.there at (asked-holds step.pass request events sectors))
 
 pub asks_full-regions : {request : Asked} {needed free i : ℕ} {passes passes' : List Pass} {history history' : List Entry} → IsAt passes i (λ p. has_region p.phase ≡ false) → AsksFull request needed free i passes passes' history history' → map region_of passes' ≡ map region_of passes
 asks_full-regions {request} {needed} {free} {i} {passes} {passes'} {history} {history'} at step =

@@ -120,7 +120,7 @@ module _ {shape : Shape} {fresh : List Bool} {places : ℕ → Option ℕ} {pass
   next = subst (λ h. StandsAs shape fresh places h issued) (sym (standing-own history event i mine tt)) (record {
     call = stands.call;
     idle = λ e. absurd (cc);
-    busy = λ e. let b = stands.busy not-idle in (b.0, b.1, request-kept p issued b.0 refl refl refl b.2);
+    busy = λ e. let b = stands.busy not-idle in (b.0, b.1, request-kept p issued b.0 refl refl refl refl b.2);
     unanswered = λ e. stands.unanswered not-idle;
     done = λ e. stands.done not-idle;
     range = λ e. stands.range not-idle;
@@ -130,6 +130,9 @@ module _ {shape : Shape} {fresh : List Bool} {places : ℕ → Option ℕ} {pass
     write = λ e. write;
     read = λ e. absurd (cc);
     left = λ e. absurd (cc);
+    flush = λ e. absurd (cc);
+    no_flush = λ e. stands.no_flush region;
+    unstarted = λ e f. absurd (let n = stands.no_flush region in cc);
     placed = λ e w. stands.placed not-idle write;
     piece = λ e. record { some = piece.some; no_more = piece.no_more; from = piece.from; to = piece.to; in_disk = piece.in_disk; ends = piece.ends };
     at = λ e w. placed;
@@ -245,11 +248,11 @@ module _ {shape : Shape} {fresh : List Bool} {places : ℕ → Option ℕ} {pass
     in-disk : (s : ℕ) → IsIn shape.block p.block s → s < length start
     in-disk s in_p = let to = in_p.1 in let size = fa.size in let after = block-after shape.block p.block shape.blocks piece.in_disk in omega arith
 
-    filling-next : (a : ℕ) → IsUnfilled (slice_set passes i issued) a (store-next a) ⊎ IsFilled shape.block (slice_set passes i issued) a guest-next (store-next a)
-    filling-next a = elim (cases-at t.first stored_content a) [
+    filling-next : (a : ℕ) → shape.storage_at ≤ a → IsUnfilled (slice_set passes i issued) a (store-next a) ⊎ IsFilled shape.block (slice_set passes i issued) a guest-next (store-next a)
+    filling-next a low = elim (cases-at t.first stored_content a) [
       | inl off ↦
           let same = ap (λ (x : Track). x.writes) (store-off a off) in
-          elim (fa.filling a) [
+          elim (fa.filling a low) [
             | inl unfilled ↦ inl (unfilled-set passes i p issued there a (store-of a) (store-next a) unfilled
                 (λ w. let from : t.first ≤ a = w.covers.0 in let to : a < t.first + t.count = w.covers.1 in let f = at-inside t.first stored_content a from (omega arith) in let g = f.1 in cc)
                 (same ∙ unfilled.none))
@@ -258,7 +261,7 @@ module _ {shape : Shape} {fresh : List Bool} {places : ℕ → Option ℕ} {pass
           ]
       | inr on ↦
           let range = in-stored a on.0 on.1 in let r = at-range t.first stored_content a on.0 on.1 in
-          let calm : (store-of a).writes ≡ [] = elim (fa.filling a) [
+          let calm : (store-of a).writes ≡ [] = elim (fa.filling a low) [
             | inl unfilled ↦ unfilled.none
             | inr w ↦ absurd (not-writing w.by w.pass w.there w.filling.phase (only-filler co i p there region write a guest-of (store-of a) range.0 range.1 w))
           ] in
@@ -308,7 +311,7 @@ module _ {shape : Shape} {fresh : List Bool} {places : ℕ → Option ℕ} {pass
         ]
       ];
       stands = λ s inside. subst (λ g. StandsFor shape.block fresh places rest s g (track disk'.start disk'.log)) (sym (track-more start history event s)) (stands-told s (stands-next s inside));
-      filling = λ a. filling-told a (filling-next a);
+      filling = λ a low. filling-told a (filling-next a low);
       buffers = λ j q at_j filled. elim (at-set passes i j issued p q there at_j) [
         | inl a ↦ absurd (let e = ap (λ (x : Pass). x.phase) a.1 in cc)
         | inr a ↦ fa.buffers j q a.1 filled

@@ -7,6 +7,9 @@ pub mod Calm
 pub mod Closing
 pub mod Entering
 pub mod Fetching
+pub mod Flushing
+pub mod FlushingAccounts
+pub mod FlushingTold
 pub mod Growing
 pub mod Holding
 pub mod Issuing
@@ -21,6 +24,7 @@ pub mod Places
 pub mod PlacesGiven
 pub mod Ready
 pub mod Regions
+pub mod Replying
 pub mod Settling
 pub mod Standing
 pub mod Tracing

@@ -102,7 +102,7 @@ module _ {shape : Shape} {fresh : List Bool} {places : ℕ → Option ℕ} {pass
         sees-coherent co i p there region calm reads sees flies' base_flies (store-flight next flies' refl takes) (store-fetches next refl)
     look-ended-coherent (settled.NotYet same) content passes' history' out out' old new flies' late keeps = rw (late.0, late.1) (late-coherent co keeps.2)
     look-ended-coherent (settled.Failed number) content passes' history' out out' old new flies' failed takes =
-        rw (failed.0, failed.1) (failed-coherent co i p there looking (fault.Store t.number) flies' base_flies (short, sym reads)
+        rw (failed.0, failed.1) (failed-coherent co i p there looking (fault.Store t.number) flies' base_flies (inr short, sym reads)
         (store-flight (after_fault (fault.Store t.number) p) flies' refl takes.2) (store-fetches (after_fault (fault.Store t.number) p) refl))
 
     pub look-ended-faithful : {start : List Sector} {rest : ℕ → Sector} {disk disk' : Disk} {last : ℕ} (answer : Settled) (content : List Sector) (passes' : List Pass) (history' : List Entry) (out out' : List Sector)

@@ -15,7 +15,7 @@ use Rattle.vd_device.specs.Calls.{IsHeld}
 use Rattle.vd_passes.specs.declared.shape.Shape.{Shape}
 use Rattle.vd_passes.specs.declared.pass.Pass.{Pass}
 use Rattle.vd_passes.specs.declared.pass.Phase.{Phase}
-use Rattle.vd_passes.specs.declared.pass.Phase.TheVariants.{Idle, Asked as HasAsked, Held, Fetching, Filled, Issuing, Looking, Ready}
+use Rattle.vd_passes.specs.declared.pass.Phase.TheVariants.{Idle, Asked as HasAsked, Held, Fetching, Filled, Issuing, Looking, Flushing, Ready}
 use Rattle.vd_passes.specs.Laying.{IsRest}
 use Rattle.vd_passes.specs.Tracks.{Track, track, writes}
 use Rattle.vd_passes.specs.Standings.{standing}
@@ -47,12 +47,13 @@ none-pending Fetching piece ne = refl
 none-pending Filled piece ne = refl
 none-pending Issuing piece ne = absurd (ne refl)
 none-pending Looking piece ne = refl
+none-pending Flushing piece ne = refl
 none-pending Ready piece ne = refl
 
-is-read : (p : Pass) (r : Asked) → IsRequestOf p r → p.write ≡ false → r ≡ Read p.first p.count
-is-read p (Read first count) is reads = let f = is.1 in let c = is.2 in cc
-is-read p (Write first content) is reads = absurd (let w = is.0 in cc)
-is-read p Flush is reads = absurd is
+is-read : (p : Pass) (r : Asked) → IsRequestOf p r → p.write ≡ false → p.flush ≡ false → r ≡ Read p.first p.count
+is-read p (Read first count) is reads no_flush = let f = is.1 in let c = is.2 in cc
+is-read p (Write first content) is reads no_flush = absurd (let w = is.0 in cc)
+is-read p Flush is reads no_flush = absurd (let f = is.3 in cc)
 
 ended : Bool → Phase
 ended b = if b then HasAsked else Ready
@@ -110,7 +111,7 @@ module _ {shape : Shape} {fresh : List Bool} {places : ℕ → Option ℕ} {pass
   ]
 
   serving : IsServing history i (Read p.first p.count)
-  serving = let asked = stands.busy busy in record { asked = asked.1 ∙ ap Some (is-read p asked.0 asked.2 reads); unanswered = stands.unanswered busy }
+  serving = let asked = stands.busy busy in record { asked = asked.1 ∙ ap Some (is-read p asked.0 asked.2 reads (stands.no_flush region)); unanswered = stands.unanswered busy }
 
   abbrev at-call : ℕ → CallId
   at-call call = record { pass = i; call = call }
@@ -128,7 +129,7 @@ module _ {shape : Shape} {fresh : List Bool} {places : ℕ → Option ℕ} {pass
   goes-on true is = record {
     call = stands.call;
     idle = λ e. absurd (cc);
-    busy = λ e. let b = stands.busy busy in (b.0, b.1, request-kept p (record p { phase = HasAsked; done = p.done + p.piece; ticket = None; fetch = None; events = p.events - 1; sectors = p.sectors - p.piece }) b.0 refl refl refl b.2);
+    busy = λ e. let b = stands.busy busy in (b.0, b.1, request-kept p (record p { phase = HasAsked; done = p.done + p.piece; ticket = None; fetch = None; events = p.events - 1; sectors = p.sectors - p.piece }) b.0 refl refl refl refl b.2);
     unanswered = λ e. stands.unanswered busy;
     done = λ e. let d = stands.done busy in omega arith;
     range = λ e. ((stands.range busy).0, piece.no_more);
@@ -137,7 +138,10 @@ module _ {shape : Shape} {fresh : List Bool} {places : ℕ → Option ℕ} {pass
     ready = λ e. absurd (cc);
     write = λ e. absurd (cc);
     read = λ e. absurd (cc);
-    left = λ e. ltb-true _ _ is;
+    left = λ e f. ltb-true _ _ is;
+    flush = λ e. absurd (cc);
+    no_flush = λ e. absurd (cc);
+    unstarted = λ e f. absurd (let n = stands.no_flush region in cc);
     placed = λ e. stands.placed busy;
     piece = λ e. absurd (cc);
     at = λ e. absurd (cc);
@@ -148,7 +152,7 @@ module _ {shape : Shape} {fresh : List Bool} {places : ℕ → Option ℕ} {pass
       let p' : Pass = record p { phase = Ready; done = p.done + p.piece; ticket = None; fetch = None; events = p.events - 1; sectors = p.sectors - p.piece } in record {
         call = stands.call;
         idle = λ e. absurd (cc);
-        busy = λ e. let b = stands.busy busy in (b.0, b.1, request-kept p p' b.0 refl refl refl b.2);
+        busy = λ e. let b = stands.busy busy in (b.0, b.1, request-kept p p' b.0 refl refl refl refl b.2);
         unanswered = λ e. stands.unanswered busy;
         done = λ e. let d = stands.done busy in omega arith;
         range = λ e. ((stands.range busy).0, piece.no_more);
@@ -158,6 +162,9 @@ module _ {shape : Shape} {fresh : List Bool} {places : ℕ → Option ℕ} {pass
         write = λ e. absurd (cc);
         read = λ e. absurd (cc);
         left = λ e. absurd (cc);
+        flush = λ e. absurd (cc);
+        no_flush = λ e. absurd (cc);
+        unstarted = λ e f. absurd (let n = stands.no_flush region in cc);
         placed = λ e. stands.placed busy;
         piece = λ e. absurd (cc);
         at = λ e. absurd (cc);
@@ -224,7 +231,7 @@ module _ {shape : Shape} {fresh : List Bool} {places : ℕ → Option ℕ} {pass
         (shown-push start history event fa.shown (shown-is (λ s v on.
         let in_p = in-block s v on in
         subst (λ (x : Sector). Contains (guest-of s).contents x) (sym (is_rest s v on)) ((fa.stands s (in-start s in_p)).other p.block in_p absent))))
-        (λ t is. absurd (cc)) (λ a. refl)
+        (λ t is. absurd (cc)) (λ a low. refl)
         (λ s inside. elim (cases-at (p.first + p.done) content s) [
           | inl off ↦ subst (λ (g : Track). StandsFor shape.block fresh places rest s g (track disk.start disk.log)) (sym (off-same s off)) (fa.stands s inside)
           | inr on ↦
@@ -273,7 +280,7 @@ module _ {shape : Shape} {fresh : List Bool} {places : ℕ → Option ℕ} {pass
       store-of a = track disk.start disk.log a
 
       store-free : (a : ℕ) (v : Sector) → sector_in t.first content a ≡ Some v → (store-of a).writes ≡ []
-      store-free a v on = let range = in-place a v on in elim (fa.filling a) [
+      store-free a v on = let range = in-place a v on in elim (fa.filling a (let low = (co.placed.inside p.block p.at placed).0 in let from = range.0 in omega arith)) [
         | inl none ↦ none.none
         | inr w ↦ absurd (no-filler co i p there region reads a (track start history) (store-of a) placed range.0 range.1 w)
       ]
@@ -315,7 +322,7 @@ module _ {shape : Shape} {fresh : List Bool} {places : ℕ → Option ℕ} {pass
             let read = there-too s a v (omega arith) on in
             (fa.stands s (in-start s in_p)).local p.block p.at in_p local placed v (read-could adds held a v read (store-free a v read)))))
             (λ u is. absurd (cc))
-            (λ a. ap (λ (x : Track). x.writes) (disk-track a adds) ∙ seen-writes a (store-of a) (ticket_id t) t.first content)
+            (λ a low. ap (λ (x : Track). x.writes) (disk-track a adds) ∙ seen-writes a (store-of a) (ticket_id t) t.first content)
             (λ s inside. elim (cases-at (p.first + p.done) content s) [
               | inl off ↦ off-stands s inside off
               | inr on ↦ on-stands s on.0 on.1

@@ -62,7 +62,7 @@ module _ {shape : Shape} {fresh : List Bool} {places : ℕ → Option ℕ} {pass
         → IsFaithful start rest shape fresh places (slice_set passes i (after_look p t)) history disk' t.number
     looks-faithful-at {start} {rest} {disk} {disk'} {last} t fa adds later = quiet-faithful co i p there not-issuing (after_look p t) (λ e. absurd (cc)) fa disk' t.number (omega arith)
         (λ u is. let same : u.number ≡ t.number = ap (λ (x : Ticket). x.number) (sym (some-inj is)) in (omega arith, λ j q v at ne has e. let n = fa.numbers j q v at has in absurd (omega arith)))
-        (λ a. disk-track a adds ∙ ask-same a (track disk.start disk.log a) (ticket_id t) (AsksRead t.first t.count))
+        (λ a low. disk-track a adds ∙ ask-same a (track disk.start disk.log a) (ticket_id t) (AsksRead t.first t.count))
         (λ e. absurd (cc))
 
     pub base-looks-coherent-at : (t : Ticket) (base_flies' : List Ticket → Type 0) → local ≡ false → t.kind ≡ ReadKind → t.first ≡ p.first + p.done → t.count ≡ below shape.limit (p.first + p.done) p.piece → Puts t base_flies base_flies'
@@ -112,4 +112,4 @@ module _ {shape : Shape} {fresh : List Bool} {places : ℕ → Option ℕ} {pass
 
     pub failed-faithful : {start : List Sector} {rest : ℕ → Sector} {disk disk' : Disk} {last : ℕ} → IsFaithful start rest shape fresh places passes history disk last → ((a : ℕ) → track disk'.start disk'.log a ≡ track disk.start disk.log a)
         → IsFaithful start rest shape fresh places (slice_set passes i (after_fault why p)) history disk' last
-    failed-faithful {start} {rest} {disk} {disk'} {last} fa same = quiet-faithful co i p there (λ e. absurd (cc)) (after_fault why p) (λ e. absurd (cc)) fa disk' last (omega arith) (λ u is. absurd (cc)) same (λ e. absurd (cc))
+    failed-faithful {start} {rest} {disk} {disk'} {last} fa same = quiet-faithful co i p there (λ e. absurd (cc)) (after_fault why p) (λ e. absurd (cc)) fa disk' last (omega arith) (λ u is. absurd (cc)) (λ a low. same a) (λ e. absurd (cc))

@@ -13,10 +13,10 @@ use Rattle.vd_device.specs.declared.ticket.Ticket.{Ticket}
 use Rattle.vd_passes.specs.declared.shape.Shape.{Shape}
 use Rattle.vd_passes.specs.declared.pass.Pass.{Pass}
 use Rattle.vd_passes.specs.declared.pass.Phase.{Phase}
-use Rattle.vd_passes.specs.declared.pass.Phase.TheVariants.{Idle, Asked as HasAsked, Held, Fetching, Filled, Issuing, Looking, Ready}
+use Rattle.vd_passes.specs.declared.pass.Phase.TheVariants.{Idle, Asked as HasAsked, Held, Fetching, Filled, Issuing, Looking, Flushing, Ready}
 use Rattle.vd_passes.specs.declared.pass.Fault.{Fault}
 use Rattle.vd_passes.proofs.Lists.{some-inj, at-set}
-use Rattle.vd_passes.specs.Needs.{pieces, need_of, sectors_of, sectors_left, pieces_left, events_of, events_needed, sectors_needed, HasRoom}
+use Rattle.vd_passes.specs.Needs.{pieces, need_of, sectors_left, pieces_left, events_of, events_needed, sectors_needed, HasRoom}
 use Rattle.vd_passes.specs.Passes.{IsPiece, spent, after_ask, after_enter, after_fetch, after_filled, after_issue, after_look, after_base_look, after_piece, after_fault, after_reply}
 
 -- The pieces of a range that begins in block b.
@@ -96,6 +96,7 @@ is_before_event Fetching = true
 is_before_event Filled = true
 is_before_event Issuing = false
 is_before_event Looking = true
+is_before_event Flushing = false
 is_before_event Ready = false
 
 events-before : (phase : Phase) (write : Bool) (pieces : ℕ) → is_before_event phase ≡ true → events_needed phase write pieces ≡ 1 + events_of write pieces
@@ -106,6 +107,7 @@ events-before Fetching write pieces is = refl
 events-before Filled write pieces is = refl
 events-before Issuing write pieces is = cc
 events-before Looking write pieces is = refl
+events-before Flushing write pieces is = cc
 events-before Ready write pieces is = cc
 
 sectors-before : (phase : Phase) (left piece : ℕ) → is_before_event phase ≡ true → sectors_needed phase left piece ≡ left
@@ -116,6 +118,7 @@ sectors-before Fetching left piece is = refl
 sectors-before Filled left piece is = refl
 sectors-before Issuing left piece is = cc
 sectors-before Looking left piece is = refl
+sectors-before Flushing left piece is = cc
 sectors-before Ready left piece is = cc
 
 -- a pass that has no request needs none
@@ -132,19 +135,30 @@ room-replied block p = record { events = omega arith; sectors = omega arith; idl
 from-start : (block first count : ℕ) → pieces block (first + 0) (count - 0) ≡ pieces block first count
 from-start block first count = let e : first + 0 ≡ first = omega arith in let f : count - 0 ≡ count = omega arith in ap (λ (n : ℕ). pieces block n (count - 0)) e ∙ ap (λ (n : ℕ). pieces block first n) f
 
+-- a flush has none
+no-pieces : (block : ℕ) → pieces block 0 0 ≡ 0
+no-pieces zero = refl
+no-pieces (suc b) =
+    let n : 0 - suc b * 0 + 0 + (suc b - 1) ≡ 0 * suc b + b = omega arith in
+    pieces-from (suc b) 0 0 0 (omega arith) (omega arith) ∙ ap (λ (k : ℕ). k / suc b) n ∙ div-mul-add 0 (suc b) b (omega arith)
+
 -- Its Ask is told, and the rest of what its request needs is left.
-pub room-asked : (block : ℕ) (p : Pass) (request : Asked) (events sectors : ℕ) → 0 < sectors_of request → (need_of block request).events ≤ events + 1 → (need_of block request).sectors ≤ sectors + length (asked_content request) → HasRoom block (after_ask p request events sectors)
-room-asked block p (Read first count) events sectors some enough_events enough_sectors = record {
+pub room-asked : (block : ℕ) (p : Pass) (request : Asked) (events sectors : ℕ) → (need_of block request).events ≤ events + 1 → (need_of block request).sectors ≤ sectors + length (asked_content request) → HasRoom block (after_ask p request events sectors)
+room-asked block p (Read first count) events sectors enough_events enough_sectors = record {
   events = let e = from-start block first count in omega arith;
   sectors = omega arith;
   idle = λ is. absurd (cc);
 }
-room-asked block p (Write first content) events sectors some enough_events enough_sectors = record {
+room-asked block p (Write first content) events sectors enough_events enough_sectors = record {
   events = let e = from-start block first (length content) in omega arith;
   sectors = omega arith;
   idle = λ is. absurd (cc);
 }
-room-asked block p Flush events sectors some enough_events enough_sectors = absurd (omega arith)
+room-asked block p Flush events sectors enough_events enough_sectors = record {
+  events = let n = no-pieces block in omega arith;
+  sectors = omega arith;
+  idle = λ is. absurd (cc);
+}
 
 -- Steps that use none.
 

@@ -5,7 +5,7 @@ use Rattle.vd_device.specs.declared.ticket.Ticket.{Ticket}
 use Rattle.vd_passes.specs.declared.shape.Shape.{Shape}
 use Rattle.vd_passes.specs.declared.pass.Pass.{Pass}
 use Rattle.vd_passes.specs.declared.pass.Phase.{Phase}
-use Rattle.vd_passes.specs.declared.pass.Phase.TheVariants.{Idle, Asked as HasAsked, Looking, Ready}
+use Rattle.vd_passes.specs.declared.pass.Phase.TheVariants.{Idle, Asked as HasAsked, Looking, Flushing, Ready}
 use Rattle.vd_passes.specs.declared.pass.Fault.{Fault}
 use Rattle.vd_passes.specs.Standings.{Standing}
 use Rattle.vd_passes.specs.Passes.{has_region, pending_of, writes_in, HasTicket, HasOutcome, StandsAs, after_fault}
@@ -21,6 +21,9 @@ not-asked ph has e = let h = ap has_region e in absurd (cc)
 pub not-ready : (ph : Phase) → has_region ph ≡ true → ph ≢ Ready
 not-ready ph has e = let h = ap has_region e in absurd (cc)
 
+pub not-flushing : (ph : Phase) → has_region ph ≡ true → ph ≢ Flushing
+not-flushing ph has e = let h = ap has_region e in absurd (cc)
+
 module _ {shape : Shape} {fresh : List Bool} {places : ℕ → Option ℕ} {t : Standing} {p : Pass} (stands : StandsAs shape fresh places t p) (region : has_region p.phase ≡ true) where
   -- in its region it is now in another phase
   abbrev pub moved : Phase → (ticket fetch : Option Ticket) → (buffer : List Sector) → Pass
@@ -34,7 +37,7 @@ module _ {shape : Shape} {fresh : List Bool} {places : ℕ → Option ℕ} {t : 
       record {
         call = stands.call;
         idle = λ e. absurd (not-idle ph has e);
-        busy = λ e. let b = stands.busy busy in (b.0, b.1, request-kept p (moved ph ticket fetch buffer) b.0 refl refl refl b.2);
+        busy = λ e. let b = stands.busy busy in (b.0, b.1, request-kept p (moved ph ticket fetch buffer) b.0 refl refl refl refl b.2);
         unanswered = λ e. stands.unanswered busy;
         done = λ e. stands.done busy;
         range = λ e. stands.range busy;
@@ -44,6 +47,9 @@ module _ {shape : Shape} {fresh : List Bool} {places : ℕ → Option ℕ} {t : 
         write = write;
         read = read;
         left = λ e. absurd (not-asked ph has e);
+        flush = λ e. absurd (not-flushing ph has e);
+        no_flush = λ e. stands.no_flush region;
+        unstarted = λ e f. absurd (let n = stands.no_flush region in cc);
         placed = λ e. stands.placed busy;
         piece = λ e. let piece = stands.piece region in record { some = piece.some; no_more = piece.no_more; from = piece.from; to = piece.to; in_disk = piece.in_disk; ends = piece.ends };
         at = λ e. stands.at region;
@@ -58,7 +64,7 @@ module _ {shape : Shape} {fresh : List Bool} {places : ℕ → Option ℕ} {t : 
       record {
         call = stands.call;
         idle = λ e. absurd (cc);
-        busy = λ e. let b = stands.busy busy in (b.0, b.1, request-kept p (after_fault why p) b.0 refl refl refl b.2);
+        busy = λ e. let b = stands.busy busy in (b.0, b.1, request-kept p (after_fault why p) b.0 refl refl refl refl b.2);
         unanswered = λ e. stands.unanswered busy;
         done = λ e. stands.done busy;
         range = λ e. stands.range busy;
@@ -68,6 +74,9 @@ module _ {shape : Shape} {fresh : List Bool} {places : ℕ → Option ℕ} {t : 
         write = λ e. absurd (cc);
         read = λ e. absurd (cc);
         left = λ e. absurd (cc);
+        flush = λ e. absurd (cc);
+        no_flush = λ e. absurd (cc);
+        unstarted = λ e f. absurd (let n = stands.no_flush region in cc);
         placed = λ e. stands.placed busy;
         piece = λ e. absurd (cc);
         at = λ e. absurd (cc);

@@ -9,7 +9,7 @@ use Rattle.vd_device.specs.Tickets.{IsFree, AreApart as RangesApart}
 use Rattle.vd_passes.specs.declared.shape.Shape.{Shape}
 use Rattle.vd_passes.specs.declared.pass.Pass.{Pass}
 use Rattle.vd_passes.specs.declared.pass.Phase.{Phase}
-use Rattle.vd_passes.specs.declared.pass.Phase.TheVariants.{Idle, Asked as HasAsked, Held, Fetching, Filled, Issuing, Looking, Ready}
+use Rattle.vd_passes.specs.declared.pass.Phase.TheVariants.{Idle, Asked as HasAsked, Held, Fetching, Filled, Issuing, Looking, Flushing, Ready}
 use Rattle.vd_passes.specs.Standings.{Standing, standing}
 use Rattle.vd_passes.specs.Passes.{has_region, tickets_of, HasNone, HasTicket, IsPiece, IsStored, IsStoreLook, IsBaseLook, IsRequestOf, StandsAs}
 use Rattle.vd_passes.specs.Coherent.{IsCoherent}
@@ -22,19 +22,23 @@ look-reads : (q : Pass) (shape : Shape) (fresh : List Bool) (t u : Ticket) → I
 look-reads q shape fresh t u (inl store) is kind = let e = ap (λ (x : Ticket). x.kind) (some-inj (sym store.has ∙ is)) in let k = store.kind in cc
 look-reads q shape fresh t u (inr base) is kind = let n = base.none in cc
 
--- a pass that has a write in flight is issuing
-writes-there : (ph : Phase) (q : Pass) (shape : Shape) (fresh : List Bool) (u : Ticket) → HasTicket ph shape fresh q → q.ticket ≡ Some u → u.kind ≡ WriteKind → (ph ≡ Issuing) × IsStored shape.block fresh q u
+-- a pass that has a write in flight is issuing, or its flush writes below the storage
+pub writes-there : (ph : Phase) (q : Pass) (shape : Shape) (fresh : List Bool) (u : Ticket) → HasTicket ph shape fresh q → q.ticket ≡ Some u → u.kind ≡ WriteKind → ((ph ≡ Issuing) × IsStored shape.block fresh q u) ⊎ ((ph ≡ Flushing) × (u.first + u.count ≤ shape.storage_at))
 writes-there Idle q shape fresh u has is kind = absurd (let n = has.ticket in cc)
 writes-there HasAsked q shape fresh u has is kind = absurd (let n = has.ticket in cc)
 writes-there Held q shape fresh u has is kind = absurd (let n = has.ticket in cc)
 writes-there Fetching q shape fresh u has is kind = absurd (let n = has.2 in cc)
 writes-there Filled q shape fresh u has is kind = absurd (let n = has.0.ticket in cc)
-writes-there Issuing q shape fresh u has is kind = (refl, subst (λ t. IsStored shape.block fresh q t) (some-inj (sym has.1 ∙ is)) has.4)
+writes-there Issuing q shape fresh u has is kind = inl (refl, subst (λ t. IsStored shape.block fresh q t) (some-inj (sym has.1 ∙ is)) has.4)
 writes-there Looking q shape fresh u has is kind = absurd (look-reads q shape fresh has.0 u has.1 is kind)
+writes-there Flushing q shape fresh u has is kind = elim (has.1 u is) [
+  | inl flush ↦ absurd (cc)
+  | inr low ↦ inr (refl, low.1)
+]
 writes-there Ready q shape fresh u has is kind = absurd (let n = has.ticket in cc)
 
 -- what a pass has stored lies in the place of its block
-stored-in : (q : Pass) (u : Ticket) (shape : Shape) (fresh : List Bool) → IsPiece shape q → IsStored shape.block fresh q u → (q.at ≤ u.first) × (u.first + u.count ≤ q.at + shape.block)
+pub stored-in : (q : Pass) (u : Ticket) (shape : Shape) (fresh : List Bool) → IsPiece shape q → IsStored shape.block fresh q u → (q.at ≤ u.first) × (u.first + u.count ≤ q.at + shape.block)
 stored-in q u shape fresh piece (inl own) = let a = piece.from in let b = piece.to in let e = own.0 in let f = own.1 in (omega arith, omega arith)
 stored-in q u shape fresh piece (inr whole) = let e = whole.0 in let f = whole.1 in (omega arith, omega arith)
 
@@ -99,9 +103,12 @@ module _ {shape : Shape} {fresh : List Bool} {places : ℕ → Option ℕ} {pass
     apart : (first count : ℕ) → p.at ≤ first → first + count ≤ p.at + shape.block → (j : ℕ) (q : Pass) (u : Ticket) → slice_get passes j ≡ Some q → q.ticket ≡ Some u → u.kind ≡ WriteKind → RangesApart u.first u.count first count
     apart first count from to j q u at is kind =
         let theirs = co.each j q at in
-        let w = writes-there q.phase q shape fresh u theirs.ticket is kind in
-        let lies = stored-in q u shape fresh (theirs.piece (region-of _ Issuing refl w.0)) w.1 in
-        ranges-apart shape.block q.at p.at u.first u.count first count (co.placed.apart q.block p.block q.at p.at (issuing-place theirs w.0) placed (other-block j q at w.0)) lies.0 lies.1 from to
+        elim (writes-there q.phase q shape fresh u theirs.ticket is kind) [
+          | inl w ↦
+              let lies = stored-in q u shape fresh (theirs.piece (region-of _ Issuing refl w.0)) w.1 in
+              ranges-apart shape.block q.at p.at u.first u.count first count (co.placed.apart q.block p.block q.at p.at (issuing-place theirs w.0) placed (other-block j q at w.0)) lies.0 lies.1 from to
+          | inr low ↦ inl (let inside = (co.placed.inside p.block p.at placed).0 in let below = low.1 in omega arith)
+        ]
 
     free : (first count : ℕ) → p.at ≤ first → first + count ≤ p.at + shape.block → IsFree flies depth first count
     free first count from to = (tickets_of passes, co.flight, (let few = co.few in let deep = co.deep in omega (arith, few-tickets passes)), all-tickets _ passes (apart first count from to))

@@ -9,7 +9,7 @@ use Rattle.vd_device.specs.declared.ticket.Ticket.{Ticket}
 use Rattle.vd_passes.specs.declared.shape.Shape.{Shape}
 use Rattle.vd_passes.specs.declared.pass.Pass.{Pass}
 use Rattle.vd_passes.specs.declared.pass.Phase.{Phase}
-use Rattle.vd_passes.specs.declared.pass.Phase.TheVariants.{Idle, Asked as HasAsked, Held, Fetching, Filled, Issuing, Looking, Ready}
+use Rattle.vd_passes.specs.declared.pass.Phase.TheVariants.{Idle, Asked as HasAsked, Held, Fetching, Filled, Issuing, Looking, Flushing, Ready}
 use Rattle.vd_passes.specs.Tracks.{Track, writes}
 use Rattle.vd_passes.specs.Standings.{Standing, standing}
 use Rattle.vd_passes.specs.Places.{IsIn}
@@ -167,10 +167,10 @@ module _ (passes : List Pass) (i : ℕ) (p p' : Pass) (there : slice_get passes 
     ];
   }
 
-pub request-kept : (p q : Pass) (r : Asked) → q.write ≡ p.write → q.first ≡ p.first → q.count ≡ p.count → IsRequestOf p r → IsRequestOf q r
-request-kept p q (Read first count) w f c is = (w ∙ is.0, is.1 ∙ sym f, is.2 ∙ sym c)
-request-kept p q (Write first content) w f c is = (w ∙ is.0, is.1 ∙ sym f, is.2 ∙ sym c)
-request-kept p q Flush w f c is = is
+pub request-kept : (p q : Pass) (r : Asked) → q.write ≡ p.write → q.first ≡ p.first → q.count ≡ p.count → q.flush ≡ p.flush → IsRequestOf p r → IsRequestOf q r
+request-kept p q (Read first count) w f c g is = (w ∙ is.0, is.1 ∙ sym f, is.2 ∙ sym c, g ∙ is.3)
+request-kept p q (Write first content) w f c g is = (w ∙ is.0, is.1 ∙ sym f, is.2 ∙ sym c, g ∙ is.3)
+request-kept p q Flush w f c g is = (w ∙ is.0, f ∙ is.1, c ∙ is.2, g ∙ is.3)
 
 -- A pass that changes keeps apart from the others where it holds no region that it didn't hold.
 pub apart-set : (passes : List Pass) (i : ℕ) (p p' : Pass) → slice_get passes i ≡ Some p
@@ -241,6 +241,7 @@ ticket-freshens {fresh} {fresh'} {b} f Fetching shape p ne has = (has.0, has.1, 
 ticket-freshens {fresh} {fresh'} {b} f Filled shape p ne has = (has.0, known f p.block false (ne refl) has.1)
 ticket-freshens {fresh} {fresh'} {b} f Issuing shape p ne has = (has.0, has.1, has.2, has.3, stored-freshens f shape.block p has.0 (ne refl) has.4)
 ticket-freshens {fresh} {fresh'} {b} f Looking shape p ne has = (has.0, look-freshens f shape p has.0 (ne refl) has.1)
+ticket-freshens {fresh} {fresh'} {b} f Flushing shape p ne has = has
 ticket-freshens {fresh} {fresh'} {b} f Ready shape p ne has = has
 
 -- A pass that holds no region of the block stands as it did.
@@ -259,6 +260,9 @@ stands-freshens {shape} {fresh} {fresh'} {b} {places} {t} {p} freshens ne stands
   write = stands.write;
   read = stands.read;
   left = stands.left;
+  flush = stands.flush;
+  no_flush = stands.no_flush;
+  unstarted = stands.unstarted;
   placed = stands.placed;
   piece = stands.piece;
   at = λ has why. stands.at has (elim why [ inl write ↦ inl write | inr is ↦ inr (sym (freshens.others p.block (ne has)) ∙ is) ]);

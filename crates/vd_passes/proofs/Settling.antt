@@ -56,6 +56,9 @@ module _ {shape : Shape} {fresh : List Bool} {places : ℕ → Option ℕ} {pass
   piece-of : IsPiece shape p
   piece-of = now.piece (region-of _ Issuing refl issuing)
 
+  no-flush : p.flush ≡ false
+  no-flush = now.no_flush (region-of _ Issuing refl issuing)
+
   some-open : 0 < (standing history i).progress.pending
   some-open = let s = piece-of.some in let w = open-write in omega arith
 
@@ -78,7 +81,7 @@ module _ {shape : Shape} {fresh : List Bool} {places : ℕ → Option ℕ} {pass
   goes-on true is = record {
     call = now.call;
     idle = λ e. absurd (cc);
-    busy = λ e. let r = now.busy not-idle in (r.0, r.1, request-kept p (piece-next true) r.0 refl refl refl r.2);
+    busy = λ e. let r = now.busy not-idle in (r.0, r.1, request-kept p (piece-next true) r.0 refl refl refl refl r.2);
     unanswered = λ e. now.unanswered not-idle;
     done = λ e. let d = now.done not-idle in let w = open-write in omega arith;
     range = λ e. ((now.range not-idle).0, piece-of.no_more);
@@ -87,7 +90,10 @@ module _ {shape : Shape} {fresh : List Bool} {places : ℕ → Option ℕ} {pass
     ready = λ e. absurd (cc);
     write = λ e. absurd (cc);
     read = λ e. absurd (cc);
-    left = λ e. ltb-true _ _ is;
+    left = λ e f. ltb-true _ _ is;
+    flush = λ e. absurd (cc);
+    no_flush = λ e. absurd (cc);
+    unstarted = λ e f. absurd (let n = no-flush in cc);
     placed = λ e. now.placed not-idle;
     piece = λ e. absurd (cc);
     at = λ e. absurd (cc);
@@ -97,7 +103,7 @@ module _ {shape : Shape} {fresh : List Bool} {places : ℕ → Option ℕ} {pass
   goes-on false is = record {
     call = now.call;
     idle = λ e. absurd (cc);
-    busy = λ e. let r = now.busy not-idle in (r.0, r.1, request-kept p (piece-next false) r.0 refl refl refl r.2);
+    busy = λ e. let r = now.busy not-idle in (r.0, r.1, request-kept p (piece-next false) r.0 refl refl refl refl r.2);
     unanswered = λ e. now.unanswered not-idle;
     done = λ e. let d = now.done not-idle in let w = open-write in omega arith;
     range = λ e. ((now.range not-idle).0, piece-of.no_more);
@@ -107,6 +113,9 @@ module _ {shape : Shape} {fresh : List Bool} {places : ℕ → Option ℕ} {pass
     write = λ e. absurd (cc);
     read = λ e. absurd (cc);
     left = λ e. absurd (cc);
+    flush = λ e. absurd (cc);
+    no_flush = λ e. absurd (cc);
+    unstarted = λ e f. absurd (let n = no-flush in cc);
     placed = λ e. now.placed not-idle;
     piece = λ e. absurd (cc);
     at = λ e. absurd (cc);
@@ -128,16 +137,19 @@ module _ {shape : Shape} {fresh : List Bool} {places : ℕ → Option ℕ} {pass
   failed number = record {
     call = now.call;
     idle = λ e. absurd (cc);
-    busy = λ e. let r = now.busy not-idle in (r.0, r.1, request-kept p (broken-next number) r.0 refl refl refl r.2);
+    busy = λ e. let r = now.busy not-idle in (r.0, r.1, request-kept p (broken-next number) r.0 refl refl refl refl r.2);
     unanswered = λ e. now.unanswered not-idle;
     done = λ e. now.done not-idle;
     range = λ e. now.range not-idle;
     pending = λ e. refl;
     whole = λ e f. absurd (f refl);
-    ready = λ e. ((let n = piece-of.no_more in let s = piece-of.some in omega arith), sym (writer co i p there issuing _ (write-ticket now issuing).1));
+    ready = λ e. (inr (let n = piece-of.no_more in let s = piece-of.some in omega arith), sym (writer co i p there issuing _ (write-ticket now issuing).1));
     write = λ e. absurd (cc);
     read = λ e. absurd (cc);
     left = λ e. absurd (cc);
+    flush = λ e. absurd (cc);
+    no_flush = λ e. absurd (cc);
+    unstarted = λ e f. absurd (let n = no-flush in cc);
     placed = λ e. now.placed not-idle;
     piece = λ e. absurd (cc);
     at = λ e. absurd (cc);
@@ -217,7 +229,7 @@ late-faithful {start} {rest} {shape} {fresh} {places} {passes} {history} {disk} 
     local = λ b x in_b is at v among. (fa.stands s inside).local b x in_b is at v (subst (λ (d : Track). Contains d.contents v) (disk-same (x + (s - shape.block * b)) grows) among);
     other = (fa.stands s inside).other;
   };
-  filling = λ a. subst (λ d. IsUnfilled passes a d ⊎ IsFilled shape.block passes a (track start history) d) (sym (disk-same a grows)) (fa.filling a);
+  filling = λ a low. subst (λ d. IsUnfilled passes a d ⊎ IsFilled shape.block passes a (track start history) d) (sym (disk-same a grows)) (fa.filling a low);
   buffers = fa.buffers;
 }
 

@@ -223,13 +223,13 @@ new-followed {passes} {buffer} new log = record {
 
 -- A pass that goes on with its request, and neither issues, nor looks, nor has failed by the store.
 module _ {history : List Entry} {numbers : List ℕ} {log : List Entry} {i : ℕ} {p : Pass} (was : IsFollowedPass i p history numbers log) (busy : p.phase ≢ Idle) (p' : Pass)
-    (call : p'.call ≡ p.call) (write : p'.write ≡ p.write) (first : p'.first ≡ p.first) (count : p'.count ≡ p.count) where
+    (call : p'.call ≡ p.call) (write : p'.write ≡ p.write) (first : p'.first ≡ p.first) (count : p'.count ≡ p.count) (flush : p'.flush ≡ p.flush) where
   pub asked-on : IsAsked i p' history numbers log
   asked-on = let a = was.asked busy in record {
     at = a.at;
     request = a.request;
     asked = a.asked ∙ ap (λ (c : ℕ). Some (Ask (record { pass = i; call = c }) a.request)) (sym call);
-    of_pass = request-kept p p' a.request write first count a.of_pass;
+    of_pass = request-kept p p' a.request write first count flush a.of_pass;
     number = a.number;
     numbered = a.numbered;
     passed = a.passed;
@@ -264,7 +264,7 @@ pub piece-ended : {history : List Entry} {numbers : List ℕ} {log : List Entry}
     → IsFollowedPass i (spent events sectors (after_piece p)) history numbers log
 piece-ended {history} {numbers} {log} {i} {p} was busy whole events sectors =
     let left = nat_lt (p.done + p.piece) p.count in
-    goes-on was busy (spent events sectors (after_piece p)) refl refl refl refl (ended-not left Issuing (λ e. cc) (λ e. cc)) (ended-not left Looking (λ e. cc) (λ e. cc)) (λ is ticket why. cc)
+    goes-on was busy (spent events sectors (after_piece p)) refl refl refl refl refl (ended-not left Issuing (λ e. cc) (λ e. cc)) (ended-not left Looking (λ e. cc) (λ e. cc)) (λ is ticket why. cc)
 
 pub idle-pass : {history : List Entry} {numbers : List ℕ} {log : List Entry} {i : ℕ} {p : Pass} → p.phase ≡ Idle → IsFollowedPass i p history numbers log
 idle-pass {history} {numbers} {log} {i} {p} idle = record {

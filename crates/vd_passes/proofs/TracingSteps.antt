@@ -51,44 +51,43 @@ asked-last history numbers {log} {i} p request events many passed is of_pass = r
   failed = λ e. absurd (cc);
 }
 
--- A pass that is asking; that of a Flush stays as it is.
+-- A pass that is asking.
 asks-pass : (history : List Entry) (numbers : List ℕ) {log : List Entry} {i : ℕ} (p : Pass) (request : Asked) (events events_left sectors_left : ℕ) → length numbers ≡ length history → events ≤ length log
-    → IsFollowedPass i p (history ++ Ask (call_of i (after_ask p request events_left sectors_left)) request ∷ []) (numbers ++ events ∷ []) log
     → IsFollowedPass i (after_ask p request events_left sectors_left) (history ++ Ask (call_of i (after_ask p request events_left sectors_left)) request ∷ []) (numbers ++ events ∷ []) log
-asks-pass history numbers {log} {i} p (Read first count) events events_left sectors_left many passed was = asked-last history numbers (after_ask p (Read first count) events_left sectors_left) (Read first count) events many passed refl (refl, refl, refl)
-asks-pass history numbers {log} {i} p (Write first content) events events_left sectors_left many passed was = asked-last history numbers (after_ask p (Write first content) events_left sectors_left) (Write first content) events many passed refl (refl, refl, refl)
-asks-pass history numbers {log} {i} p Flush events events_left sectors_left many passed was = was
+asks-pass history numbers {log} {i} p (Read first count) events events_left sectors_left many passed = asked-last history numbers (after_ask p (Read first count) events_left sectors_left) (Read first count) events many passed refl (refl, refl, refl, refl)
+asks-pass history numbers {log} {i} p (Write first content) events events_left sectors_left many passed = asked-last history numbers (after_ask p (Write first content) events_left sectors_left) (Write first content) events many passed refl (refl, refl, refl, refl)
+asks-pass history numbers {log} {i} p Flush events events_left sectors_left many passed = asked-last history numbers (after_ask p Flush events_left sectors_left) Flush events many passed refl (refl, refl, refl, refl)
 
 -- A pass goes on, while the store's log, the history and its numbers stand.
 module _ {passes passes' : List Pass} {history : List Entry} {numbers : List ℕ} {log : List Entry} (followed : IsFollowed passes history numbers log) (i : ℕ) {p : Pass} (there : slice_get passes i ≡ Some p) where
-  set-on : (p' : Pass) → p.phase ≢ Idle → passes' ≡ slice_set passes i p' → p'.call ≡ p.call → p'.write ≡ p.write → p'.first ≡ p.first → p'.count ≡ p.count
+  set-on : (p' : Pass) → p.phase ≢ Idle → passes' ≡ slice_set passes i p' → p'.call ≡ p.call → p'.write ≡ p.write → p'.first ≡ p.first → p'.count ≡ p.count → p'.flush ≡ p.flush
       → p'.phase ≢ Issuing → p'.phase ≢ Looking → (p'.phase ≡ Ready → (ticket : ℕ) → p'.fault ≢ Some (fault.Store ticket)) → IsFollowed passes' history numbers log
-  set-on p' busy after call write first count issues_not looks_not fails_not =
-      rw after (set-followed followed there (goes-on (followed.each i p there) busy p' call write first count issues_not looks_not fails_not))
+  set-on p' busy after call write first count flush issues_not looks_not fails_not =
+      rw after (set-followed followed there (goes-on (followed.each i p there) busy p' call write first count flush issues_not looks_not fails_not))
 
   fetched-followed : (answer : Settled) → p.phase ≡ Fetching → (ticket : Ticket) (block : ℕ) (content : List Sector) → passes' ≡ slice_set passes i (fetched answer p ticket block content) → IsFollowed passes' history numbers log
   fetched-followed settled.Done is ticket block content after =
-      set-on (fetched settled.Done p ticket block content) (λ e. cc) after refl refl refl refl (λ e. cc) (λ e. cc) (λ e. absurd (cc))
-  fetched-followed (settled.NotYet same) is ticket block content after = set-on p (λ e. cc) after refl refl refl refl (λ e. cc) (λ e. cc) (λ e. absurd (cc))
+      set-on (fetched settled.Done p ticket block content) (λ e. cc) after refl refl refl refl refl (λ e. cc) (λ e. cc) (λ e. absurd (cc))
+  fetched-followed (settled.NotYet same) is ticket block content after = set-on p (λ e. cc) after refl refl refl refl refl (λ e. cc) (λ e. cc) (λ e. absurd (cc))
   fetched-followed (settled.Failed number) is ticket block content after =
-      set-on (fetched (settled.Failed number) p ticket block content) (λ e. cc) after refl refl refl refl (λ e. cc) (λ e. cc) (λ e other why. cc)
+      set-on (fetched (settled.Failed number) p ticket block content) (λ e. cc) after refl refl refl refl refl (λ e. cc) (λ e. cc) (λ e other why. cc)
 
 -- The steps, as their records say them. First those that add no entry and leave the store as it is.
 module _ {passes passes' : List Pass} {history : List Entry} {numbers : List ℕ} {log : List Entry} {i : ℕ} (followed : IsFollowed passes history numbers log) where
   pub enters-followed : {shape : Shape} {places : ℕ → Option ℕ} → IsAt passes i (λ p. p.phase ≡ HasAsked) → Enters shape places i passes passes' → IsFollowed passes' history numbers log
   enters-followed {shape} {places} at step =
       let is = phase-found passes i HasAsked at step.there in
-      set-on followed i step.there (after_enter step.pass step.block step.piece step.at) (λ e. cc) step.after refl refl refl refl (λ e. cc) (λ e. cc) (λ e. absurd (cc))
+      set-on followed i step.there (after_enter step.pass step.block step.piece step.at) (λ e. cc) step.after refl refl refl refl refl (λ e. cc) (λ e. cc) (λ e. absurd (cc))
 
   pub fetches-followed : {shape : Shape} {base_flies base_flies' : List Ticket → Type 0} → IsAt passes i (λ p. p.phase ≡ Held) → Fetches shape i passes passes' base_flies base_flies' → IsFollowed passes' history numbers log
   fetches-followed {shape} {base_flies} {base_flies'} at step =
       let is = phase-found passes i Held at step.there in
-      set-on followed i step.there (after_fetch step.pass step.ticket) (λ e. cc) step.after refl refl refl refl (λ e. cc) (λ e. cc) (λ e. absurd (cc))
+      set-on followed i step.there (after_fetch step.pass step.ticket) (λ e. cc) step.after refl refl refl refl refl (λ e. cc) (λ e. cc) (λ e. absurd (cc))
 
   pub fills-followed : {shape : Shape} → IsAt passes i (λ p. p.phase ≡ Held) → FillsZeros shape i passes passes' → IsFollowed passes' history numbers log
   fills-followed {shape} at step =
       let is = phase-found passes i Held at step.there in
-      set-on followed i step.there (after_filled step.pass (replicate shape.block zero_sector)) (λ e. cc) step.after refl refl refl refl (λ e. cc) (λ e. cc) (λ e. absurd (cc))
+      set-on followed i step.there (after_filled step.pass (replicate shape.block zero_sector)) (λ e. cc) step.after refl refl refl refl refl (λ e. cc) (λ e. cc) (λ e. absurd (cc))
 
   pub fetch_settled-followed : {answer : Settled} {shape : Shape} {base_flies base_flies' : List Ticket → Type 0} {base_tells : Type 0} {base : List Sector} → IsAt passes i (λ p. p.phase ≡ Fetching)
       → FetchSettled answer shape i passes passes' base_flies base_flies' base_tells base → IsFollowed passes' history numbers log
@@ -101,6 +100,7 @@ fault-told : (f : Option Fault) (done ticket said : ℕ) → answer_by f done �
 fault-told None done ticket said is = cc
 fault-told (Some (fault.Store t)) done ticket said is = cc
 fault-told (Some (fault.Base t)) done ticket said is = cc
+fault-told (Some (fault.Worn generation)) done ticket said is = cc
 
 -- a store fault that a pass replies is traced, as its failure was
 reply-traced : {history : List Entry} {numbers : List ℕ} {log : List Entry} {i : ℕ} {p : Pass} → IsFollowedPass i p history numbers log → p.phase ≡ Ready → (answer : Answer) → answer ≡ answer_of p → (events : ℕ) → events ≡ length log
@@ -116,7 +116,7 @@ module _ {passes passes' : List Pass} {history history' : List Entry} {numbers n
   asks-followed {request} {events_left} {sectors_left} {events} step numbered running =
       let p = step.pass in let e : Entry = Ask (call_of i (after_ask p request events_left sectors_left)) request in
       let pushed = pushed-followed followed e events (λ j q at busy. tt) (λ id ticket done is. absurd (cc)) in
-      rw (step.after, step.event, numbered) (set-followed pushed step.there (asks-pass history numbers p request events events_left sectors_left followed.many (omega (arith, running)) (pushed.each i p step.there)))
+      rw (step.after, step.event, numbered) (set-followed pushed step.there (asks-pass history numbers p request events events_left sectors_left followed.many (omega (arith, running))))
 
   pub asks_full-followed : {request : Asked} {needed free : ℕ} (events : ℕ) → IsAt passes i (λ p. p.phase ≡ Idle) → AsksFull request needed free i passes passes' history history' → numbers' ≡ numbers ++ events ∷ events ∷ []
       → IsFollowed passes' history' numbers' log
@@ -153,7 +153,7 @@ issue-ticket log' history numbers events id first part stored ticket p many writ
   ap (slice_get (numbers ++ events ∷ [])) (sym many) ∙ last-pushed numbers events,
   (ticket.first, stored, there),
 )
-issue-ticket log' history numbers events id first part stored ticket p many write there Flush is = absurd is
+issue-ticket log' history numbers events id first part stored ticket p many write there Flush is = absurd (let reads = is.0 in cc)
 
 -- the entry that a log got stands at its old end
 at-end : (old : List Entry) {new : List Entry} (e : Entry) → new ≡ old ++ e ∷ [] → (events : ℕ) → events ≡ length old → slice_get new events ≡ Some e
@@ -188,7 +188,7 @@ module _ {passes passes' : List Pass} {history history' : List Entry} {numbers :
       let grown = less-followed (pushed-followed followed issue events none-own (λ id ticket done is. absurd (cc))) (issued step.ticket step.stored ∷ []) told.log in
       let p' = after_issue issuer step.ticket step.buffer in
       let now : IsFollowedPass i p' (history ++ issue ∷ []) (numbers ++ events ∷ []) disk'.log = record {
-        asked = λ busy. asked-on (grown.each i issuer step.there) (holds-not Idle (λ e. cc) (λ e. cc)) p' refl refl refl refl;
+        asked = λ busy. asked-on (grown.each i issuer step.there) (holds-not Idle (λ e. cc) (λ e. cc)) p' refl refl refl refl refl;
         issuing = λ is t has request of_pass.
             subst (λ (u : Ticket). IsTicketOf request disk'.log (history ++ issue ∷ []) (numbers ++ events ∷ []) (call_of i p') u.number (length (history ++ issue ∷ []))) (some-inj has)
             (issue-ticket disk'.log history numbers events (call_of i issuer) _ _ step.stored step.ticket p' followed.many holds.1 (at-end disk.log (issued step.ticket step.stored) told.log events running) request of_pass);
@@ -208,7 +208,7 @@ module _ {passes passes' : List Pass} {history : List Entry} {numbers : List ℕ
       let grown = less-followed followed (asked_read t ∷ []) told.log in
       let read : IsReadIn disk'.log t.number = (length disk.log, t.first, t.count, at-end disk.log (asked_read t) told.log (length disk.log) refl) in
       rw step.after (set-followed grown step.there (record {
-        asked = λ busy. asked-on (grown.each i p step.there) (λ e. cc) (after_look p t) refl refl refl refl;
+        asked = λ busy. asked-on (grown.each i p step.there) (λ e. cc) (after_look p t) refl refl refl refl refl;
         issuing = λ e. absurd (cc);
         looking = λ e u has. subst (λ (x : Ticket). IsReadIn disk'.log x.number) (some-inj has) read;
         failed = λ e. absurd (cc);
@@ -243,7 +243,7 @@ late-followed {passes} {passes'} {history} {history'} {numbers} {numbers'} {log}
 look-ticket : (log history : List Entry) (numbers : List ℕ) (id : CallId) (p : Pass) (ticket : ℕ) → IsReadIn log ticket → p.write ≡ false → (request : Asked) → IsRequestOf p request → IsTicketOf request log history numbers id ticket (length history)
 look-ticket log history numbers id p ticket read reads (Read first count) is = read
 look-ticket log history numbers id p ticket read reads (Write first content) is = absurd (let writes = is.0 in cc)
-look-ticket log history numbers id p ticket read reads Flush is = absurd is
+look-ticket log history numbers id p ticket read reads Flush is = tt
 
 -- Where the pass has served its request so far, as the history says.
 module _ {shape : Shape} {fresh : List Bool} {places : ℕ → Option ℕ} {passes : List Pass} {history : List Entry} {sectors depth base_sectors base_depth : ℕ} {flies base_flies : List Ticket → Type 0}
@@ -263,7 +263,7 @@ module _ {shape : Shape} {fresh : List Bool} {places : ℕ → Option ℕ} {pass
           let e = failed_entry ticket.kind ticket in let grown = less-followed followed (e ∷ []) told in let p' = spent 1 0 (after_fault (fault.Store ticket.number) p) in
           let traced = traced-now (followed.each i p there) (λ e. cc) ticket.number e told (failure ticket.kind ticket) ((followed.each i p there).issuing issuing ticket has) in
           rw (ends.1, ends.2, numbered)
-          (pushed-followed (set-followed grown there (fails-on (grown.each i p there) (λ e. cc) p' refl refl refl refl ticket.number refl refl traced)) (Broke (call_of i p)) events (λ j q at b. tt) (λ id other done is. absurd (cc)))
+          (pushed-followed (set-followed grown there (fails-on (grown.each i p there) (λ e. cc) p' refl refl refl refl refl ticket.number refl refl traced)) (Broke (call_of i p)) events (λ j q at b. tt) (λ id other done is. absurd (cc)))
 
     module _ {passes' : List Pass} {history' : List Entry} {log log' : List Entry} (followed : IsFollowed passes history numbers log) (looking : p.phase ≡ Looking) where
       look-ended : (content out out' : List Sector) (answer : Settled) → EndsRead answer p (fault.Store ticket.number) content i passes passes' history history' out out' → numbers' ≡ numbers ++ read_numbers_of answer events
@@ -276,7 +276,7 @@ module _ {shape : Shape} {fresh : List Bool} {places : ℕ → Option ℕ} {pass
           let e = failed_entry ticket.kind ticket in let grown = less-followed followed (e ∷ []) told in let p' = after_fault (fault.Store ticket.number) p in
           let ticket_is = look-ticket log history numbers (call_of i p) p ticket.number ((followed.each i p there).looking looking ticket has) ((co.each i p there).read looking) in
           let traced = traced-now (followed.each i p there) (λ e. cc) ticket.number e told (failure ticket.kind ticket) ticket_is in
-          rw (ends.0, ends.1, numbered ∙ append-nil numbers) (set-followed grown there (fails-on (grown.each i p there) (λ e. cc) p' refl refl refl refl ticket.number refl refl traced))
+          rw (ends.0, ends.1, numbered ∙ append-nil numbers) (set-followed grown there (fails-on (grown.each i p there) (λ e. cc) p' refl refl refl refl refl ticket.number refl refl traced))
 
   base_look-ended : {numbers numbers' : List ℕ} (events : ℕ) {p : Pass} → slice_get passes i ≡ Some p → (number : ℕ) {passes' : List Pass} {history' : List Entry} {log : List Entry} → IsFollowed passes history numbers log → p.phase ≡ Looking
       → (content out out' : List Sector) (answer : Settled) → EndsRead answer p (fault.Base number) content i passes passes' history history' out out' → numbers' ≡ numbers ++ read_numbers_of answer events → IsFollowed passes' history' numbers' log
@@ -286,7 +286,7 @@ module _ {shape : Shape} {fresh : List Bool} {places : ℕ → Option ℕ} {pass
   base_look-ended {numbers} {numbers'} events {p} there number {passes'} {history'} {log} followed looking content out out' (settled.NotYet same) ends numbered = late-followed followed ends.0 ends.1 numbered [] (sym (append-nil log))
   base_look-ended {numbers} {numbers'} events {p} there number {passes'} {history'} {log} followed looking content out out' (settled.Failed other) ends numbered =
       rw (ends.0, ends.1, numbered ∙ append-nil numbers)
-      (set-followed followed there (goes-on (followed.each i p there) (λ e. cc) (after_fault (fault.Base number) p) refl refl refl refl (λ e. cc) (λ e. cc) (λ e ticket why. cc)))
+      (set-followed followed there (goes-on (followed.each i p there) (λ e. cc) (after_fault (fault.Base number) p) refl refl refl refl refl (λ e. cc) (λ e. cc) (λ e ticket why. cc)))
 
 -- The ends of what is in flight, as their records say them. `events` is the number that their entry has, if they add one.
 module _ {shape : Shape} {fresh : List Bool} {places : ℕ → Option ℕ} {passes passes' : List Pass} {history history' : List Entry} {numbers numbers' : List ℕ} {sectors depth base_sectors base_depth i : ℕ} {flies base_flies : List Ticket → Type 0}
@@ -323,7 +323,7 @@ module _ {shape : Shape} {fresh : List Bool} {places : ℕ → Option ℕ} {pass
       let p = step.pass in let is = phase-found passes i Held at step.there in
       let none = (held-ticket (co.each i p step.there) is).ticket in
       rw step.after (set-followed followed step.there (record {
-        asked = λ busy. asked-on (followed.each i p step.there) (λ e. cc) (after_base_look p step.ticket) refl refl refl refl;
+        asked = λ busy. asked-on (followed.each i p step.there) (λ e. cc) (after_base_look p step.ticket) refl refl refl refl refl;
         issuing = λ e. absurd (cc);
         looking = λ e t has. absurd (cc);
         failed = λ e. absurd (cc);

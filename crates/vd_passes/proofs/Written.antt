@@ -74,8 +74,8 @@ module _ {shape : Shape} {fresh : List Bool} {places : ℕ → Option ℕ} {pass
     done-store a = follow a (store-of a) (Done (ticket_id t))
 
     -- where this pass doesn't fill the place, what may stand there stays
-    store-same : (a : ℕ) → (IsFilling p a → ⊥) → (done-store a).contents ≡ (store-of a).contents
-    store-same a not = elim (fa.filling a) [
+    store-same : (a : ℕ) → shape.storage_at ≤ a → (IsFilling p a → ⊥) → (done-store a).contents ≡ (store-of a).contents
+    store-same a low not = elim (fa.filling a low) [
       | inl none ↦ (done-none a (store-of a) (ticket_id t) none.none).0
       | inr w ↦ elim (cases_eq w.by i) [
         | inl e ↦ absurd (not (subst (λ x. IsFilling x a) (is-this co i p there issuing t has w.pass w.by w.there e) w.filling))
@@ -118,11 +118,12 @@ module _ {shape : Shape} {fresh : List Bool} {places : ℕ → Option ℕ} {pass
         let range = in-place block p.block p.at s in_p in
         let f = in_p.0 in
         let place : a + block * p.block ≡ p.at + s = omega arith in
-        elim (fa.filling a) [
+        let low : shape.storage_at ≤ a = (let inside = (co.placed.inside p.block p.at (placed co i p there issuing t has)).0 in omega arith) in
+        elim (fa.filling a low) [
           | inl none ↦
               let not = none.nobody i p there in
               subst (λ cs. Contains cs v) (sym (guest-same s (λ w. not (fills-too co i p there issuing t has s a place w))))
-              ((fa.stands s inside).local p.block p.at in_p (was-fresh a range.0 range.1 not) (placed co i p there issuing t has) v (subst (λ cs. Contains cs v) (store-same a not) among))
+              ((fa.stands s inside).local p.block p.at in_p (was-fresh a range.0 range.1 not) (placed co i p there issuing t has) v (subst (λ cs. Contains cs v) (store-same a low not) among))
           | inr w ↦ filled-there s a v place w (only-filler co i p there (region co i p there issuing t has) (writer co i p there issuing t has) a (track start history) (store-of a) range.0 range.1 w) among
         ]
 
@@ -134,8 +135,9 @@ module _ {shape : Shape} {fresh : List Bool} {places : ℕ → Option ℕ} {pass
     other-local s b x inside in_b ne is at v among =
         let a = x + (s - block * b) in
         let range = in-place block b x s in_b in
+        let low : shape.storage_at ≤ a = (let inside = (co.placed.inside b x at).0 in omega arith) in
         let not : IsFilling p a → ⊥ = λ f. let own = filling-range (stands co i p there issuing t has) f in ne (same-place co.placed b p.block x p.at a at (placed co i p there issuing t has) range.0 range.1 own.0 own.1) in
-        subst (λ cs. Contains cs v) (sym (other-guest s b in_b ne)) ((fa.stands s inside).local b x in_b is at v (subst (λ cs. Contains cs v) (store-same a not) among))
+        subst (λ cs. Contains cs v) (sym (other-guest s b in_b ne)) ((fa.stands s inside).local b x in_b is at v (subst (λ cs. Contains cs v) (store-same a low not) among))
 
     pub done-stands : (s : ℕ) → s < length start → StandsFor shape.block fresh-next places rest s (follow s (track start history s) (Done (call_of i p))) (λ a. follow a (track disk.start disk.log a) (Done (ticket_id t)))
     done-stands s inside = record {

@@ -84,5 +84,5 @@ pub record IsFaithful (start : List Sector) (rest : ℕ → Sector) (shape : Sha
   pub numbers : (i : ℕ) (p : Pass) (t : Ticket) → slice_get passes i ≡ Some p → p.ticket ≡ Some t → t.number ≤ last
   pub distinct : (i j : ℕ) (p q : Pass) (t u : Ticket) → slice_get passes i ≡ Some p → slice_get passes j ≡ Some q → i ≢ j → p.ticket ≡ Some t → q.ticket ≡ Some u → t.number ≢ u.number
   pub stands : (s : ℕ) → s < length start → StandsFor shape.block fresh places rest s (track start history s) (track disk.start disk.log)
-  pub filling : (a : ℕ) → IsUnfilled passes a (track disk.start disk.log a) ⊎ IsFilled shape.block passes a (track start history) (track disk.start disk.log a)
+  pub filling : (a : ℕ) → shape.storage_at ≤ a → IsUnfilled passes a (track disk.start disk.log a) ⊎ IsFilled shape.block passes a (track start history) (track disk.start disk.log a)
   pub buffers : (i : ℕ) (p : Pass) → slice_get passes i ≡ Some p → p.phase ≡ Filled → IsRest rest (shape.block * p.block) p.buffer

@@ -4,7 +4,7 @@ use Rattle.vd_law.specs.declared.entry.Room.{Room}
 use Rattle.vd_law.specs.Entries.{Asked, Read, Write, Flush}
 use Rattle.vd_passes.specs.declared.pass.Pass.{Pass}
 use Rattle.vd_passes.specs.declared.pass.Phase.{Phase}
-use Rattle.vd_passes.specs.declared.pass.Phase.TheVariants.{Idle, Asked as HasAsked, Held, Fetching, Filled, Issuing, Looking, Ready}
+use Rattle.vd_passes.specs.declared.pass.Phase.TheVariants.{Idle, Asked as HasAsked, Held, Fetching, Filled, Issuing, Looking, Flushing, Ready}
 
 -- the number of blocks that a range touches
 abbrev pub pieces : (block first count : ℕ) → ℕ
@@ -43,6 +43,7 @@ events_needed Fetching write pieces = 1 + events_of write pieces
 events_needed Filled write pieces = 1 + events_of write pieces
 events_needed Issuing write pieces = events_of write pieces
 events_needed Looking write pieces = 1 + events_of write pieces
+events_needed Flushing write pieces = 1
 events_needed Ready write pieces = 1
 
 -- and the sectors that these tell
@@ -54,6 +55,7 @@ sectors_needed Fetching left piece = left
 sectors_needed Filled left piece = left
 sectors_needed Issuing left piece = left - piece
 sectors_needed Looking left piece = left
+sectors_needed Flushing left piece = 0
 sectors_needed Ready left piece = 0
 
 -- the room that is left to the pass suffices, and is none where it has no request

@@ -3,16 +3,16 @@ use Rattle.std.specs.Prelude.{ℕ, ◌≡◌, ◌≢◌, ◌+◌, ◌-◌, ◌*�
 use Rattle.vd_law.specs.declared.entry.CallId.{CallId}
 use Rattle.vd_law.specs.declared.entry.Sector.{Sector}
 use Rattle.vd_law.specs.declared.entry.Answer.{Answer}
-use Rattle.vd_law.specs.declared.entry.Answer.TheVariants.{Ok as Fine, StoreFault, BaseFault}
+use Rattle.vd_law.specs.declared.entry.Answer.TheVariants.{Ok as Fine, StoreFault, BaseFault, Worn}
 use Rattle.vd_law.specs.Entries.{Asked, Read, Write, Flush}
 use Rattle.vd_device.specs.declared.ticket.Ticket.{Ticket}
-use Rattle.vd_device.specs.declared.ticket.Kind.TheVariants.{Read as ReadKind, Write as WriteKind}
+use Rattle.vd_device.specs.declared.ticket.Kind.TheVariants.{Read as ReadKind, Write as WriteKind, Flush as FlushKind}
 use Rattle.vd_regions.specs.declared.regions.Region.{Region}
 use Rattle.vd_regions.specs.declared.regions.Mode.TheVariants.{Shared, Own}
 use Rattle.vd_passes.specs.declared.shape.Shape.{Shape}
 use Rattle.vd_passes.specs.declared.pass.Pass.{Pass}
 use Rattle.vd_passes.specs.declared.pass.Phase.{Phase}
-use Rattle.vd_passes.specs.declared.pass.Phase.TheVariants.{Idle, Asked as HasAsked, Held, Fetching, Filled, Issuing, Looking, Ready}
+use Rattle.vd_passes.specs.declared.pass.Phase.TheVariants.{Idle, Asked as HasAsked, Held, Fetching, Filled, Issuing, Looking, Flushing, Ready}
 use Rattle.vd_passes.specs.declared.pass.Fault.{Fault}
 use Rattle.vd_passes.specs.declared.pass.Fault.TheVariants as fault
 use Rattle.vd_passes.specs.Laying.{below}
@@ -27,6 +27,7 @@ has_region Fetching = true
 has_region Filled = true
 has_region Issuing = true
 has_region Looking = true
+has_region Flushing = false
 has_region Ready = false
 
 -- the region that it holds: its block, to itself where it writes
@@ -68,9 +69,9 @@ fetches_of (p ∷ ps) = ticket_of p.fetch ++ fetches_of ps
 
 -- the request that the pass serves
 abbrev pub IsRequestOf : Pass → Asked → Type 0
-IsRequestOf p (Read first count) = (p.write ≡ false) × (first ≡ p.first) × (count ≡ p.count)
-IsRequestOf p (Write first content) = (p.write ≡ true) × (first ≡ p.first) × (length content ≡ p.count)
-IsRequestOf p Flush = ⊥
+IsRequestOf p (Read first count) = (p.write ≡ false) × (first ≡ p.first) × (count ≡ p.count) × (p.flush ≡ false)
+IsRequestOf p (Write first content) = (p.write ≡ true) × (first ≡ p.first) × (length content ≡ p.count) × (p.flush ≡ false)
+IsRequestOf p Flush = (p.write ≡ false) × (p.first ≡ 0) × (p.count ≡ 0) × (p.flush ≡ true)
 
 -- The piece of a pass: what is left of its request in one block.
 pub record IsPiece (shape : Shape) (p : Pass) : Type 0 where
@@ -111,6 +112,10 @@ pub record IsBaseLook (shape : Shape) (fresh : List Bool) (p : Pass) (t : Ticket
   pub count : t.count ≡ below shape.limit (p.first + p.done) p.piece
   pub not_fresh : slice_get fresh p.block ≡ Some false
 
+-- a call of a flush: one that makes durable what is done, or a write below the storage
+abbrev pub IsMeta : Shape → Ticket → Type 0
+IsMeta shape t = (t.kind ≡ FlushKind) ⊎ ((t.kind ≡ WriteKind) × (t.first + t.count ≤ shape.storage_at))
+
 pub record HasNone (p : Pass) : Type 0 where
   pub ticket : p.ticket ≡ None
   pub fetch : p.fetch ≡ None
@@ -124,6 +129,7 @@ HasTicket Fetching shape fresh p = (t : Ticket) × (p.fetch ≡ Some t) × (p.ti
 HasTicket Filled shape fresh p = HasNone p × (slice_get fresh p.block ≡ Some false)
 HasTicket Issuing shape fresh p = (t : Ticket) × (p.ticket ≡ Some t) × (p.fetch ≡ None) × (t.kind ≡ WriteKind) × IsStored shape.block fresh p t
 HasTicket Looking shape fresh p = (t : Ticket) × (IsStoreLook shape fresh p t ⊎ IsBaseLook shape fresh p t)
+HasTicket Flushing shape fresh p = (p.fetch ≡ None) × ((t : Ticket) → p.ticket ≡ Some t → IsMeta shape t)
 HasTicket Ready shape fresh p = HasNone p
 
 -- how many sectors the open write has
@@ -135,6 +141,7 @@ pending_of Fetching piece = 0
 pending_of Filled piece = 0
 pending_of Issuing piece = piece
 pending_of Looking piece = 0
+pending_of Flushing piece = 0
 pending_of Ready piece = 0
 
 -- whether the pass serves a write in this phase alone
@@ -146,13 +153,15 @@ writes_in Fetching = true
 writes_in Filled = true
 writes_in Issuing = true
 writes_in Looking = false
+writes_in Flushing = false
 writes_in Ready = false
 
--- all is done, or a device failed: then a write is broken where it was the store
+-- all is done, or a device failed: then a write is broken where it was the store. Worn is of flushes alone.
 abbrev pub HasOutcome : Pass → (broken : Bool) → Option Fault → Type 0
 HasOutcome p broken None = (p.done ≡ p.count) × (broken ≡ false)
-HasOutcome p broken (Some (fault.Store ticket)) = (p.done < p.count) × (broken ≡ p.write)
+HasOutcome p broken (Some (fault.Store ticket)) = ((p.flush ≡ true) ⊎ (p.done < p.count)) × (broken ≡ p.write)
 HasOutcome p broken (Some (fault.Base ticket)) = (p.done < p.count) × (broken ≡ false)
+HasOutcome p broken (Some (fault.Worn generation)) = (p.flush ≡ true) × (broken ≡ false)
 
 -- each block of the pass's range has a place in the store
 abbrev pub AllPlaced : Shape → (ℕ → Option ℕ) → Pass → Type 0
@@ -171,7 +180,11 @@ pub record StandsAs (shape : Shape) (fresh : List Bool) (places : ℕ → Option
   pub ready : p.phase ≡ Ready → HasOutcome p t.progress.broken p.fault
   pub write : writes_in p.phase ≡ true → p.write ≡ true
   pub read : p.phase ≡ Looking → p.write ≡ false
-  pub left : p.phase ≡ HasAsked → p.done < p.count
+  pub left : p.phase ≡ HasAsked → p.flush ≡ false → p.done < p.count
+  -- a flush has no piece, and nothing of it stands in the history but its Ask
+  pub flush : p.phase ≡ Flushing → p.flush ≡ true
+  pub no_flush : has_region p.phase ≡ true → p.flush ≡ false
+  pub unstarted : p.phase ≢ Idle → p.flush ≡ true → t.progress.started ≡ false
   pub placed : p.phase ≢ Idle → p.write ≡ true → AllPlaced shape places p
   pub piece : has_region p.phase ≡ true → IsPiece shape p
   pub at : has_region p.phase ≡ true → (p.write ≡ true) ⊎ (slice_get fresh p.block ≡ Some true) → places p.block ≡ Some p.at
@@ -196,9 +209,9 @@ spent events sectors p = record p { events = p.events - events; sectors = p.sect
 
 -- it has asked a request, for which this room was left to it
 abbrev pub after_ask : Pass → Asked → (events sectors : ℕ) → Pass
-after_ask p (Read first count) events sectors = record p { phase = HasAsked; call = p.call + 1; write = false; first = first; count = count; done = 0; fault = None; events = events; sectors = sectors }
-after_ask p (Write first content) events sectors = record p { phase = HasAsked; call = p.call + 1; write = true; first = first; count = length content; done = 0; fault = None; events = events; sectors = sectors }
-after_ask p Flush events sectors = p
+after_ask p (Read first count) events sectors = record p { phase = HasAsked; call = p.call + 1; write = false; flush = false; first = first; count = count; done = 0; fault = None; events = events; sectors = sectors }
+after_ask p (Write first content) events sectors = record p { phase = HasAsked; call = p.call + 1; write = true; flush = false; first = first; count = length content; done = 0; fault = None; events = events; sectors = sectors }
+after_ask p Flush events sectors = record p { phase = HasAsked; call = p.call + 1; write = false; flush = true; first = 0; count = 0; done = 0; fault = None; events = events; sectors = sectors }
 
 -- it has the region of a block, for a piece of so many sectors
 abbrev pub after_enter : Pass → (block piece at : ℕ) → Pass
@@ -227,6 +240,14 @@ after_piece p = record p { phase = if nat_lt (p.done + p.piece) p.count then Has
 abbrev pub after_fault : Fault → Pass → Pass
 after_fault fault p = record p { phase = Ready; fault = Some fault; ticket = None; fetch = None }
 
+-- its flush has a call in flight
+abbrev pub after_meta : Pass → Ticket → Pass
+after_meta p ticket = record p { phase = Flushing; ticket = Some ticket }
+
+-- its flush is over, or was not begun for this reason
+abbrev pub after_flush : Pass → Option Fault → Pass
+after_flush p why = record p { phase = Ready; fault = why }
+
 -- it has its reply, and what it didn't use of its room is left again
 abbrev pub after_reply : Pass → Pass
 after_reply p = record p { phase = Idle; events = 0; sectors = 0 }
@@ -236,6 +257,7 @@ abbrev pub answer_by : Option Fault → (done : ℕ) → Answer
 answer_by None done = Fine
 answer_by (Some (fault.Store ticket)) done = StoreFault ticket done
 answer_by (Some (fault.Base ticket)) done = BaseFault ticket done
+answer_by (Some (fault.Worn generation)) done = Worn generation
 
 abbrev pub answer_of : Pass → Answer
 answer_of p = answer_by p.fault p.done

@@ -6,21 +6,21 @@ use Rattle.vd_law.specs.declared.entry.Answer.TheVariants.{Full}
 use Rattle.vd_law.specs.Entries.{Asked, Write, Entry, Ask, Issue, Done, Broke, Seen, Reply}
 use Rattle.vd_device.specs.declared.ticket.Ticket.{Ticket}
 use Rattle.vd_device.specs.declared.ticket.Kind.{Kind}
-use Rattle.vd_device.specs.declared.ticket.Kind.TheVariants.{Read as ReadKind, Write as WriteKind}
+use Rattle.vd_device.specs.declared.ticket.Kind.TheVariants.{Read as ReadKind, Write as WriteKind, Flush as FlushKind}
 use Rattle.vd_device.specs.declared.settled.Settled.{Settled}
 use Rattle.vd_device.specs.declared.settled.Settled.TheVariants as settled
 use Rattle.vd_device.specs.Tickets.{Puts, IsFree, IsInFlight}
 use Rattle.vd_device.specs.Disks.{Disk, Adds}
-use Rattle.vd_device.specs.Calls.{Settles, Tells, Gives, asked_read, issued}
+use Rattle.vd_device.specs.Calls.{Settles, Tells, Gives, asked_read, asked_flush, issued}
 use Rattle.vd_passes.specs.declared.shape.Shape.{Shape}
 use Rattle.vd_passes.specs.declared.pass.Pass.{Pass}
-use Rattle.vd_passes.specs.declared.pass.Phase.TheVariants.{Held, Filled}
+use Rattle.vd_passes.specs.declared.pass.Phase.TheVariants.{Asked as HasAsked, Held, Filled, Flushing}
 use Rattle.vd_passes.specs.declared.pass.Fault.{Fault}
 use Rattle.vd_passes.specs.declared.pass.Fault.TheVariants as fault
 use Rattle.vd_reading.specs.Background.{zero_sector}
 use Rattle.vd_passes.specs.Laying.{laid, below}
 use Rattle.vd_passes.specs.Standings.{standing}
-use Rattle.vd_passes.specs.Passes.{call_of, HasNone, IsPiece, after_ask, after_enter, after_fetch, after_filled, after_issue, after_look, after_base_look, after_piece, after_fault, after_reply, answer_of, spent}
+use Rattle.vd_passes.specs.Passes.{call_of, HasNone, IsPiece, after_ask, after_enter, after_fetch, after_filled, after_issue, after_look, after_base_look, after_piece, after_fault, after_meta, after_flush, after_reply, answer_of, spent, IsMeta}
 
 -- there is a pass of this number, and P holds of it
 abbrev pub IsAt : List Pass → ℕ → (Pass → Type 0) → Type 0
@@ -271,6 +271,56 @@ pub record BaseLookSettled (answer : Settled) (shape : Shape) (i : ℕ) (passes 
   pub settles : (old new : List Sector) × Settles answer ticket old new base_flies base_flies'
   pub effect : EndsRead answer pass (fault.Base ticket.number) (content ++ replicate (pass.piece - ticket.count) zero_sector) i passes passes' history history' out out'
   pub gives : base_tells → Gives answer ticket content base
+
+-- the entry with which a call of a flush begins
+abbrev pub meta_entry : Kind → Ticket → List Sector → Entry
+meta_entry ReadKind ticket content = asked_read ticket
+meta_entry WriteKind ticket content = issued ticket content
+meta_entry FlushKind ticket content = asked_flush ticket
+
+-- the pass, which has asked a flush or has it under way, has submitted a call of it: a store flush, or a write of this content
+pub record SubmitsMeta (content : List Sector) (shape : Shape) (i : ℕ) (passes passes' : List Pass) (flies flies' : List Ticket → Type 0) (tells tells' : Type 0) (disk disk' : Disk) (last last' : ℕ) : Type 0 where
+  pub pass : Pass
+  pub ticket : Ticket
+  pub there : slice_get passes i ≡ Some pass
+  pub serves : pass.flush ≡ true
+  pub phase : (pass.phase ≡ HasAsked) ⊎ (pass.phase ≡ Flushing)
+  pub none : pass.ticket ≡ None
+  pub after : passes' ≡ slice_set passes i (after_meta pass ticket)
+  pub is_meta : IsMeta shape ticket
+  pub count : ticket.kind ≡ WriteKind → ticket.count ≡ length content
+  pub flight : Puts ticket flies flies'
+  pub number : last' ≡ ticket.number
+  pub told_before : tells' → tells
+  pub told : tells' → Adds (meta_entry ticket.kind ticket content) disk disk' × (last < ticket.number)
+
+-- what the settle of such a call makes of its pass
+abbrev pub meta_settled : Settled → Pass → Ticket → Pass
+meta_settled settled.Done p ticket = record p { ticket = None }
+meta_settled (settled.NotYet same) p ticket = p
+meta_settled (settled.Failed number) p ticket = after_fault (fault.Store ticket.number) p
+
+-- a call of a flush is settled
+pub record MetaSettled (answer : Settled) (i : ℕ) (passes passes' : List Pass) (flies flies' : List Ticket → Type 0) (tells tells' : Type 0) (disk disk' : Disk) (last last' : ℕ) : Type 0 where
+  pub pass : Pass
+  pub ticket : Ticket
+  pub there : slice_get passes i ≡ Some pass
+  pub phase : pass.phase ≡ Flushing
+  pub has : pass.ticket ≡ Some ticket
+  pub number : last' ≡ last
+  pub settles : (out out' : List Sector) × Settles answer ticket out out' flies flies'
+  pub after : passes' ≡ slice_set passes i (meta_settled answer pass ticket)
+  pub told_before : tells' → tells
+  pub told : tells' → Tells answer ticket [] disk disk'
+
+-- A flush is over, or, at the last generation, is not begun.
+pub record EndsFlush (why : Option Fault) (i : ℕ) (passes passes' : List Pass) : Type 0 where
+  pub pass : Pass
+  pub there : slice_get passes i ≡ Some pass
+  pub serves : pass.flush ≡ true
+  pub none : pass.ticket ≡ None
+  pub cause : ((why ≡ None) × (pass.phase ≡ Flushing)) ⊎ ((generation : ℕ) × (why ≡ Some (fault.Worn generation)) × (pass.phase ≡ HasAsked))
+  pub after : passes' ≡ slice_set passes i (after_flush pass why)
 
 -- the pass has its reply
 pub record Replies (answer : Answer) (i : ℕ) (passes passes' : List Pass) (history history' : List Entry) : Type 0 where

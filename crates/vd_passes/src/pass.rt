@@ -1,6 +1,6 @@
 //! What one caller has asked, and how far it has come.
 
-ghost use Rattle.std.specs.Prelude.{◌≡◌, ◌≢◌, ◌+◌, ◌^◌, ◌-◌, ◌<◌, None, Some, IsSome};
+ghost use Rattle.std.specs.Prelude.{◌≡◌, ◌+◌, ◌^◌, ◌-◌, ◌<◌, None, Some, IsSome};
 
 use crate::buffer::Buffer;
 use vd_device::Ticket;
@@ -23,15 +23,18 @@ pub enum Phase {
     Issuing,
     /// It reads the piece.
     Looking,
+    /// Its flush is under way.
+    Flushing,
     /// Its reply is known.
     Ready,
 }
 
-/// The ticket that failed, by its device.
+/// Why a request failed: the ticket that failed, by its device, or the last generation, at which no flush recycles.
 #[derive(Clone, Copy, Debug, PartialEq, Eq, Drop)]
 pub enum Fault {
     Store(u64),
     Base(u64),
+    Worn(u64),
 }
 
 /// One caller's request, and how far it has come. Sectors are those of the guest's disk, but for `at`.
@@ -40,7 +43,8 @@ pub struct Pass {
     /// The number of the last call, 0 before the first.
     pub call: u64,
     pub write: bool,
-    /// The range of the request, in sectors.
+    pub flush: bool,
+    /// The range of the request, in sectors; a flush has none.
     pub first: u64,
     pub count: u64,
     /// How many sectors are done.
@@ -84,9 +88,9 @@ fn take(slot: &mut Option<Ticket>) -> Ticket
 }
 
 impl Pass {
-    ghost use Rattle.vd_law.specs.Entries.{asked_of, Flush};
+    ghost use Rattle.vd_law.specs.Entries.{asked_of};
     ghost use Rattle.vd_passes.specs.declared.pass.Phase.TheVariants.{Idle};
-    ghost use Rattle.vd_passes.specs.Passes.{spent, after_ask, after_enter, after_fetch, after_filled, after_issue, after_look, after_base_look, after_piece, after_fault, after_reply, answer_of, IsNew};
+    ghost use Rattle.vd_passes.specs.Passes.{spent, after_ask, after_enter, after_fetch, after_filled, after_issue, after_look, after_base_look, after_piece, after_fault, after_meta, after_flush, after_reply, answer_of, IsNew};
 
     /// A pass that has asked nothing yet, with the buffer of a block.
     pub fn new(buffer: Buffer) -> Pass
@@ -96,6 +100,7 @@ impl Pass {
             phase: Phase::Idle,
             call: 0,
             write: false,
+            flush: false,
             first: 0,
             count: 0,
             done: 0,
@@ -111,24 +116,30 @@ impl Pass {
         }
     }
 
-    /// Asks a read or a write, to which so much room is left.
+    /// Asks a request, to which so much room is left.
     pub fn ask(&mut self, request: Request<'_>, events: u64, sectors: u64)
-        requires call { self.old.call < 2 ^ 64 - 1 }
-        requires no_flush { asked_of request ≢ Flush }
+        requires { self.old.call < 2 ^ 64 - 1 }
         ensures { self.new ≡ after_ask self.old (asked_of request.entry) events sectors }
     {
         match request {
             Request::Read { first, count } => {
                 self.write = false;
+                self.flush = false;
                 self.first = first;
                 self.count = count;
             }
             Request::Write { first, content } => {
                 self.write = true;
+                self.flush = false;
                 self.first = first;
                 self.count = content.len() as u64;
             }
-            Request::Flush => unreachable!(),
+            Request::Flush => {
+                self.write = false;
+                self.flush = true;
+                self.first = 0;
+                self.count = 0;
+            }
         }
         self.phase = Phase::Asked;
         self.call += 1;
@@ -187,6 +198,23 @@ impl Pass {
     {
         self.phase = Phase::Looking;
         put(&mut self.fetch, ticket);
+    }
+
+    /// Its flush has submitted a call on the image's metadata, or that of the guest's data.
+    pub fn begin_meta(&mut self, ticket: Ticket)
+        requires { self.old.ticket ≡ None }
+        ensures { self.new ≡ after_meta self.old ticket }
+    {
+        self.phase = Phase::Flushing;
+        put(&mut self.ticket, ticket);
+    }
+
+    /// Its flush is over, or there was none.
+    pub fn end_flush(&mut self, why: Option<Fault>)
+        ensures { self.new ≡ after_flush self.old why }
+    {
+        self.phase = Phase::Ready;
+        self.fault = why;
     }
 
     /// Takes what is in flight on the store, for a settle.
@@ -267,6 +295,7 @@ impl Pass {
             None => Answer::Ok,
             Some(Fault::Store(ticket)) => Answer::StoreFault { ticket, done },
             Some(Fault::Base(ticket)) => Answer::BaseFault { ticket, done },
+            Some(Fault::Worn(generation)) => Answer::Worn { generation },
         }
     }
 }

@@ -27,9 +27,9 @@ use Rattle.vd_core.proofs.Serving.{asks-write, write-stays, write-other}
 pub same-shape : {S B : Type 0} {a b : View S B} → a ≡ b → a.shape ≡ b.shape
 same-shape {S} {B} {a} {b} same = ap (λ (v : View S B). v.shape) same
 
--- the pass serves a request of this kind and length
+-- the pass serves a read or a write of this length
 abbrev pub IsBusyWith : (write : Bool) (count : ℕ) → Pass → Type 0
-IsBusyWith write count p = (p.phase ≢ Idle) × (p.write ≡ write) × (p.count ≡ count)
+IsBusyWith write count p = (p.phase ≢ Idle) × (p.write ≡ write) × (p.flush ≡ false) × (p.count ≡ count)
 
 abbrev pub IsNotLast : Step → Type 0
 IsNotLast Again = Unit {0}
@@ -43,7 +43,7 @@ module _ {block i : ℕ} {passes passes' : List Pass} {entries entries' : List E
       let moves = drives.moves in let same : at.0 ≡ drives.pass = some-inj (sym at.1 ∙ moves.there) in (
         drives.pass',
         subst (λ (ps : List Pass). slice_get ps i ≡ Some drives.pass') (sym moves.after) (get-set-same passes i drives.pass' drives.pass moves.there),
-        (drives.tells.0, moves.write ∙ ap (λ (p : Pass). p.write) (sym same) ∙ at.2.1, moves.count ∙ ap (λ (p : Pass). p.count) (sym same) ∙ at.2.2),
+        (drives.tells.0, moves.write ∙ ap (λ (p : Pass). p.write) (sym same) ∙ at.2.1, moves.flush ∙ ap (λ (p : Pass). p.flush) (sym same) ∙ at.2.2, moves.count ∙ ap (λ (p : Pass). p.count) (sym same) ∙ at.2.3),
       )
   goes-on {write} {count} Late not drives at = subst (λ (ps : List Pass). IsAt ps i (IsBusyWith write count)) (sym drives.tells) at
   goes-on {write} {count} (Busy by) not drives at = subst (λ (ps : List Pass). IsAt ps i (IsBusyWith write count)) (sym drives.tells) at
@@ -94,25 +94,20 @@ module _ {shape : Shape} {i events : ℕ} {table table' : Given} {passes passes'
   asked-write result first content not (inr (inl (needed, free, is, full))) = absurd (not _ is)
   asked-write result first content not (inr (inr (none, asked))) =
       let asks = asked.asks in let after = after_ask asks.pass (Write first content) _ _ in
-      ((after, subst (λ (ps : List Pass). slice_get ps i ≡ Some after) (sym asks.after) (get-set-same passes i after asks.pass asks.there), ((λ e. cc), refl, refl)), asks-write asks)
+      ((after, subst (λ (ps : List Pass). slice_get ps i ≡ Some after) (sym asks.after) (get-set-same passes i after asks.pass asks.there), ((λ e. cc), refl, refl, refl)), asks-write asks)
 
   pub asked-read : (result : Option Answer) (first count : ℕ) → ((answer : Answer) → result ≡ Some answer → ⊥) → AskEnds result (Read first count) shape i table table' passes passes' history history' left left' events → IsAt passes' i (IsBusyWith false count)
   asked-read result first count not (inl (exceeds, is, same)) = absurd (not _ is)
   asked-read result first count not (inr (inl (needed, free, is, full))) = absurd (not _ is)
   asked-read result first count not (inr (inr (none, asked))) =
       let asks = asked.asks in let after = after_ask asks.pass (Read first count) _ _ in
-      (after, subst (λ (ps : List Pass). slice_get ps i ≡ Some after) (sym asks.after) (get-set-same passes i after asks.pass asks.there), ((λ e. cc), refl, refl))
+      (after, subst (λ (ps : List Pass). slice_get ps i ≡ Some after) (sym asks.after) (get-set-same passes i after asks.pass asks.there), ((λ e. cc), refl, refl, refl))
 
 -- the step of a match's other arm isn't the last
 pub other-arm : (step : Step) → (step ≡ Again) ⊎ (step ≡ Late) ⊎ ((by : ℕ) × (step ≡ Busy by)) → IsNotLast step
 other-arm step (inl is) = subst IsNotLast (sym is) tt
 other-arm step (inr (inl is)) = subst IsNotLast (sym is) tt
 other-arm step (inr (inr (by, is))) = subst IsNotLast (sym is) tt
-
--- the one pass of a new core is idle
-pub first-idle : {block : ℕ} (passes : List Pass) → AreNew 1 block passes → IsAt passes 0 (λ p. p.phase ≡ Idle)
-first-idle [] new = absurd (let many = new.many in omega arith)
-first-idle (p ∷ passes) new = (p, refl, (new.each 0 p refl).phase)
 
 -- where there is one pass and it is idle, all are
 pub all-idle : (passes : List Pass) → length passes ≡ 1 → IsAt passes 0 (λ p. p.phase ≡ Idle) → (i : ℕ) (p : Pass) → slice_get passes i ≡ Some p → p.phase ≡ Idle
@@ -153,11 +148,11 @@ module _ {block i : ℕ} {passes passes' : List Pass} {entries entries' : List E
       let moves = drives.moves in subst (λ (h : List Entry). HasAskedWrite h other content) (sym moves.entries_after) (asked-after entries moves.more other content moves.none_asked asked)
 
 -- a pass that has asked a write has the region of a block, once it has entered it
-pub entered : {shape : Shape} {places : ℕ → Option ℕ} {i : ℕ} {passes passes' : List Pass} → Enters shape places i passes passes' → IsAt passes i (λ p. (p.phase ≡ Asks_first) × (p.write ≡ true) × (p.count ≡ 1)) → IsAt passes' i (IsBusyWith true 1)
+pub entered : {shape : Shape} {places : ℕ → Option ℕ} {i : ℕ} {passes passes' : List Pass} → Enters shape places i passes passes' → IsAt passes i (λ p. (p.phase ≡ Asks_first) × (p.write ≡ true) × (p.flush ≡ false) × (p.count ≡ 1)) → IsAt passes' i (IsBusyWith true 1)
 entered {i = i} {passes = passes} e at =
     let same : at.0 ≡ e.pass = some-inj (sym at.1 ∙ e.there) in
     let after = after_enter e.pass e.block e.piece e.at in
-    (after, subst (λ (ps : List Pass). slice_get ps i ≡ Some after) (sym e.after) (get-set-same passes i after e.pass e.there), ((λ x. cc), ap (λ (p : Pass). p.write) (sym same) ∙ at.2.1, ap (λ (p : Pass). p.count) (sym same) ∙ at.2.2))
+    (after, subst (λ (ps : List Pass). slice_get ps i ≡ Some after) (sym e.after) (get-set-same passes i after e.pass e.there), ((λ x. cc), ap (λ (p : Pass). p.write) (sym same) ∙ at.2.1, ap (λ (p : Pass). p.flush) (sym same) ∙ at.2.2, ap (λ (p : Pass). p.count) (sym same) ∙ at.2.3))
 
 pub entered-others : {shape : Shape} {places : ℕ → Option ℕ} {i : ℕ} {passes passes' : List Pass} → Enters shape places i passes passes' → (other : ℕ) → other ≢ i → slice_get passes' other ≡ slice_get passes other
 entered-others {i = i} {passes = passes} e other apart = ap (λ (ps : List Pass). slice_get ps other) e.after ∙ get-set-other passes i other _ apart
@@ -165,12 +160,12 @@ entered-others {i = i} {passes = passes} e other apart = ap (λ (ps : List Pass)
 -- An ask leaves every other pass, and what other passes have asked.
 module _ {shape : Shape} {i events : ℕ} {table table' : Given} {passes passes' : List Pass} {history history' : Numbered} {left left' : Room} where
   pub asked-phase : (result : Option Answer) (first : ℕ) (content : List Sector) → ((answer : Answer) → result ≡ Some answer → ⊥) → AskEnds result (Write first content) shape i table table' passes passes' history history' left left' events
-      → length content ≡ 1 → IsAt passes' i (λ p. (p.phase ≡ Asks_first) × (p.write ≡ true) × (p.count ≡ 1))
+      → length content ≡ 1 → IsAt passes' i (λ p. (p.phase ≡ Asks_first) × (p.write ≡ true) × (p.flush ≡ false) × (p.count ≡ 1))
   asked-phase result first content not (inl (exceeds, is, same)) one = absurd (not _ is)
   asked-phase result first content not (inr (inl (needed, free, is, full))) one = absurd (not _ is)
   asked-phase result first content not (inr (inr (none, asked))) one =
       let asks = asked.asks in let after = after_ask asks.pass (Write first content) _ _ in
-      (after, subst (λ (ps : List Pass). slice_get ps i ≡ Some after) (sym asks.after) (get-set-same passes i after asks.pass asks.there), (refl, refl, one))
+      (after, subst (λ (ps : List Pass). slice_get ps i ≡ Some after) (sym asks.after) (get-set-same passes i after asks.pass asks.there), (refl, refl, refl, one))
 
   pub ask-others : (result : Option Answer) (request : Asked) → AskEnds result request shape i table table' passes passes' history history' left left' events → (other : ℕ) → other ≢ i → slice_get passes' other ≡ slice_get passes other
   ask-others result request (inl (exceeds, is, same)) other apart = ap (λ (ps : List Pass). slice_get ps other) same.passes_same

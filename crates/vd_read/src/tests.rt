@@ -1,76 +1,20 @@
 //! Small runs of a core over devices in memory: what is written is read, and the neighbours come from the base.
 
-ghost use Rattle.std.specs.Prelude.{◌≡◌, ◌≢◌, ℕ, ◌+◌, ◌*◌, ◌<◌, ◌≤◌, IfSome, IfOk, true, false, List, length, slice_get};
-ghost use Rattle.vd_passes.specs.declared.pass.Phase.TheVariants.{Idle, Asked};
-ghost use Rattle.vd_law.specs.declared.entry.Sector.{Sector as AnySector};
-ghost use Rattle.vd_passes.specs.Steps.{IsAt, HasAskedWrite};
+ghost use Rattle.std.specs.Prelude.{◌≡◌, ℕ, ◌+◌, ◌*◌, ◌<◌, ◌≤◌, IfOk, length};
+ghost use Rattle.vd_passes.specs.declared.pass.Phase.TheVariants.{Idle};
+ghost use Rattle.vd_passes.specs.Steps.{IsAt};
 
-use crate::Reader;
+use crate::calls::{asks_write, end_write, kept_out, read, write};
 use std::alloc::Global;
 use std::process::Abort;
 use std::test::Fail;
-use vd_core::{Closed, Core, Step, Unopened};
+use vd_core::{Closed, Core, Unopened};
 use vd_device::{Base, Store};
-use vd_header::{Header, layout_of, valid};
-use vd_law::entry::{Answer, NoMemory, Request, Room, Sector};
+use vd_header::{Header, valid, write_header};
+use vd_law::entry::{Answer, NoMemory, Room, Sector};
 use vd_mem::{Keep, MemBase, MemStore, Rule};
 use vd_passes::pass::Phase;
-use vd_write::Writer;
-
-/// Writes by an idle pass, in at most 64 steps.
-fn write<S: Store, B: Base>(
-    core: &mut Core<S, B>,
-    pass: u32,
-    first: u64,
-    content: &[Sector],
-) -> Option<Answer>
-    requires idle { IsAt core.old.passes pass (λ p. p.phase ≡ Idle) }
-    requires some { 0 < length content.now }
-    requires most { length content.now ≤ 2048 }
-    requires inside { first + length content.now ≤ core.old.shape.block * core.old.shape.blocks }
-    ensures idle { IfSome result (λ answer. IsAt core.new.passes pass (λ p. p.phase ≡ Idle)) }
-    ensures shape { core.new.shape ≡ core.old.shape }
-    ensures passes { length core.new.passes ≡ length core.old.passes }
-{
-    if let Some(answer) = core.ask(pass, Request::Write { first, content }) {
-        return Some(answer);
-    }
-    for _ in 0..64 {
-        match Writer::next(core, pass, content) {
-            Step::Ended(answer) => return Some(answer),
-            Step::Again | Step::Late | Step::Busy { .. } => {}
-        }
-    }
-    None
-}
-
-/// Reads by an idle pass, in at most 64 steps.
-fn read<S: Store, B: Base>(
-    core: &mut Core<S, B>,
-    pass: u32,
-    first: u64,
-    out: &mut [Sector],
-) -> Option<Answer>
-    requires idle { IsAt core.old.passes pass (λ p. p.phase ≡ Idle) }
-    requires some { 0 < length out.old }
-    requires most { length out.old ≤ 2048 }
-    requires inside { first + length out.old ≤ core.old.shape.block * core.old.shape.blocks }
-    ensures idle { IfSome result (λ answer. IsAt core.new.passes pass (λ p. p.phase ≡ Idle)) }
-    ensures shape { core.new.shape ≡ core.old.shape }
-    ensures passes { length core.new.passes ≡ length core.old.passes }
-{
-    let count = out.len() as u64;
-    if let Some(answer) = core.ask(pass, Request::Read { first, count }) {
-        return Some(answer);
-    }
-    for _ in 0..64 {
-        match Reader::next(core, pass, out) {
-            Step::Ended(answer) => return Some(answer),
-            Step::Again | Step::Late | Step::Busy { .. } => {}
-        }
-    }
-    None
-}
+use vd_replay::recover;
 
 /// A disk of 128 sectors, 96 of them tracked, in blocks of 8 and chunks of 4 blocks, with 3 storage chunks and 4 slots.
 const SMALL: Header = Header {
@@ -93,94 +37,50 @@ fn base(alloc: Global) -> Result<Vec<Sector>, Fail> {
     Ok(content)
 }
 
-/// A core with one pass over a new image and its base, with so much room in the history.
-fn opened_in(rt: &impl Abort, alloc: Global, room: Room) -> Result<Core<MemStore, MemBase>, Fail>
-    ensures size { IfOk result (λ core. core.shape.block * core.shape.blocks ≡ 128) }
-    ensures passes { IfOk result (λ core. length core.passes ≡ 1) }
-    ensures idle { IfOk result (λ core. IsAt core.passes 0 (λ p. p.phase ≡ Idle)) }
-{
-    let content = vec![in alloc; Sector::filled(0); 104]?;
-    let store = MemStore::new(alloc, content, room, Vec::new(alloc))?;
-    let base = MemBase::new(base(alloc)?, Vec::new(alloc));
+/// Room for more than any of these runs takes.
+const ROOM: Room = Room {
+    events: 100,
+    sectors: 200,
+};
+
+/// A new image of the small disk.
+fn image(rt: &impl Abort, alloc: Global) -> Result<Vec<Sector>, Fail> {
     assert!(rt; valid(&SMALL));
-    assert!(rt; layout_of(&SMALL).need <= store.sectors());
-    assert_eq!(rt; (store.in_flight(), base.in_flight()), (0, 0));
-    match Core::new(alloc, store, base, &SMALL, 1, room) {
-        Ok(core) => Ok(core),
-        Err(Unopened { store: _, base: _ }) => Err(NoMemory.into()),
+    let mut content = vec![in alloc; Sector::filled(0); 104]?;
+    if let Some(first) = content.first_mut() {
+        *first = write_header(&SMALL);
     }
+    Ok(content)
 }
 
-/// A core with one pass over a new image and its base, which fail by these rules.
+/// A core with so many passes over a new image and its base, which fail by these rules, with so much room in the history. Opening
+/// the image takes four tickets of the store.
 fn opened(
     rt: &impl Abort,
     alloc: Global,
+    passes: u32,
+    room: Room,
     store_rules: &[Rule],
     base_rules: &[Rule],
 ) -> Result<Core<MemStore, MemBase>, Fail>
+    requires some { 0 < passes }
+    requires most { passes ≤ 64 }
     ensures size { IfOk result (λ core. core.shape.block * core.shape.blocks ≡ 128) }
-    ensures passes { IfOk result (λ core. length core.passes ≡ 1) }
-    ensures idle { IfOk result (λ core. IsAt core.passes 0 (λ p. p.phase ≡ Idle)) }
+    ensures passes { IfOk result (λ core. length core.passes ≡ passes) }
+    ensures idle { IfOk result (λ core. (pass : ℕ) → pass < passes → IsAt core.passes pass (λ p. p.phase ≡ Idle)) }
 {
-    let room = Room {
-        events: 100,
-        sectors: 200,
-    };
-    let content = vec![in alloc; Sector::filled(0); 104]?;
-    let store = MemStore::new(alloc, content, room, store_rules.to_vec(alloc)?)?;
+    let mut store = MemStore::new(alloc, image(rt, alloc)?, ROOM, store_rules.to_vec(alloc)?)?;
     let base = MemBase::new(base(alloc)?, base_rules.to_vec(alloc)?);
-    assert!(rt; valid(&SMALL));
-    assert!(rt; layout_of(&SMALL).need <= store.sectors());
     assert_eq!(rt; (store.in_flight(), base.in_flight()), (0, 0));
-    match Core::new(alloc, store, base, &SMALL, 1, room) {
-        Ok(core) => Ok(core),
-        Err(Unopened { store: _, base: _ }) => Err(NoMemory.into()),
-    }
-}
-
-/// A core with three passes over a new image and its base.
-fn opened_for_three(rt: &impl Abort, alloc: Global) -> Result<Core<MemStore, MemBase>, Fail>
-    ensures size { IfOk result (λ core. core.shape.block * core.shape.blocks ≡ 128) }
-    ensures passes { IfOk result (λ core. length core.passes ≡ 3) }
-    ensures idle { IfOk result (λ core. (pass : ℕ) → pass < 3 → IsAt core.passes pass (λ p. p.phase ≡ Idle)) }
-{
-    let room = Room {
-        events: 100,
-        sectors: 200,
+    let state = match recover(alloc, &mut store, 2) {
+        Ok(state) => state,
+        Err(_) => panic!(rt; "no image"),
     };
-    let content = vec![in alloc; Sector::filled(0); 104]?;
-    let store = MemStore::new(alloc, content, room, Vec::new(alloc))?;
-    let base = MemBase::new(base(alloc)?, Vec::new(alloc));
-    assert!(rt; valid(&SMALL));
-    assert!(rt; layout_of(&SMALL).need <= store.sectors());
-    assert_eq!(rt; (store.in_flight(), base.in_flight()), (0, 0));
-    match Core::new(alloc, store, base, &SMALL, 3, room) {
+    assert!(rt; state.header == SMALL);
+    match Core::new(alloc, store, base, state, passes, room) {
         Ok(core) => Ok(core),
         Err(Unopened { store: _, base: _ }) => Err(NoMemory.into()),
     }
-}
-
-/// Ends the write of a pass, in at most 64 steps. What other passes have asked stays.
-fn end_write<S: Store, B: Base>(
-    core: &mut Core<S, B>,
-    pass: u32,
-    content: &[Sector],
-) -> Option<Answer>
-    requires busy { IsAt core.old.passes pass (λ p. (p.phase ≢ Idle) × (p.write ≡ true) × (p.count ≡ length content.now)) }
-    requires asked { HasAskedWrite core.old.history.log.entries pass content.now }
-    ensures idle { IfSome result (λ answer. IsAt core.new.passes pass (λ p. p.phase ≡ Idle)) }
-    ensures shape { core.new.shape ≡ core.old.shape }
-    ensures passes { length core.new.passes ≡ length core.old.passes }
-    ensures others { (other : ℕ) → other ≢ pass → slice_get core.new.passes other ≡ slice_get core.old.passes other }
-    ensures asked { (other : ℕ) (said : List AnySector) → HasAskedWrite core.old.history.log.entries other said → HasAskedWrite core.new.history.log.entries other said }
-{
-    for _ in 0..64 {
-        match Writer::next(core, pass, content) {
-            Step::Ended(answer) => return Some(answer),
-            Step::Again | Step::Late | Step::Busy { .. } => {}
-        }
-    }
-    None
 }
 
 /// Fills each sector with the byte at its place.
@@ -290,7 +190,7 @@ fn runs(
     base_rules: &[Rule],
     calls: &[Call],
 ) -> Result<bool, Fail> {
-    let mut core = opened(rt, alloc, store_rules, base_rules)?;
+    let mut core = opened(rt, alloc, 1, ROOM, store_rules, base_rules)?;
     let mut same = true;
     for call in calls {
         same = ends_so(rt, &mut core, call) && same;
@@ -299,6 +199,7 @@ fn runs(
         store: _,
         base: _,
         history,
+        state: _,
     } = core.finish();
     Ok(same && history.log().len() > 0)
 }
@@ -307,7 +208,7 @@ const FULL: Answer = Answer::Full { needed: 1, free: 0 };
 
 const BASE_FAULT: Answer = Answer::BaseFault { ticket: 1, done: 0 };
 
-const STORE_FAULT: Answer = Answer::StoreFault { ticket: 2, done: 0 };
+const STORE_FAULT: Answer = Answer::StoreFault { ticket: 6, done: 0 };
 
 #[test]
 fn writes_and_reads_of_one_pass(rt: HostRuntime) -> Result<(), Fail> {
@@ -378,40 +279,8 @@ fn close(rt: &impl Abort, core: Core<MemStore, MemBase>)
         store: _,
         base: _,
         history: _,
+        state: _,
     } = core.finish();
-}
-
-/// Asks a write of one sector by an idle pass. Whether it was asked. What other passes have and have asked stays.
-fn asks_write<S: Store, B: Base>(core: &mut Core<S, B>, pass: u32, content: &[Sector]) -> bool
-    requires idle { IsAt core.old.passes pass (λ p. p.phase ≡ Idle) }
-    requires one { length content.now ≡ 1 }
-    requires size { core.old.shape.block * core.old.shape.blocks ≡ 128 }
-    ensures asked { result ≡ true → IsAt core.new.passes pass (λ p. (p.phase ≡ Asked) × (p.write ≡ true) × (p.count ≡ 1)) }
-    ensures content { result ≡ true → HasAskedWrite core.new.history.log.entries pass content.now }
-    ensures shape { core.new.shape ≡ core.old.shape }
-    ensures passes { length core.new.passes ≡ length core.old.passes }
-    ensures others { (other : ℕ) → other ≢ pass → slice_get core.new.passes other ≡ slice_get core.old.passes other }
-    ensures said { (other : ℕ) (said : List AnySector) → other ≢ pass → HasAskedWrite core.old.history.log.entries other said → HasAskedWrite core.new.history.log.entries other said }
-{
-    match core.ask(pass, Request::Write { first: 8, content }) {
-        None => true,
-        Some(_) => false,
-    }
-}
-
-/// Lets a pass that has asked a write enter its block. The pass that keeps it out, if one does.
-fn kept_out<S: Store, B: Base>(core: &mut Core<S, B>, pass: u32) -> Option<u32>
-    requires asked { IsAt core.old.passes pass (λ p. (p.phase ≡ Asked) × (p.write ≡ true) × (p.count ≡ 1)) }
-    ensures busy { IsAt core.new.passes pass (λ p. (p.phase ≢ Idle) × (p.write ≡ true) × (p.count ≡ 1)) }
-    ensures shape { core.new.shape ≡ core.old.shape }
-    ensures passes { length core.new.passes ≡ length core.old.passes }
-    ensures others { (other : ℕ) → other ≢ pass → slice_get core.new.passes other ≡ slice_get core.old.passes other }
-    ensures history { core.new.history ≡ core.old.history }
-{
-    match core.enter(pass) {
-        Ok(()) => None,
-        Err(busy) => Some(busy.by),
-    }
 }
 
 /// Two passes ask a write of one sector. While the first has the block the second is kept out; then both are served, and a
@@ -419,7 +288,7 @@ fn kept_out<S: Store, B: Base>(core: &mut Core<S, B>, pass: u32) -> Option<u32>
 #[test]
 fn two_writers_of_one_sector(rt: HostRuntime) -> Result<(), Fail> {
     let alloc = rt.alloc();
-    let mut core = opened_for_three(&rt, alloc)?;
+    let mut core = opened(&rt, alloc, 3, ROOM, &[], &[])?;
     let first = [Sector::filled(0x11)];
     let second = [Sector::filled(0x22)];
     if !asks_write(&mut core, 1, &first) {
@@ -458,7 +327,7 @@ fn writes_without_room(rt: HostRuntime) -> Result<(), Fail> {
         events: 2,
         sectors: 0,
     };
-    let mut core = opened_in(&rt, alloc, room)?;
+    let mut core = opened(&rt, alloc, 1, room, &[], &[])?;
     match write(&mut core, 0, 8, &[Sector::filled(1)]) {
         Some(answer) => {
             assert!(rt;
@@ -475,6 +344,7 @@ fn writes_without_room(rt: HostRuntime) -> Result<(), Fail> {
         store: _,
         base: _,
         history,
+        state: _,
     } = core.finish();
     assert!(rt; history.log().len() == 0);
     Ok(())

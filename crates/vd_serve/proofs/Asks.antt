@@ -1,5 +1,5 @@
 -- Which requests a pass has asked, as entries are added.
-use Rattle.std.proofs.Common.{◌≡◌, ℕ, ◌≤◌, List, [], ◌∷◌, ◌++◌, length, refl, sym, ◌∙◌, ap, subst, inl, inr, append_assoc, append-nil, arith, Option}
+use Rattle.std.proofs.Common.{◌≡◌, ℕ, ◌+◌, ◌≤◌, List, [], ◌∷◌, ◌++◌, length, refl, sym, ◌∙◌, ap, subst, inl, inr, append_assoc, append-nil, arith, Option}
 use Rattle.std.specs.List.{AllByRecursion}
 use Rattle.std.proofs.lemmas.List.Concat.{flat_map-append}
 use Rattle.vd_law.specs.declared.entry.Room.{Room}
@@ -18,7 +18,7 @@ use Rattle.vd_core.proofs.Serving.{write-stays}
 use Rattle.vd_core.specs.declared.outcome.Step.{Step}
 use Rattle.vd_core.specs.Asking.{AskEnds, EndsFull, EndsAsked, Exceeds, Suffices}
 use Rattle.vd_core.specs.Moves.{IsNoAsk, Drives}
-use Rattle.vd_serve.specs.Serving.{asked_by, requests_in}
+use Rattle.vd_serve.specs.Serving.{asked_by, requests_in, Flushes}
 use Rattle.vd_serve.specs.Driving.{IsAskOf, Serves}
 
 all-more : {X : Type 0} (P : X → Type 0) (xs ys : List X) → AllByRecursion P xs → AllByRecursion P ys → AllByRecursion P (xs ++ ys)
@@ -81,7 +81,7 @@ some-needed block (Read first count) = (omega arith, omega arith)
 some-needed block (Write first content) = (omega arith, omega arith)
 some-needed block Flush = (omega arith, omega arith)
 
-too-much : {X : Type 0} {need left : Room} → Exceeds need left → Suffices need left → X
+pub too-much : {X : Type 0} {need left : Room} → Exceeds need left → Suffices need left → X
 too-much (inl less) (events, sectors) = absurd (omega (arith, less, events))
 too-much (inr less) (events, sectors) = absurd (omega (arith, less, sectors))
 
@@ -112,9 +112,19 @@ module _ {request : Asked} {shape : Shape} {events : ℕ} {table table' : Given}
   ask-serves result room (inr (inr (none, asked))) = asked-serves asked
 
 -- whatever is answered, there is as much storage and the number of opening is the same
-pub ask-keeps : {request : Asked} {shape : Shape} {events : ℕ} {table table' : Given} {passes passes' : List Pass} {history history' : Numbered} {left left' : Room} (result : Option Answer)
-    → AskEnds result request shape 1 table table' passes passes' history history' left left' events
+pub ask-keeps : {request : Asked} {shape : Shape} {pass events : ℕ} {table table' : Given} {passes passes' : List Pass} {history history' : Numbered} {left left' : Room} (result : Option Answer)
+    → AskEnds result request shape pass table table' passes passes' history history' left left' events
     → (length table'.chunks ≡ length table.chunks) × (table'.storage ≡ table.storage) × (history'.opened ≡ history.opened)
 ask-keeps result (inl (exceeds, is, same)) = (ap (λ (t : Given). length t.chunks) same.table_same, ap (λ (t : Given). t.storage) same.table_same, ap (λ (h : Numbered). h.opened) same.history_same)
 ask-keeps result (inr (inl (needed, free, is, full))) = (ap (λ (t : Given). length t.chunks) full.table_same, ap (λ (t : Given). t.storage) full.table_same, full.extends.opened)
 ask-keeps result (inr (inr (none, asked))) = (asked.claims.chunks, asked.claims.storage, asked.extends.opened)
+
+-- a flush by pass 1 is one request of its
+pub flush-serves : {answer : Answer} {block : ℕ} {entries entries' : List Entry} {left left' : Room} → Flushes 1 answer entries entries' → (left.events ≤ left'.events + 2) × (left.sectors ≤ left'.sectors)
+    → Serves Flush block entries entries' left left'
+flush-serves {entries = entries} flushes room = record {
+  asked = ap (λ (es : List Entry). requests_in es 1) flushes.after ∙ flat_map-append (asked_by 1) entries _;
+  alone = λ before. subst (AllByRecursion (IsAskOf 1)) (sym flushes.after) (all-more (IsAskOf 1) entries _ before (refl, (tt, tt)));
+  events_left = room.0;
+  sectors_left = (let sectors = room.1 in omega arith);
+}

@@ -61,7 +61,7 @@ module _ {sectors sectors' sectors'' depth depth' depth'' faults faults' faults'
   }
 
 pub same-disk : {S B : Type 0} {core : View S B} → IsSameDisk core core
-same-disk = record { shape = refl; chunks = refl; storage = refl; store_faults = refl; base_faults = refl; opened = refl }
+same-disk = record { shape = refl; chunks = refl; storage = refl; header = refl; entries = refl; store_faults = refl; base_faults = refl; opened = refl }
 
 module _ {S B : Type 0} {core core' core'' : View S B} where
   pub disk-then : IsSameDisk core core' → IsSameDisk core' core'' → IsSameDisk core core''
@@ -69,15 +69,20 @@ module _ {S B : Type 0} {core core' core'' : View S B} where
     shape = next.shape ∙ first.shape;
     chunks = next.chunks ∙ first.chunks;
     storage = next.storage ∙ first.storage;
+    header = next.header ∙ first.header;
+    entries = next.entries ∙ first.entries;
     store_faults = next.store_faults ∙ first.store_faults;
     base_faults = next.base_faults ∙ first.base_faults;
     opened = next.opened ∙ first.opened;
   }
 
--- An ask leaves the devices and the start as they were.
+-- An ask leaves the devices, the opening and the flush under way as they were.
 module _ {S B : Type 0} (core core' : View S B) (others : core' ≡ record core { table = core'.table; passes = core'.passes; history = core'.history; spare = core'.spare }) where
-  pub ask-start : core'.start ≡ core.start
-  ask-start = ap (λ (c : View S B). c.start) others
+  pub ask-opening : core'.opening ≡ core.opening
+  ask-opening = ap (λ (c : View S B). c.opening) others
+
+  pub ask-flusher : core'.flusher ≡ core.flusher
+  ask-flusher = ap (λ (c : View S B). c.flusher) others
 
   pub ask-store : core'.store ≡ core.store
   ask-store = ap (λ (c : View S B). c.store) others
@@ -87,23 +92,31 @@ module _ {S B : Type 0} (core core' : View S B) (others : core' ≡ record core 
 
 -- The disk after an ask, and after a step of a driver.
 module _ {S B : Type 0} (core core' : View S B) where
-  pub ask-disk : {request : Asked} {events : ℕ} (result : Option Answer) → AskEnds result request core.shape 1 core.table core'.table core.passes core'.passes core.history core'.history core.spare core'.spare events
+  pub ask-disk : {request : Asked} {pass events : ℕ} (result : Option Answer) → AskEnds result request core.shape pass core.table core'.table core.passes core'.passes core.history core'.history core.spare core'.spare events
       → core' ≡ record core { table = core'.table; passes = core'.passes; history = core'.history; spare = core'.spare } → IsSameDisk core core'
   ask-disk result ends others = let kept = ask-keeps result ends in record {
     shape = ap (λ (c : View S B). c.shape) others;
     chunks = kept.0;
     storage = kept.1;
+    header = ap (λ (c : View S B). c.header) others;
+    entries = ap (λ (c : View S B). c.entries) others;
     store_faults = ap (λ (c : View S B). c.store_faults) others;
     base_faults = ap (λ (c : View S B). c.base_faults) others;
     opened = kept.2;
   }
 
-  pub step-disk : core'.shape ≡ core.shape → (core'.table ≡ core.table) × (core'.store_faults ≡ core.store_faults) × (core'.base_faults ≡ core.base_faults) × (core'.history.opened ≡ core.history.opened) → IsSameDisk core core'
+  pub step-disk : core'.shape ≡ core.shape → (core'.table ≡ core.table) × (core'.store_faults ≡ core.store_faults) × (core'.base_faults ≡ core.base_faults) × (core'.history.opened ≡ core.history.opened) × (core'.header ≡ core.header) × (core'.entries ≡ core.entries) → IsSameDisk core core'
   step-disk shape storage = record {
     shape = shape;
     chunks = ap (λ (t : Given). length t.chunks) storage.0;
     storage = ap (λ (t : Given). t.storage) storage.0;
+    header = storage.4;
+    entries = storage.5;
     store_faults = storage.1;
     base_faults = storage.2;
     opened = storage.3;
   }
+
+  pub flush-disk : (core'.shape ≡ core.shape) × (core'.table ≡ core.table) × (core'.fresh ≡ core.fresh) × (core'.header ≡ core.header) × (core'.entries ≡ core.entries)
+      → (core'.store_faults ≡ core.store_faults) × (core'.base_faults ≡ core.base_faults) × (core'.history.opened ≡ core.history.opened) → IsSameDisk core core'
+  flush-disk disk counted = step-disk disk.0 (disk.1, counted.0, counted.1, counted.2, disk.3, disk.4)

@@ -4,3 +4,4 @@ pub mod Asks
 pub mod Passing
 pub mod Leaving
 pub mod Going
+pub mod Flushing

@@ -18,6 +18,7 @@ use Rattle.vd_trace.specs.Scripts as scripts
 use Rattle.vd_trace.proofs.Rooms.{pieces-from_first}
 use Rattle.vd_passes.specs.Needs.{pieces, need_of}
 use Rattle.vd_core.specs.Asking.{Suffices}
+use Rattle.vd_serve.specs.Driving.{with_flush}
 
 -- the two ways to round a quotient up
 ceil-same : (x block : ℕ) → 0 < block → (x + (block - 1)) / block ≡ div_ceil x block
@@ -64,8 +65,8 @@ sum-some {X} {Y} p view f g (x ∷ xs) most = rw (sum_by-cons g x xs) (by (p x) 
 abbrev pub needs_of : (block : ℕ) → List Asked → Room
 needs_of block requests = record { events = sum_by (λ r. (need_of block r).events) requests; sectors = sum_by (λ r. (need_of block r).sectors) requests }
 
--- Where the room suffices for all that is asked, it suffices for one guest.
-pub guest-suffices : (block guest : ℕ) (asks : List Asking) (left : Room) → Suffices (scripts.need_of block asks) left → Suffices (needs_of block (requests_of guest asks)) left
+-- Where the room suffices for all that is asked and a flush, it suffices for one guest and the flush.
+pub guest-suffices : (block guest : ℕ) (asks : List Asking) (left : Room) → Suffices (with_flush (scripts.need_of block asks)) left → Suffices (with_flush (needs_of block (requests_of guest asks))) left
 guest-suffices block guest asks left (events, sectors) = (
   omega (arith, events, sum-some (λ a. a.guest == guest) (λ a. asked_of a.work) (λ r. (need_of block r).events) (λ a. scripts.events_of block a.work) asks (λ a. events-most block a.work)),
   omega (arith, sectors, sum-some (λ a. a.guest == guest) (λ a. asked_of a.work) (λ r. (need_of block r).sectors) (λ a. scripts.told_of a.work) asks (λ a. sectors-most block a.work)),
@@ -77,11 +78,11 @@ module _ (block : ℕ) (requests : List Asked) (at : ℕ) (request : Asked) (the
       ∙ ap (λ (r : Asked). f r + sum_by f (drop (at + 1) requests)) (get_or_from_slice_get requests at request request there)
 
   -- Room for the rest is room for the next of them,
-  pub next-suffices : (left : Room) → Suffices (needs_of block (drop at requests)) left → Suffices (need_of block request) left
+  pub next-suffices : (left : Room) → Suffices (with_flush (needs_of block (drop at requests))) left → Suffices (need_of block request) left
   next-suffices left (events, sectors) = (omega (arith, events, rest-needs (λ r. (need_of block r).events)), omega (arith, sectors, rest-needs (λ r. (need_of block r).sectors)))
 
   -- and behind it for those that are left.
-  pub rest-suffices : (left left' : Room) → left.events ≤ left'.events + (need_of block request).events → left.sectors ≤ left'.sectors + (need_of block request).sectors → Suffices (needs_of block (drop at requests)) left → Suffices (needs_of block (drop (at + 1) requests)) left'
+  pub rest-suffices : (left left' : Room) → left.events ≤ left'.events + (need_of block request).events → left.sectors ≤ left'.sectors + (need_of block request).sectors → Suffices (with_flush (needs_of block (drop at requests))) left → Suffices (with_flush (needs_of block (drop (at + 1) requests))) left'
   rest-suffices left left' more_events more_sectors (events, sectors) = (
     omega (arith, events, more_events, rest-needs (λ r. (need_of block r).events)),
     omega (arith, sectors, more_sectors, rest-needs (λ r. (need_of block r).sectors)),

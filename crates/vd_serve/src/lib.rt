@@ -1,20 +1,20 @@
-//! The requests of one guest, over devices that settle by waiting.
+//! The requests of one guest, and the flush that closes the image, over devices that settle by waiting.
 #![tactic(auto)]
 
-ghost use Rattle.std.specs.Prelude.{◌≡◌, ℕ, ◌*◌, length};
+ghost use Rattle.std.specs.Prelude.{◌≡◌, ℕ, ◌*◌, ◌<◌, ◌≤◌, ◌+◌, length};
 ghost use Rattle.std.specs.List.{All};
 ghost use Rattle.vd_trace.specs.Traces.{script};
 ghost use Rattle.vd_trace.specs.Scripts.{need_of, request_of, HasRange};
-ghost use Rattle.vd_law.specs.Entries.{Read, Write};
+ghost use Rattle.vd_law.specs.Entries.{Read, Write, Flush};
 ghost use Rattle.vd_passes.specs.Needs.{need_of as pass_need_of};
 ghost use Rattle.vd_core.specs.Asking.{Suffices};
-ghost use Rattle.vd_core.specs.Leaving.{LeavesStore, LeavesBase};
-ghost use Rattle.vd_serve.specs.Serving.{IsServable, IsUnused, IsServed};
-ghost use Rattle.vd_serve.specs.Driving.{IsResting, CanServe, Serves, IsSameDisk, KeepsStore, KeepsBase};
+ghost use Rattle.vd_serve.specs.Serving.{IsServable, IsResting, IsUnused, IsServed, Flushes, Closes};
+ghost use Rattle.vd_serve.specs.Driving.{CanServe, Serves, IsSameDisk, KeepsStore, KeepsBase, with_flush};
 
 use vd_core::{Core, Step};
 use vd_device::{Base, Patient, Store};
-use vd_law::entry::{Request, Sector};
+use vd_flush::Flusher;
+use vd_law::entry::{Answer, Request, Sector};
 use vd_read::Reader;
 use vd_trace::trace::{Asked, Trace};
 use vd_write::Writer;
@@ -25,11 +25,11 @@ fn serve_write<S: Store, B: Base>(
     first: u64,
     content: &[Sector],
 )
-    requires can { CanServe (Write first content.now) core.old.shape core.old.passes core.old.spare }
-    ensures resting { IsResting core.new.passes }
+    requires can { CanServe (Write first content.now) core.old.shape core.old.passes core.old.flusher core.old.spare }
+    ensures resting { IsResting core.new.passes core.new.flusher }
     ensures serves { Serves (Write first content.now) core.old.shape.block core.old.history.log.entries core.new.history.log.entries core.old.spare core.new.spare }
     ensures disk { IsSameDisk core.old core.new }
-    ensures start { B.tells core.new.base.inner → core.new.start ≡ core.old.start }
+    ensures opening { S.tells core.new.store.inner → core.new.opening ≡ core.old.opening }
     ensures store { KeepsStore S.sectors S.depth S.events S.faults S.tells S.records core.old.store.inner core.new.store.inner }
     ensures base { KeepsBase B.sectors B.depth B.faults B.tells B.content core.old.base.inner core.new.base.inner }
 {
@@ -46,11 +46,11 @@ fn serve_read<S: Store, B: Base>(
     first: u64,
     out: &mut [Sector],
 )
-    requires can { CanServe (Read first (length out.old)) core.old.shape core.old.passes core.old.spare }
-    ensures resting { IsResting core.new.passes }
+    requires can { CanServe (Read first (length out.old)) core.old.shape core.old.passes core.old.flusher core.old.spare }
+    ensures resting { IsResting core.new.passes core.new.flusher }
     ensures serves { Serves (Read first (length out.old)) core.old.shape.block core.old.history.log.entries core.new.history.log.entries core.old.spare core.new.spare }
     ensures disk { IsSameDisk core.old core.new }
-    ensures start { B.tells core.new.base.inner → core.new.start ≡ core.old.start }
+    ensures opening { S.tells core.new.store.inner → core.new.opening ≡ core.old.opening }
     ensures store { KeepsStore S.sectors S.depth S.events S.faults S.tells S.records core.old.store.inner core.new.store.inner }
     ensures base { KeepsBase B.sectors B.depth B.faults B.tells B.content core.old.base.inner core.new.base.inner }
 {
@@ -62,6 +62,31 @@ fn serve_read<S: Store, B: Base>(
     while let Step::Again = Reader::next(core, 1, out) {}
 }
 
+/// Flushes by one of the two passes, and gives what it is answered.
+fn flush<S: Store, B: Base>(core: &mut Core<Patient<S>, Patient<B>>, pass: u32) -> Answer
+    requires pass { pass < 2 }
+    requires can { CanServe Flush core.old.shape core.old.passes core.old.flusher core.old.spare }
+    ensures resting { IsResting core.new.passes core.new.flusher }
+    ensures flushes { Flushes pass result core.old.history.log.entries core.new.history.log.entries }
+    ensures room { (core.old.spare.events ≤ core.new.spare.events + 2) × (core.old.spare.sectors ≤ core.new.spare.sectors) }
+    ensures disk { IsSameDisk core.old core.new }
+    ensures opening { S.tells core.new.store.inner → core.new.opening ≡ core.old.opening }
+    ensures store { KeepsStore S.sectors S.depth S.events S.faults S.tells S.records core.old.store.inner core.new.store.inner }
+    ensures base { KeepsBase B.sectors B.depth B.faults B.tells B.content core.old.base.inner core.new.base.inner }
+{
+    if let Some(_) = core.ask(pass, Request::Flush) {
+        unreachable!();
+    }
+    loop {
+        match Flusher::next(core, pass) {
+            Step::Again => {}
+            Step::Ended(answer) => return answer,
+            // The devices wait, and the other pass doesn't flush.
+            Step::Late | Step::Busy { .. } => unreachable!(),
+        }
+    }
+}
+
 /// Serves a request, whose content stands at the front of `content`.
 fn serve_one<S: Store, B: Base>(
     core: &mut Core<Patient<S>, Patient<B>>,
@@ -71,45 +96,47 @@ fn serve_one<S: Store, B: Base>(
 )
     requires range { HasRange asked }
     requires servable { IsServable (core.old.shape.block * core.old.shape.blocks) (request_of asked content.now) }
-    requires resting { IsResting core.old.passes }
+    requires resting { IsResting core.old.passes core.old.flusher }
     requires room { Suffices (pass_need_of core.old.shape.block (request_of asked content.now)) core.old.spare }
     requires content { length content.now ≡ 2048 }
     requires out { length out.old ≡ 2048 }
-    ensures resting { IsResting core.new.passes }
+    ensures resting { IsResting core.new.passes core.new.flusher }
     ensures serves { Serves (request_of asked content.now) core.old.shape.block core.old.history.log.entries core.new.history.log.entries core.old.spare core.new.spare }
     ensures disk { IsSameDisk core.old core.new }
-    ensures start { B.tells core.new.base.inner → core.new.start ≡ core.old.start }
+    ensures opening { S.tells core.new.store.inner → core.new.opening ≡ core.old.opening }
     ensures store { KeepsStore S.sectors S.depth S.events S.faults S.tells S.records core.old.store.inner core.new.store.inner }
     ensures base { KeepsBase B.sectors B.depth B.faults B.tells B.content core.old.base.inner core.new.base.inner }
 {
     match asked {
         Asked::Read { first, count } => serve_read(core, first, &mut out[..count as usize]),
         Asked::Write { first, count } => serve_write(core, first, &content[..count as usize]),
-        Asked::Flush => unreachable!(),
+        Asked::Flush => {
+            flush(core, 1);
+        }
     }
 }
 
 /// Serves the requests of a trace's one guest in order, each to its reply, by pass 1 of a core with two passes that have
-/// asked nothing. It always returns. `content` and `out` have room for the 2,048 sectors of a request.
+/// asked nothing. It always returns, and leaves room for one flush more. `content` and `out` have room for the 2,048 sectors of a
+/// request.
 pub fn serve<S: Store, B: Base>(
     core: &mut Core<Patient<S>, Patient<B>>,
     trace: &Trace,
     content: &mut [Sector],
     out: &mut [Sector],
 )
-    requires guests { trace.now.guests ≡ 1 }
-    requires unused { IsUnused core.old.passes core.old.history.log.entries }
+    requires unused { IsUnused core.old.passes core.old.flusher core.old.history.log.entries }
     requires content { length content.old ≡ 2048 }
     requires out { length out.old ≡ 2048 }
     requires servable { All (IsServable (core.old.shape.block * core.old.shape.blocks)) (script trace.now 1) }
-    requires room { Suffices (need_of core.old.shape.block trace.now.asks) core.old.spare }
+    requires room { Suffices (with_flush (need_of core.old.shape.block trace.now.asks)) core.old.spare }
     ensures served { IsServed (script trace.now 1) core.new.passes core.new.history.log.entries }
-    ensures shape { core.new.shape ≡ core.old.shape }
-    ensures storage { (length core.new.table.chunks ≡ length core.old.table.chunks) × (core.new.table.storage ≡ core.old.table.storage) }
-    ensures opening { (core.new.store_faults ≡ core.old.store_faults) × (core.new.base_faults ≡ core.old.base_faults) × (core.new.history.opened ≡ core.old.history.opened) }
-    ensures start { B.tells core.new.base.inner → core.new.start ≡ core.old.start }
-    ensures store { LeavesStore (S.sectors core.old.store.inner) (S.sectors core.new.store.inner) (S.depth core.old.store.inner) (S.depth core.new.store.inner) (S.events core.old.store.inner) (S.events core.new.store.inner) (S.faults core.old.store.inner) (S.faults core.new.store.inner) 0 0 (S.tells core.old.store.inner) (S.tells core.new.store.inner) (S.records core.old.store.inner) (S.records core.new.store.inner) }
-    ensures base { LeavesBase (B.sectors core.old.base.inner) (B.sectors core.new.base.inner) (B.depth core.old.base.inner) (B.depth core.new.base.inner) (B.faults core.old.base.inner) (B.faults core.new.base.inner) 0 0 (B.tells core.old.base.inner) (B.tells core.new.base.inner) (B.content core.old.base.inner) (B.content core.new.base.inner) }
+    ensures resting { IsResting core.new.passes core.new.flusher }
+    ensures room { Suffices (pass_need_of core.new.shape.block Flush) core.new.spare }
+    ensures disk { IsSameDisk core.old core.new }
+    ensures opening { S.tells core.new.store.inner → core.new.opening ≡ core.old.opening }
+    ensures store { KeepsStore S.sectors S.depth S.events S.faults S.tells S.records core.old.store.inner core.new.store.inner }
+    ensures base { KeepsBase B.sectors B.depth B.faults B.tells B.content core.old.base.inner core.new.base.inner }
 {
     for at in 0..trace.count(1) {
         let asked = trace.request(1, at, content);
@@ -117,4 +144,19 @@ pub fn serve<S: Store, B: Base>(
     }
     // All entries are of pass 1, since it has asked all calls of a regular history.
     let _ = core.history();
+}
+
+/// Puts every local block that not every image has into the next flush, and flushes by pass 0. What it answers is that flush's.
+pub fn close<S: Store, B: Base>(core: &mut Core<Patient<S>, Patient<B>>) -> Answer
+    requires resting { IsResting core.old.passes core.old.flusher }
+    requires room { Suffices (pass_need_of core.old.shape.block Flush) core.old.spare }
+    ensures resting { IsResting core.new.passes core.new.flusher }
+    ensures closed { Closes result core.old.history.log.entries core.new.history.log.entries }
+    ensures disk { IsSameDisk core.old core.new }
+    ensures opening { S.tells core.new.store.inner → core.new.opening ≡ core.old.opening }
+    ensures store { KeepsStore S.sectors S.depth S.events S.faults S.tells S.records core.old.store.inner core.new.store.inner }
+    ensures base { KeepsBase B.sectors B.depth B.faults B.tells B.content core.old.base.inner core.new.base.inner }
+{
+    core.adopt();
+    flush(core, 0)
 }

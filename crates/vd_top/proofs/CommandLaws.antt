@@ -1,8 +1,8 @@
 -- What a command answers, and the causes of its status.
 use Rattle.std.proofs.Common.{ℕ, zero, suc, ◌≡◌, ◌⊎◌, min, inl, inr, Bool, true, false, List, Option, Some, None, refl, sym, ◌∙◌, ap, subst, arith}
-use Rattle.std.specs.Prelude.{◌↔◌, IsTrue, if◌then◌else◌}
+use Rattle.std.specs.Prelude.{◌↔◌, ◌==◌, IsTrue, if◌then◌else◌}
 use Rattle.vd_law.specs.declared.entry.Sector.{Sector}
-use Rattle.vd_law.specs.Entries.{Entry}
+use Rattle.vd_device.specs.Disks.{Disk}
 use Rattle.vd_law.specs.Histories.{Numbered}
 use Rattle.vd_format.specs.Headers.{IsValid}
 use Rattle.vd_format.specs.declared.header.Header.{Header}
@@ -20,8 +20,9 @@ use Rattle.vd_top.specs.Showing.{show_line, IsJudged, Without_memory, Store_fail
 use Rattle.vd_top.specs.Making.{AsksFor, IsNoMake, new_header, MakingEnds, Too_few, Lacks_memory, Write_failed, Is_made}
 use Rattle.vd_top.specs.Tasks.{IsMaking}
 use Rattle.vd_top.specs.Commands.{IsNoCommand, Answers, Outside, Shows, Makes}
-use Rattle.vd_top.specs.Running.{AsksRun, IsReadLine, Source_failed, Read_without_memory, Is_bad, Is_too_much, Is_unserved, IsOpenLine, Open_failed, Is_refused, Is_past, RunEnds, Is_unread, Is_unopened, Ran_without_memory, Has_run}
-use Rattle.vd_top.specs.Ending.{are_ok, status_of, unwritten, Ends}
+use Rattle.vd_top.specs.Running.{AsksRun, IsReadLine, Source_failed, Read_without_memory, Is_bad, Is_too_much, IsOpenLine, Opened_without_memory, Open_failed, Is_refused, Is_past, RunEnds, Is_unread, Is_unopened, Ran_without_memory, Has_run}
+use Rattle.vd_top.specs.Ending.{is_fault, are_ok, reopened_status, run_status, status_of, unwritten, Ends}
+use Rattle.vd_top.proofs.RunCauses.{closing_cause, reopened_cause, reopened_not}
 
 pub is_no_command : (command : Command) → None ≡ Some command → ⊥
 is_no_command command e = cc
@@ -167,27 +168,34 @@ read_cause run (Source_failed failed) = of_run run (λ e. cc) (λ e. absurd cc) 
 read_cause run Read_without_memory = of_run run (λ e. cc) (λ e. absurd cc) (λ e. absurd cc)
 read_cause run (Is_bad number bad) = of_run run (λ e. cc) (λ e. absurd cc) (λ e. absurd cc)
 read_cause run (Is_too_much number much) = of_run run (λ e. cc) (λ e. absurd cc) (λ e. absurd cc)
-read_cause run (Is_unserved number line) = of_run run (λ e. cc) (λ e. absurd cc) (λ e. absurd cc)
 
 open_cause : {words : List (List ℕ)} {trace : Script} {told : Type 0} {held : List Sector} {last sf sf' : ℕ} {Base_cause Source : Type 0} {line : Line} → AsksRun words → IsOpenLine trace told held (λ ticket. IsFault ticket last sf sf') line
     → HasCause words (Rose sf sf' ⊎ Base_cause) Source (status_of_line line)
+open_cause run Opened_without_memory = of_run run (λ e. cc) (λ e. absurd cc) (λ e. absurd cc)
 open_cause run (Open_failed ticket fault) = of_run run (λ e. cc) (λ e. inl fault.rose) (λ e. absurd cc)
 open_cause run (Is_refused e (inl three) right) = of_run run (differs _ 3 2 three (λ d. cc)) (λ f. absurd (differs _ 3 5 three (λ d. cc) f)) (λ f. absurd (differs _ 3 6 three (λ d. cc) f))
 open_cause run (Is_refused e (inr eight) right) = of_run run (differs _ 8 2 eight (λ d. cc)) (λ f. absurd (differs _ 8 5 eight (λ d. cc) f)) (λ f. absurd (differs _ 8 6 eight (λ d. cc) f))
 open_cause run (Is_past h number right past) = of_run run (λ e. cc) (λ e. absurd cc) (λ e. absurd cc)
 
-report_cause : {words : List (List ℕ)} {Device Source : Type 0} (ok : Bool) → AsksRun words → HasCause words Device Source (if ok then 0 else 1)
-report_cause true run = of_run run (λ e. cc) (λ e. absurd cc) (λ e. absurd cc)
-report_cause false run = of_run run (λ e. cc) (λ e. absurd cc) (λ e. absurd cc)
+report_cause : {words : List (List ℕ)} {Device Source : Type 0} (closing_failed : Bool) (reopened : ℕ) (ok : Bool) → AsksRun words → (closing_failed ≡ true → Device) → (reopened ≡ 5 → Device) → (reopened ≡ 2 → ⊥) → (reopened ≡ 6 → ⊥)
+    → HasCause words Device Source (run_status closing_failed reopened ok)
+report_cause true reopened ok run closing five two six = of_run run (λ e. cc) (λ e. closing refl) (λ e. absurd cc)
+report_cause {words = words} {Device = Device} {Source = Source} false reopened ok run closing five two six = by (reopened == 0) ok
+  where
+    by : (none : Bool) (ok : Bool) → HasCause words Device Source (if none then (if ok then 0 else 1) else reopened)
+    by true true = of_run run (λ e. cc) (λ e. absurd cc) (λ e. absurd cc)
+    by true false = of_run run (λ e. cc) (λ e. absurd cc) (λ e. absurd cc)
+    by false ok = of_run run two five (λ e. absurd (six e))
 
 -- each outcome of a run has its cause
-pub run_cause : {words : List (List ℕ)} {source_told : Type 0} {bytes : List ℕ} {Source told base_told : Type 0} {held base : List Sector} {base_sectors last sf sf' : ℕ} {log : List Entry} {faults faults' base_faults base_faults' : ℕ} {history : Option Numbered}
-    {Base_cause : Type 0} (outcome : Outcome) → AsksRun words → RunEnds source_told bytes Source told base_told held base base_sectors (λ ticket. IsFault ticket last sf sf') log faults faults' base_faults base_faults' history outcome
-    → HasCause words (Rose sf sf' ⊎ Base_cause) Source (status_of outcome)
+pub run_cause : {words : List (List ℕ)} {source_told : Type 0} {bytes : List ℕ} {Source told base_told : Type 0} {disk disk' : Disk} {base : List Sector} {base_sectors last sf sf' bf bf' : ℕ} {history : Option Numbered} (outcome : Outcome) → AsksRun words
+    → RunEnds source_told bytes Source told base_told disk disk' base base_sectors (λ ticket. IsFault ticket last sf sf') sf sf' bf bf' history outcome → HasCause words (Rose sf sf' ⊎ Rose bf bf') Source (status_of outcome)
 run_cause outcome run (Is_unread line unread) = read_cause run unread
 run_cause outcome run (Is_unopened trace line read unopened) = open_cause run unopened
 run_cause outcome run Ran_without_memory = of_run run (λ e. cc) (λ e. absurd cc) (λ e. absurd cc)
-run_cause outcome run (Has_run trace h history read opens is) = report_cause (are_ok history.log.entries) run
+run_cause outcome run (Has_run trace h history closing reopened read opens is again) =
+    report_cause (is_fault closing) (reopened_status reopened) (are_ok history.log.entries) run (λ failed. closing_cause is.answer is.closed is.store_caused is.base_caused (ap is_fault (sym is.closing_is) ∙ failed)) (reopened_cause _ reopened again)
+    (reopened_not reopened 2 (λ e. cc) (λ e. cc) (λ e. cc)) (reopened_not reopened 6 (λ e. cc) (λ e. cc) (λ e. cc))
 
 cause_unwritten : {words : List (List ℕ)} {Device Source : Type 0} (status : ℕ) → HasCause words Device Source status → (unwritten status ≡ 2 → IsNoCommand words) × (IsNoCommand words → unwritten status ≡ 2) × (unwritten status ≡ 5 → Device)
 cause_unwritten zero cause = ((λ e. absurd cc), (λ none. absurd (let e = cause.inside none in cc)), (λ e. absurd cc))

@@ -1,8 +1,8 @@
 -- What commands leave of a store, one after another.
-use Rattle.std.proofs.Common.{ℕ, ◌≡◌, List, refl, ◌∙◌, arith}
+use Rattle.std.proofs.Common.{ℕ, ◌≡◌, ◌≤◌, List, refl, ◌∙◌, arith}
 use Rattle.vd_law.specs.declared.entry.Sector.{Sector}
 use Rattle.vd_device.specs.Disks.{Disk}
-use Rattle.vd_reading.specs.Quiet.{IsReady, OnlyReads, OnlyReadsBase, IsAtRest}
+use Rattle.vd_reading.specs.Quiet.{IsReady, IsFault, OnlyReads, OnlyReadsBase, IsAtRest}
 use Rattle.vd_top.specs.Leaving.{Leaves}
 
 pub leaves_twice : {i1 i2 : Type 0} {s0 s1 s2 d0 d1 d2 f0 f1 f2 : ℕ} {t0 t1 t2 r0 r1 r2 : Type 0} → Leaves i1 s0 s1 d0 d1 f0 f1 t0 t1 r0 r1 → Leaves i2 s1 s2 d1 d2 f1 f2 t1 t2 r1 r2
@@ -30,3 +30,7 @@ ready_after ready idle same rest = record { idle_is = idle; deep = (let d = read
 
 pub base_left : {idle : Type 0} {sectors faults : ℕ} {tells : Type 0} {content : List Sector} → idle → OnlyReadsBase idle sectors sectors faults faults tells tells content content
 base_left idle = record { idle = idle; sectors_same = refl; calm = omega arith; told_before = λ t. t; content_same = λ t. refl }
+
+-- a failure is one of a longer work too
+pub fault_earlier : {number last faults faults' faults'' : ℕ} → faults ≤ faults' → IsFault number last faults' faults'' → IsFault number last faults faults''
+fault_earlier calm fault = record { ticket = fault.ticket; rose = (let r = fault.rose in omega arith) }

@@ -1,6 +1,3 @@
-pub mod AreaLaws
-pub mod SlotLaws
-pub mod OpeningLaws
 pub mod ShowLaws
 pub mod LeavingLaws
 pub mod VersionLaws
@@ -9,6 +6,11 @@ pub mod KeepLaws
 pub mod StoryLaws
 pub mod NewImages
 pub mod CrashLaws
-pub mod CommandLaws
+pub mod WritingLaws
+pub mod LocalLaws
+pub mod ReopeningLaws
+pub mod StartLaws
 pub mod RunningLaws
 pub mod ServedLaws
+pub mod RunCauses
+pub mod CommandLaws

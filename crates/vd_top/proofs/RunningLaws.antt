@@ -1,6 +1,6 @@
 -- How `run` reads its trace, opens its image and prints its report.
-use Rattle.std.proofs.Common.{ℕ, ◌≡◌, ◌+◌, ◌≤◌, inl, inr, Bool, true, false, cond, List, [], ◌∷◌, ◌++◌, length, take, find, map, replicate, Option, None, Some, Result, Ok, Err, refl, ap, sym, ◌∙◌, subst, arith}
-use Rattle.std.specs.Prelude.{nat_lt, ◌==◌, ◌&&◌, if◌then◌else◌, slice_get}
+use Rattle.std.proofs.Common.{ℕ, zero, suc, ◌≡◌, ◌+◌, ◌≤◌, inl, inr, Bool, true, false, cond, List, [], ◌∷◌, length, take, find, map, replicate, Option, None, Some, Ok, Err, refl, ap, sym, ◌∙◌, subst, arith}
+use Rattle.std.specs.Prelude.{nat_lt, ◌==◌, ◌&&◌, slice_get}
 use Rattle.std.specs.List.{All, filter, fold}
 use Rattle.std.specs.Option.{option_map, option_or}
 use Rattle.std.proofs.lemmas.Bool.{ltb-false}
@@ -23,19 +23,22 @@ use Rattle.vd_trace.specs.declared.line.Work.TheVariants.{Read, Fill, Put, Flush
 use Rattle.vd_trace.specs.declared.error.TraceError.{TraceError}
 use Rattle.vd_trace.specs.declared.error.TraceError.TheVariants as trace_errors
 use Rattle.vd_trace.specs.Traces.{Asking, Showing, Script, script, asked_of, requests_of}
-use Rattle.vd_trace.specs.Scripts.{ReadsTrace, end_of, asks_past, shows_past, is_flush, unserved}
-use Rattle.vd_io.specs.Streams.{Rose, WritesPart, Writes}
-use Rattle.vd_report.specs.Replies.{IsPrinted, HasText, history_text, sum_text}
+use Rattle.vd_trace.specs.Scripts.{ReadsTrace, end_of, asks_past, shows_past}
+use Rattle.vd_report.specs.Replies.{IsPrinted, HasText}
 use Rattle.vd_serve.specs.Serving.{IsServable}
 use Rattle.vd_report.specs.declared.line.Line.{Line}
 use Rattle.vd_report.specs.declared.line.Line.TheVariants as lines
-use Rattle.vd_top.specs.declared.opening.OpenError.{OpenError}
-use Rattle.vd_top.specs.declared.opening.OpenError.TheVariants as errors
-use Rattle.vd_top.specs.Opening.{opened, ForStoreFault, UnlessFault}
-use Rattle.vd_top.specs.Showing.{open_line}
-use Rattle.vd_top.specs.Outcomes.{Reported}
-use Rattle.vd_top.specs.Ending.{are_ok, is_ok_reply, unwritten, Ends}
-use Rattle.vd_top.specs.Running.{trace_line, past as past_of, ReadsScript, IsReadLine, Source_failed, Read_without_memory, Is_bad, Is_too_much, Is_unserved, OpensFor, IsOpenLine, Open_failed, Is_refused, Is_past}
+use Rattle.vd_image.specs.Openings.{Opens}
+use Rattle.vd_replay.specs.Images.{image_of}
+use Rattle.vd_replay.specs.States.{Says as StateSays}
+use Rattle.vd_replay.specs.Finding.{ForStore}
+use Rattle.vd_replay.specs.Refusals.{Refused}
+use Rattle.vd_replay.specs.declared.state.State.{State}
+use Rattle.vd_replay.specs.declared.error.OpenError.{OpenError}
+use Rattle.vd_replay.specs.declared.error.OpenError.TheVariants as refusals
+use Rattle.vd_top.specs.Showing.{show_line}
+use Rattle.vd_top.specs.Ending.{are_ok, is_ok_reply}
+use Rattle.vd_top.specs.Running.{trace_line, past as past_of, ReadsScript, IsReadLine, Source_failed, Read_without_memory, Is_bad, Is_too_much, OpensFor, IsOpenLine, Opened_without_memory, Open_failed, Is_refused, Is_past}
 
 -- The trace.
 
@@ -49,40 +52,60 @@ pub unread : {told : Type 0} {bytes : List ℕ} {SourceFailed : Type 0} (e : Tra
     → IsReadLine told bytes SourceFailed line
 unread {told = told} {bytes = bytes} {SourceFailed = SourceFailed} e line is reads cause = subst (λ (l : Line). IsReadLine told bytes SourceFailed l) (sym is) (unread_by e reads cause)
 
-pub unserved_line : {told : Type 0} {bytes : List ℕ} {SourceFailed : Type 0} (trace : Script) (number : ℕ) → Some number ≡ unserved trace → (told → ReadsTrace 1 bytes (Ok trace)) → IsReadLine told bytes SourceFailed (lines.BadLine number)
-unserved_line trace number at reads = Is_unserved number (λ t. let r = reads t in (r.0, r.1, ap unserved (sym r.2) ∙ sym at))
-
-pub reads_script : {told : Type 0} {bytes : List ℕ} (trace : Script) → trace.guests ≡ 1 → None ≡ unserved trace → (told → ReadsTrace 1 bytes (Ok trace)) → ReadsScript told bytes trace
-reads_script trace one served reads = record { guests = one; served = sym served; read = reads }
+pub reads_script : {told : Type 0} {bytes : List ℕ} (trace : Script) → trace.guests ≡ 1 → (told → ReadsTrace 1 bytes (Ok trace)) → ReadsScript told bytes trace
+reads_script trace one reads = record { guests = one; read = reads }
 
 -- The image.
 
-not_opened_by : {told : Type 0} {held held' : List Sector} {StoreFailed : ℕ → Type 0} (trace : Script) (e : OpenError) → (told → held' ≡ held) → ForStoreFault (Err e) StoreFailed → (told → UnlessFault (Err e) (opened 2 held'))
-    → IsOpenLine trace told held StoreFailed (open_line e)
-not_opened_by trace (errors.Store ticket) same fault right = Open_failed ticket fault
-not_opened_by trace (errors.Header header_errors.NotImage) same fault right = Is_refused (errors.Header header_errors.NotImage) (inl refl) (λ t. sym (right t ∙ ap (opened 2) (same t)))
-not_opened_by trace (errors.Header (header_errors.Version version)) same fault right = Is_refused (errors.Header (header_errors.Version version)) (inl refl) (λ t. sym (right t ∙ ap (opened 2) (same t)))
-not_opened_by trace (errors.Header (header_errors.Field field)) same fault right = Is_refused (errors.Header (header_errors.Field field)) (inl refl) (λ t. sym (right t ∙ ap (opened 2) (same t)))
-not_opened_by trace (errors.TooSmall need have) same fault right = Is_refused (errors.TooSmall need have) (inl refl) (λ t. sym (right t ∙ ap (opened 2) (same t)))
-not_opened_by trace errors.OldVersion same fault right = Is_refused errors.OldVersion (inl refl) (λ t. sym (right t ∙ ap (opened 2) (same t)))
-not_opened_by trace errors.NotBuilt same fault right = Is_refused errors.NotBuilt (inr refl) (λ t. sym (right t ∙ ap (opened 2) (same t)))
+not_opened_by : {told : Type 0} {held held' : List Sector} {StoreFault : ℕ → Type 0} (trace : Script) (e : OpenError) → (told → held' ≡ held) → ForStore StoreFault e → (told → Refused 2 held' e) → IsOpenLine trace told held StoreFault (show_line e)
+not_opened_by trace (refusals.Store ticket) same fault right = Open_failed ticket fault
+not_opened_by trace refusals.NoMemory same fault right = Opened_without_memory
+not_opened_by trace (refusals.Header header_errors.NotImage) same fault right = Is_refused (refusals.Header header_errors.NotImage) (inl refl) (λ t. subst (λ (x : List Sector). Refused 2 x (refusals.Header header_errors.NotImage)) (same t) (right t))
+not_opened_by trace (refusals.Header (header_errors.Version version)) same fault right = Is_refused (refusals.Header (header_errors.Version version)) (inl refl) (λ t. subst (λ (x : List Sector). Refused 2 x (refusals.Header (header_errors.Version version))) (same t) (right t))
+not_opened_by trace (refusals.Header (header_errors.Field field)) same fault right = Is_refused (refusals.Header (header_errors.Field field)) (inl refl) (λ t. subst (λ (x : List Sector). Refused 2 x (refusals.Header (header_errors.Field field))) (same t) (right t))
+not_opened_by trace (refusals.TooSmall need have) same fault right = Is_refused (refusals.TooSmall need have) (inl refl) (λ t. subst (λ (x : List Sector). Refused 2 x (refusals.TooSmall need have)) (same t) (right t))
+not_opened_by trace refusals.OldVersion same fault right = Is_refused refusals.OldVersion (inl refl) (λ t. subst (λ (x : List Sector). Refused 2 x refusals.OldVersion) (same t) (right t))
+not_opened_by trace (refusals.BadEntry chunk value) same fault right = Is_refused (refusals.BadEntry chunk value) (inl refl) (λ t. subst (λ (x : List Sector). Refused 2 x (refusals.BadEntry chunk value)) (same t) (right t))
+not_opened_by trace (refusals.BadRecord slot) same fault right = Is_refused (refusals.BadRecord slot) (inl refl) (λ t. subst (λ (x : List Sector). Refused 2 x (refusals.BadRecord slot)) (same t) (right t))
+not_opened_by trace (refusals.DoubleChunk a b) same fault right = Is_refused (refusals.DoubleChunk a b) (inl refl) (λ t. subst (λ (x : List Sector). Refused 2 x (refusals.DoubleChunk a b)) (same t) (right t))
+not_opened_by trace (refusals.Changed field) same fault right = Is_refused (refusals.Changed field) (inl refl) (λ t. subst (λ (x : List Sector). Refused 2 x (refusals.Changed field)) (same t) (right t))
+not_opened_by trace refusals.NotBuilt same fault right = Is_refused refusals.NotBuilt (inr refl) (λ t. subst (λ (x : List Sector). Refused 2 x refusals.NotBuilt) (same t) (right t))
 
-pub not_opened_for : {told : Type 0} {held held' : List Sector} {StoreFailed : ℕ → Type 0} (trace : Script) (e : OpenError) (line : Line) → line ≡ open_line e → (told → held' ≡ held) → ForStoreFault (Err e) StoreFailed
-    → (told → UnlessFault (Err e) (opened 2 held')) → IsOpenLine trace told held StoreFailed line
-not_opened_for {told = told} {held = held} {StoreFailed = StoreFailed} trace e line is same fault right =
-    subst (λ (l : Line). IsOpenLine trace told held StoreFailed l) (sym is) (not_opened_by trace e same fault right)
+pub not_opened_for : {told : Type 0} {held held' : List Sector} {StoreFault : ℕ → Type 0} (trace : Script) (e : OpenError) (line : Line) → line ≡ show_line e → (told → held' ≡ held) → ForStore StoreFault e → (told → Refused 2 held' e)
+    → IsOpenLine trace told held StoreFault line
+not_opened_for {told = told} {held = held} {StoreFault = StoreFault} trace e line is same fault right =
+    subst (λ (l : Line). IsOpenLine trace told held StoreFault l) (sym is) (not_opened_by trace e same fault right)
 
-pub line_past : {told : Type 0} {held held' : List Sector} {StoreFailed : ℕ → Type 0} (trace : Script) (h : Header) (number : ℕ) → (told → held' ≡ held) → (told → Ok h ≡ opened 2 held') → Some number ≡ past_of h.size trace
-    → IsOpenLine trace told held StoreFailed (lines.LinePastTheDisk number)
-line_past trace h number same right at = Is_past h number (λ t. sym (right t ∙ ap (opened 2) (same t))) (sym at)
+-- a valid header is of version 2 where it is of no earlier one
+pub version_two : (h : Header) → IsValid h → 2 ≤ h.version → h.version ≡ 2
+version_two h valid least = elim valid.version [ inl one ↦ omega arith | inr two ↦ two ]
 
-pub opens_for : {told : Type 0} {held held' : List Sector} (trace : Script) (h : Header) → IsValid h → (told → held' ≡ held) → (told → Ok h ≡ opened 2 held') → None ≡ past_of h.size trace → OpensFor trace told held h
-opens_for trace h valid same right at = record { valid = valid; inside = sym at; right = λ t. sym (right t ∙ ap (opened 2) (same t)) }
+-- what a state says comes from an image that opens by its header
+opens_by : (held held' : List Sector) (s : State) → s.header.version ≡ 2 → held' ≡ held → StateSays held' s → Opens (length held) (image_of held) s.header
+opens_by held held' s two same says = subst (λ (x : List Sector). Opens (length x) (image_of x) s.header) same (says.current two).opens
 
-pub opens_told : {told told' : Type 0} {held : List Sector} {trace : Script} {h : Header} → (told' → told) → OpensFor trace told held h → OpensFor trace told' held h
-opens_told before opens = record { valid = opens.valid; inside = opens.inside; right = λ t. opens.right (before t) }
+pub line_past : {told : Type 0} {held held' : List Sector} {StoreFault : ℕ → Type 0} (trace : Script) (s : State) (number : ℕ) → IsValid s.header → 2 ≤ s.header.version → (told → held' ≡ held) → (told → StateSays held' s) → Some number ≡ past_of s.header.size trace
+    → IsOpenLine trace told held StoreFault (lines.LinePastTheDisk number)
+line_past {held = held} {held' = held'} trace s number valid least same says at = Is_past s.header number (λ t. opens_by held held' s (version_two s.header valid least) (same t) (says t)) (sym at)
 
--- All requests of a trace with no range past the disk, and with no line that flushes, are served.
+pub opens_for : {told : Type 0} {held held' : List Sector} (trace : Script) (s : State) → IsValid s.header → 2 ≤ s.header.version → (told → held' ≡ held) → (told → StateSays held' s) → None ≡ past_of s.header.size trace → OpensFor trace told held s.header
+opens_for {held = held} {held' = held'} trace s valid least same says at = record {
+  valid = valid;
+  version = version_two s.header valid least;
+  inside = sym at;
+  opens = λ t. opens_by held held' s (version_two s.header valid least) (same t) (says t);
+}
+
+-- it was told so before, when the same was held
+pub opens_told : {told told' : Type 0} {trace : Script} {held held' : List Sector} {h : Header} → (told' → told) → (told' → held' ≡ held) → OpensFor trace told held' h → OpensFor trace told' held h
+opens_told {held = held} {held' = held'} {h = h} before same opens = record {
+  valid = opens.valid;
+  version = opens.version;
+  inside = opens.inside;
+  opens = λ t. subst (λ (x : List Sector). Opens (length x) (image_of x) h) (same t) (opens.opens (before t));
+}
+
+-- All requests of a trace with no range past the disk are served, and its lines show sectors of the disk.
 
 none_first : {X : Type 0} (b : Bool) (x : X) (o : Option X) → cond b (Some x) o ≡ None → (b ≡ false) × (o ≡ None)
 none_first true x o e = absurd cc
@@ -99,29 +122,45 @@ none_mapped f (Some x) e = absurd cc
 abbrev filled : ℕ → Sector
 filled byte = record { bytes = replicate 512 byte }
 
-work_served : (size : ℕ) (work : Work) → nat_lt size (end_of work) ≡ false → is_flush work ≡ false → IsServable size (asked_of work)
-work_served size (Read first count) inside other = ltb-false size (first + count) inside
-work_served size (Fill first count byte) inside other =
+none_of_both : (o p : Option ℕ) → option_or o p ≡ None → p ≡ None
+none_of_both None p e = e
+none_of_both (Some x) p e = absurd cc
+
+work_served : (size : ℕ) (work : Work) → nat_lt size (end_of work) ≡ false → IsServable size (asked_of work)
+work_served size (Read first count) inside = ltb-false size (first + count) inside
+work_served size (Fill first count byte) inside =
     let within = ltb-false size (first + count) inside in let long = length-replicate count (filled byte) in omega arith
-work_served size (Put first sector) inside other = ltb-false size (first + 1) inside
-work_served size Flush inside other = absurd cc
+work_served size (Put first sector) inside = ltb-false size (first + 1) inside
+work_served size Flush inside = tt
 
 kept : (size : ℕ) (b : Bool) (a : Asking) (rest : List Asking) → IsServable size (asked_of a.work) → All (IsServable size) (map (λ x. asked_of x.work) rest) → All (IsServable size) (map (λ x. asked_of x.work) (cond b (a ∷ rest) rest))
 kept size true a rest here more = All-cons (IsServable size) (asked_of a.work) (map (λ x. asked_of x.work) rest) here more
 kept size false a rest here more = more
 
-asks_served : (size : ℕ) (asks : List Asking) → find (λ a. nat_lt size (end_of a.work)) asks ≡ None → find (λ a. is_flush a.work) asks ≡ None → All (IsServable size) (requests_of 1 asks)
-asks_served size [] inside other = All-nil (IsServable size)
-asks_served size (a ∷ asks) inside other =
+asks_served : (size : ℕ) (asks : List Asking) → find (λ a. nat_lt size (end_of a.work)) asks ≡ None → All (IsServable size) (requests_of 1 asks)
+asks_served size [] inside = All-nil (IsServable size)
+asks_served size (a ∷ asks) inside =
     let i = none_first (nat_lt size (end_of a.work)) a (find (λ x. nat_lt size (end_of x.work)) asks) inside in
-    let o = none_first (is_flush a.work) a (find (λ x. is_flush x.work) asks) other in
-    kept size (a.guest == 1) a (filter (λ x. x.guest == 1) asks) (work_served size a.work i.0 o.0) (asks_served size asks i.1 o.1)
+    kept size (a.guest == 1) a (filter (λ x. x.guest == 1) asks) (work_served size a.work i.0) (asks_served size asks i.1)
 
-pub script_served : (size size' : ℕ) (trace : Script) → past_of size trace ≡ None → unserved trace ≡ None → size' ≡ size → All (IsServable size') (script trace 1)
-script_served size size' trace inside other same =
+pub script_served : (size size' : ℕ) (trace : Script) → past_of size trace ≡ None → size' ≡ size → All (IsServable size') (script trace 1)
+script_served size size' trace inside same =
     let p = none_mapped (λ a. a.number) (find (λ a. nat_lt size (end_of a.work)) trace.asks) (none_of_or (asks_past size trace.asks) (shows_past size trace.shows) inside) in
-    let f = none_mapped (λ a. a.number) (find (λ a. is_flush a.work) trace.asks) (none_of_or (option_map (λ a. a.number) (find (λ a. is_flush a.work) trace.asks)) (option_map (λ s. s.number) (find (λ s. true) trace.shows)) other) in
-    subst (λ (n : ℕ). All (IsServable n) (script trace 1)) (sym same) (asks_served size trace.asks p f)
+    subst (λ (n : ℕ). All (IsServable n) (script trace 1)) (sym same) (asks_served size trace.asks p)
+
+shows_within : (size : ℕ) (shows : List Showing) → find (λ s. nat_lt size (s.first + s.count)) shows ≡ None → (i : ℕ) (line : Showing) → slice_get shows i ≡ Some line → line.first + line.count ≤ size
+shows_within size [] inside i line at = absurd cc
+shows_within size (s ∷ shows) inside zero line at =
+    let n = none_first (nat_lt size (s.first + s.count)) s (find (λ x. nat_lt size (x.first + x.count)) shows) inside in
+    let e : s ≡ line = cc in
+    subst (λ (x : Showing). x.first + x.count ≤ size) e (ltb-false size (s.first + s.count) n.0)
+shows_within size (s ∷ shows) inside (suc i) line at =
+    let n = none_first (nat_lt size (s.first + s.count)) s (find (λ x. nat_lt size (x.first + x.count)) shows) inside in
+    shows_within size shows n.1 i line at
+
+pub line_within : (size : ℕ) (trace : Script) → past_of size trace ≡ None → (i : ℕ) (line : Showing) → slice_get trace.shows i ≡ Some line → line.first + line.count ≤ size
+line_within size trace inside =
+    shows_within size trace.shows (none_mapped (λ s. s.number) (find (λ s. nat_lt size (s.first + s.count)) trace.shows) (none_of_both (asks_past size trace.asks) (shows_past size trace.shows) inside))
 
 -- Each reply of a regular history has a text.
 
@@ -158,7 +197,7 @@ each_text (e ∷ log) p all = let here = each_before IsAnswered log (p ▸ e) al
 pub regular_text : {size : ℕ} (log : List Entry) → IsRegular size log → All HasText log
 regular_text log regular = each_text log nothing regular.answered
 
--- The report.
+-- The statuses of the report.
 
 pub not_ok : (answer : Answer) → (answer ≡ answers.Ok → ⊥) → is_ok answer ≡ false
 not_ok answers.Ok other = absurd (other refl)
@@ -173,15 +212,3 @@ pub ok_more : (entries : List Entry) (at : ℕ) (e : Entry) → slice_get entrie
 ok_more entries at e there =
     let inside = slice_get_within entries at e there in
     list_all_more is_ok_reply entries at e inside ∙ ap (λ (x : Entry). are_ok (take at entries) && is_ok_reply x) (get_or_from_slice_get entries at e e there)
-
-cut_status : (b : Bool) → 6 ≡ unwritten (if b then 0 else 1)
-cut_status true = refl
-cut_status false = refl
-
-pub report_whole : {E : Type 0} (entries : List Entry) (b : Bool) (faults : ℕ) (written : List ℕ) {status faults' : ℕ} {tells : Type 0} {written' : List ℕ} → b ≡ are_ok entries → status ≡ (if b then 0 else 1)
-    → (tells → Writes {E = E} (history_text 1 entries ++ sum_text 1 entries) (Ok tt) written written') → Ends (Reported 1 entries) status faults faults' tells written written'
-report_whole entries b faults written ok is writes = inl (is ∙ ap (λ (x : Bool). if x then 0 else 1) ok, (λ t. let w = writes t in w.ok))
-
-pub report_cut : {E : Type 0} (entries : List Entry) (e : E) (faults : ℕ) (written : List ℕ) {faults' : ℕ} {tells : Type 0} {written' : List ℕ} → Rose faults faults' → (tells → Writes (history_text 1 entries ++ sum_text 1 entries) (Err e) written written')
-    → Ends (Reported 1 entries) 6 faults faults' tells written written'
-report_cut entries e faults written rose writes = inr (cut_status (are_ok entries), rose, (λ t. let w = writes t in w.err))

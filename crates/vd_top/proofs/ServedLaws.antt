@@ -1,127 +1,217 @@
 -- A trace that a core has served is a run.
-use Rattle.std.proofs.Common.{ℕ, ◌≡◌, ◌+◌, ◌*◌, ◌≤◌, List, [], length, replicate, Option, None, refl, ap, sym, ◌∙◌, subst, arith}
-use Rattle.std.specs.List.{All}
+use Rattle.std.proofs.Common.{ℕ, ◌≡◌, ◌*◌, ◌≤◌, List, ◌++◌, length, refl, ap, sym, ◌∙◌, subst, arith}
 use Rattle.std.proofs.Math.Nat.{div-add-mod}
-use Rattle.std.proofs.lemmas.List.{length-replicate}
+use Rattle.std.proofs.lemmas.Option.{slice_get_within}
 use Rattle.vd_law.specs.declared.entry.Sector.{Sector}
 use Rattle.vd_law.specs.declared.entry.Room.{Room}
-use Rattle.vd_law.specs.Entries.{Entry, call_of}
+use Rattle.vd_law.specs.declared.entry.CallId.{CallId}
+use Rattle.vd_law.specs.declared.entry.Answer.{Answer}
+use Rattle.vd_law.specs.Entries as law
+use Rattle.vd_law.specs.Entries.{Asked, Entry, call_of}
 use Rattle.vd_law.specs.Histories.{Numbered}
 use Rattle.vd_law.specs.Rules.{IsRegular, IsLegal}
+use Rattle.vd_device.specs.Disks.{Disk, IsHonest, IsRunning}
 use Rattle.vd_format.specs.declared.header.Header.{Header}
+use Rattle.vd_format.specs.declared.map.Entry.{Entry as MapEntry}
 use Rattle.vd_format.specs.Headers.{IsValid}
 use Rattle.vd_format.specs.Layouts.{blocks_of, chunks_of}
-use Rattle.vd_reading.specs.Quiet.{OnlyReadsBase}
-use Rattle.vd_reading.specs.Background.{background_run}
+use Rattle.vd_reading.specs.Quiet.{AddsNoWrite, OnlyReadsBase}
+use Rattle.vd_replay.specs.Images.{image_of}
+use Rattle.vd_replay.specs.States.{IsSized, IsEntryOf, Says as StateSays}
+use Rattle.vd_replay.specs.declared.state.State.{State}
+use Rattle.vd_replay.proofs.ListLaws.{get_left}
 use Rattle.vd_trace.specs.Traces.{Asking, Script, script}
 use Rattle.vd_trace.specs.Scripts.{need_of}
 use Rattle.vd_table.specs.Tables.{Given}
 use Rattle.vd_passes.specs.declared.shape.Shape.{Shape}
 use Rattle.vd_passes.specs.Causes.{Device, OfStore, OfBase, AreCaused}
-use Rattle.vd_passes.specs.Tracing.{AreTraced}
+use Rattle.vd_passes.specs.Tracing.{AreTraced, IsTicketOf, FailsBetween}
 use Rattle.vd_core.specs.View.{View}
-use Rattle.vd_core.specs.Kept.{start_of}
 use Rattle.vd_core.specs.Asking.{Suffices}
+use Rattle.vd_core.specs.Start.{Opening, opening_at, IsStart}
 use Rattle.vd_core.specs.Storing.{AreFullsCaused}
 use Rattle.vd_core.specs.Leaving.{LeavesStore, LeavesBase}
 use Rattle.vd_core.specs.Opening.{shape_of, IsOpened, AreReplied}
-use Rattle.vd_serve.specs.Serving.{IsUnused, IsServed, requests_in}
+use Rattle.vd_serve.specs.Serving.{IsResting, IsUnused, IsServed, Closes}
+use Rattle.vd_serve.specs.Driving.{IsSameDisk, with_flush}
+use Rattle.vd_report.specs.declared.line.Line.{Line}
 use Rattle.vd_top.specs.Leaving.{Leaves}
-use Rattle.vd_top.specs.Running.{IsRun}
+use Rattle.vd_top.specs.Running.{IsDisk, IsRun, closing_line}
+use Rattle.vd_top.proofs.StartLaws.{start_is, clean_later}
 
 -- a valid disk is whole blocks
 pub whole_disk : (h : Header) → IsValid h → h.block * blocks_of h ≡ h.size
 whole_disk h valid = let parts = div-add-mod h.size h.block in let rest = valid.whole_blocks in omega arith
 
-pub opened_unused : {S B : Type 0} {h : Header} {room : Room} {store : S} {base : B} {base_sectors events faults base_faults : ℕ} {core : View S B} → IsOpened h 2 room store base base_sectors events faults base_faults core
-    → IsUnused core.passes core.history.log.entries
+pub opened_unused : {S B : Type 0} {s : State} {room : Room} {store : S} {base : B} {base_sectors events faults base_faults : ℕ} {disk : Disk} {core : View S B} → IsOpened s 2 room store base base_sectors events faults base_faults disk core
+    → IsUnused core.passes core.flusher core.history.log.entries
 opened_unused opened = record {
-  two = opened.passes_are.many;
-  idle = λ i p there. let new = opened.passes_are.each i p there in new.phase;
+  resting = record {
+    two = opened.passes_are.many;
+    idle = λ i p there. let new = opened.passes_are.each i p there in new.phase;
+    free = opened.flusher_is;
+  };
   empty = ap (λ (n : Numbered). n.log.entries) opened.history_is;
 }
 
 -- the size of an opened disk
-pub opened_size : {S B : Type 0} {h : Header} {room : Room} {store : S} {base : B} {base_sectors events faults base_faults : ℕ} {core : View S B} → IsValid h → IsOpened h 2 room store base base_sectors events faults base_faults core
-    → core.shape.block * core.shape.blocks ≡ h.size
-opened_size {h = h} valid opened = ap (λ (s : Shape). s.block * s.blocks) opened.shape_is ∙ whole_disk h valid
+pub opened_size : {S B : Type 0} {s : State} {room : Room} {store : S} {base : B} {base_sectors events faults base_faults : ℕ} {disk : Disk} {core : View S B} → IsValid s.header → IsOpened s 2 room store base base_sectors events faults base_faults disk core
+    → core.shape.block * core.shape.blocks ≡ s.header.size
+opened_size {s = s} valid opened = ap (λ (x : Shape). x.block * x.blocks) opened.shape_is ∙ whole_disk s.header valid
 
 suffices_all : (need left : Room) → left ≡ need → Suffices need left
 suffices_all need left same = let e = ap (λ (r : Room). r.events) same in let s = ap (λ (r : Room). r.sectors) same in (omega arith, omega arith)
 
-pub opened_room : {S B : Type 0} {h : Header} {room : Room} {store : S} {base : B} {base_sectors events faults base_faults : ℕ} {core : View S B} (asks : List Asking) → room ≡ need_of h.block asks
-    → IsOpened h 2 room store base base_sectors events faults base_faults core → Suffices (need_of core.shape.block asks) core.spare
+pub opened_room : {S B : Type 0} {s : State} {room : Room} {store : S} {base : B} {base_sectors events faults base_faults : ℕ} {disk : Disk} {core : View S B} (asks : List Asking) → room ≡ with_flush (need_of s.header.block asks)
+    → IsOpened s 2 room store base base_sectors events faults base_faults disk core → Suffices (with_flush (need_of core.shape.block asks)) core.spare
 opened_room {core = core} asks needed opened =
-    suffices_all (need_of core.shape.block asks) core.spare (opened.spare_is ∙ needed ∙ ap (λ (n : ℕ). need_of n asks) (sym (ap (λ (s : Shape). s.block) opened.shape_is)))
+    suffices_all (with_flush (need_of core.shape.block asks)) core.spare (opened.spare_is ∙ needed ∙ ap (λ (n : ℕ). with_flush (need_of n asks)) (sym (ap (λ (x : Shape). x.block) opened.shape_is)))
 
--- What a core leaves that has served the trace.
-pub record Finishes (told base_told : Type 0) (log : List Entry) (shape : Shape) (table : Given) (start : List Sector) (faults faults' base_faults base_faults' : ℕ) (history : Numbered) : Type 0 where
-  pub regular : IsRegular (shape.block * shape.blocks) history.log.entries
-  pub legal : told → base_told → IsLegal start history.log.entries
+pub same_twice : {S B : Type 0} {a b c : View S B} → IsSameDisk a b → IsSameDisk b c → IsSameDisk a c
+same_twice x y = record {
+  shape = y.shape ∙ x.shape;
+  chunks = y.chunks ∙ x.chunks;
+  storage = y.storage ∙ x.storage;
+  store_faults = y.store_faults ∙ x.store_faults;
+  base_faults = y.base_faults ∙ x.base_faults;
+  opened = y.opened ∙ x.opened;
+  header = y.header ∙ x.header;
+  entries = y.entries ∙ x.entries;
+}
+
+-- What a core leaves that has served the trace and is closed.
+pub record Finishes {S B : Type 0} (told base_told : Type 0) (log : List Entry) (core : View S B) (content : List Sector) (faults base_faults : ℕ) (history : Numbered) : Type 0 where
+  pub history_is : history ≡ core.history
+  pub regular : IsRegular (core.shape.block * core.shape.blocks) history.log.entries
+  pub legal : told → base_told → (start : List Sector) → IsStart core.opening content core.header start → IsLegal start history.log.entries
   pub replied : AreReplied history.log.entries
-  pub store_faults : AreCaused OfStore history.log.entries faults faults'
-  pub base_faults_are : AreCaused OfBase history.log.entries base_faults base_faults'
+  pub store_caused : AreCaused OfStore history.log.entries core.store_faults faults
+  pub base_caused : AreCaused OfBase history.log.entries core.base_faults base_faults
   pub traced : told → AreTraced log history.log.entries history.numbers
-  pub full : AreFullsCaused shape (length table.chunks) table.storage history.log.entries
+  pub full : AreFullsCaused core.shape core.entries (length core.table.chunks) core.table.storage history.log.entries
 
-fulls_same : (shape shape' : Shape) (chunks chunks' storage storage' : ℕ) (entries : List Entry) → shape' ≡ shape → chunks' ≡ chunks → storage' ≡ storage → AreFullsCaused shape' chunks' storage' entries → AreFullsCaused shape chunks storage entries
-fulls_same shape shape' chunks chunks' storage storage' entries s c t full =
-    subst (λ (n : ℕ). AreFullsCaused shape chunks n entries) t (subst (λ (n : ℕ). AreFullsCaused shape n storage' entries) c (subst (λ (x : Shape). AreFullsCaused x chunks' storage' entries) s full))
+fulls_same : (shape shape' : Shape) (had had' : List MapEntry) (chunks chunks' storage storage' : ℕ) (entries : List Entry) → shape' ≡ shape → had' ≡ had → chunks' ≡ chunks → storage' ≡ storage → AreFullsCaused shape' had' chunks' storage' entries → AreFullsCaused shape had chunks storage entries
+fulls_same shape shape' had had' chunks chunks' storage storage' entries s m c t full =
+    subst (λ (n : ℕ). AreFullsCaused shape had chunks n entries) t (subst (λ (n : ℕ). AreFullsCaused shape had n storage' entries) c
+    (subst (λ (x : List MapEntry). AreFullsCaused shape x chunks' storage' entries) m (subst (λ (x : Shape). AreFullsCaused x had' chunks' storage' entries) s full)))
 
-pub served_run : {S B : Type 0} {told base_told : Type 0} {log : List Entry} {h : Header} {room : Room} {store : S} {base : B} {base_sectors events faults faults' base_faults base_faults' : ℕ} (core core' : View S B) (content : List Sector) (trace : Script) (history : Numbered)
-    → IsValid h → IsOpened h 2 room store base base_sectors events faults base_faults core → core.start ≡ start_of core.shape content → IsServed (script trace 1) core'.passes core'.history.log.entries
-    → core'.shape ≡ core.shape → length core'.table.chunks ≡ length core.table.chunks → core'.table.storage ≡ core.table.storage → core'.store_faults ≡ core.store_faults → core'.base_faults ≡ core.base_faults → (base_told → core'.start ≡ core.start)
-    → history ≡ core'.history → Finishes told base_told log core'.shape core'.table core'.start core'.store_faults faults' core'.base_faults base_faults' history
-    → IsRun trace h base_sectors told base_told log content faults faults' base_faults base_faults' history
-served_run {told = told} {base_told = base_told} {h = h} {base_sectors = base_sectors} {faults' = faults'} {base_faults' = base_faults'} core core' content trace history valid opened started served shape chunks storage store_same base_same start is ends =
-    let entries = ap (λ (n : Numbered). n.log.entries) is in
-    let shaped : core'.shape ≡ shape_of h base_sectors = shape ∙ opened.shape_is in
-    let size = whole_disk h valid in
-    let many : length core'.table.chunks ≡ chunks_of h = chunks ∙ ap (λ (t : Given). length t.chunks) opened.table_is ∙ length-replicate (chunks_of h) None in
-    record {
-      asked = ap (λ (es : List Entry). requests_in es 1) entries ∙ served.asked;
-      alone = subst (λ (es : List Entry). All (λ e. (call_of e).pass ≡ 1) es) (sym entries) served.alone;
-      replied = ends.replied;
-      regular = subst (λ (n : ℕ). IsRegular n history.log.entries) (ap (λ (s : Shape). s.block * s.blocks) shaped ∙ size) ends.regular;
-      legal = λ t b. subst (λ (d : List Sector). IsLegal d history.log.entries) (start b ∙ started ∙ ap (λ (s : Shape). start_of s content) opened.shape_is ∙ ap (λ (n : ℕ). background_run content h.tracked 0 n) size) (ends.legal t b);
-      store_caused = subst (λ (n : ℕ). AreCaused OfStore history.log.entries n faults') (store_same ∙ opened.store_faults_are) ends.store_faults;
-      base_caused = subst (λ (n : ℕ). AreCaused OfBase history.log.entries n base_faults') (base_same ∙ opened.base_faults_are) ends.base_faults_are;
-      traced = ends.traced;
-      full = fulls_same (shape_of h base_sectors) core'.shape (chunks_of h) (length core'.table.chunks) h.storage core'.table.storage history.log.entries shaped many (storage ∙ ap (λ (t : Given). t.storage) opened.table_is) ends.full;
-    }
+start_moved : (o o' : Opening) (base base' : List Sector) (h h' : Header) (start : List Sector) → o' ≡ o → base' ≡ base → h' ≡ h → IsStart o base h start → IsStart o' base' h' start
+start_moved o o' base base' h h' start same also header is =
+    subst (λ (x : Header). IsStart o' base' x start) (sym header) (subst (λ (x : List Sector). IsStart o' x h start) (sym also) (subst (λ (x : Opening). IsStart x base h start) (sym same) is))
+
+-- the core as it was opened, after it has served the trace, and after its closing
+pub served_run : {S B : Type 0} {told base_told : Type 0} {disk : Disk} {log : List Entry} {s : State} {room : Room} {store : S} {base : B} {base_sectors events faults faults' base_faults base_faults' : ℕ} (core core' core'' : View S B) (content content' : List Sector) (trace : Script)
+    (answer : Answer) (history : Numbered) → IsSized s → s.header.version ≡ 2 → (told → StateSays disk.held s) → (told → IsRunning events disk) → (told → IsHonest disk) → IsOpened s 2 room store base base_sectors events faults base_faults disk core
+    → IsServed (script trace 1) core'.passes core'.history.log.entries → IsSameDisk core core' → Closes answer core'.history.log.entries core''.history.log.entries → IsSameDisk core' core'' → (told → core''.opening ≡ core.opening) → (base_told → content' ≡ content)
+    → Finishes told base_told log core'' content' faults' base_faults' history → IsRun trace s.header base_sectors told base_told disk log content faults faults' base_faults base_faults' history (closing_line answer)
+served_run {told = told} {disk = disk} {s = s} {base_sectors = base_sectors} {events = events} {faults' = faults'} {base_faults' = base_faults'} core core' core'' content content' trace answer history sized two says runs honest opened served first closed second opening same_content ends = record {
+  served = core'.history.log.entries;
+  asked = served.asked;
+  alone = served.alone;
+  answer = answer;
+  closed = subst (λ (n : Numbered). Closes answer core'.history.log.entries n.log.entries) (sym ends.history_is) closed;
+  closing_is = refl;
+  replied = ends.replied;
+  regular = subst (λ (n : ℕ). IsRegular n history.log.entries) (ap (λ (x : Shape). x.block * x.blocks) shaped ∙ whole_disk s.header sized.valid) ends.regular;
+  legal = λ t b clean start is. ends.legal t b start (
+      start_moved (opening_at events disk) core''.opening content content' s.header core''.header start (opening t ∙ opened.opening_is) (same_content b) (disk_same.header ∙ opened.header_is)
+      (start_is disk events s.header s content start (runs t) (honest t) clean ((says t).current two) is)
+      );
+  store_caused = subst (λ (n : ℕ). AreCaused OfStore history.log.entries n faults') (disk_same.store_faults ∙ opened.store_faults_are) ends.store_caused;
+  base_caused = subst (λ (n : ℕ). AreCaused OfBase history.log.entries n base_faults') (disk_same.base_faults ∙ opened.base_faults_are) ends.base_caused;
+  traced = ends.traced;
+  had = s.map;
+  had_is = λ t chunk within. (let state = (says t).current two in state.entries chunk within);
+  full = fulls_same (shape_of s.header base_sectors) core''.shape s.map core''.entries (chunks_of s.header) (length core''.table.chunks) s.header.storage core''.table.storage history.log.entries shaped (disk_same.entries ∙ opened.entries_are)
+      (disk_same.chunks ∙ ap (λ (t : Given). length t.chunks) opened.table_is ∙ sized.table) (disk_same.storage ∙ ap (λ (t : Given). t.storage) opened.table_is ∙ sized.storage) ends.full;
+}
+  where
+    disk_same : IsSameDisk core core''
+    disk_same = same_twice first second
+
+    shaped : core''.shape ≡ shape_of s.header base_sectors
+    shaped = disk_same.shape ∙ opened.shape_is
 
 -- What it leaves of the devices.
 
-pub served_leaves : {idle : Type 0} {sectors sectors' depth depth' events events' faults faults' late late' : ℕ} {tells tells' records records' : Type 0} → idle
-    → LeavesStore sectors sectors' depth depth' events events' faults faults' late late' tells tells' records records' → Leaves idle sectors sectors' depth depth' faults faults' tells tells' records records'
-served_leaves idle left = record {
+pub served_leaves : {idle : Type 0} {sectors sectors' sectors'' depth depth' depth'' events events' events'' faults faults' faults'' late late' late'' : ℕ} {tells tells' tells'' records records' records'' : Type 0} → idle
+    → LeavesStore sectors sectors' depth depth' events events' faults faults' late late' tells tells' records records' → LeavesStore sectors' sectors'' depth' depth'' events' events'' faults' faults'' late' late'' tells' tells'' records' records''
+    → Leaves idle sectors sectors'' depth depth'' faults faults'' tells tells'' records records''
+served_leaves idle x y = record {
   idle = idle;
-  sectors_same = left.sectors_same;
-  depth_same = left.depth_same;
-  calm = left.faults_rise;
-  told_before = left.told_before;
-  recorded_before = left.recorded_before;
+  sectors_same = y.sectors_same ∙ x.sectors_same;
+  depth_same = y.depth_same ∙ x.depth_same;
+  calm = (let p = x.faults_rise in let q = y.faults_rise in omega arith);
+  told_before = λ t. x.told_before (y.told_before t);
+  recorded_before = λ r. x.recorded_before (y.recorded_before r);
 }
 
-pub served_base : {idle : Type 0} {sectors sectors' depth depth' faults faults' late late' : ℕ} {tells tells' : Type 0} {content content' : List Sector} → idle
-    → LeavesBase sectors sectors' depth depth' faults faults' late late' tells tells' content content' → OnlyReadsBase idle sectors sectors' faults faults' tells tells' content content'
-served_base idle left = record { idle = idle; sectors_same = left.sectors_same; calm = left.faults_rise; told_before = left.told_before; content_same = left.content_same }
+pub served_base : {idle : Type 0} {sectors sectors' sectors'' depth depth' depth'' faults faults' faults'' late late' late'' : ℕ} {tells tells' tells'' : Type 0} {content content' content'' : List Sector} → idle
+    → LeavesBase sectors sectors' depth depth' faults faults' late late' tells tells' content content' → LeavesBase sectors' sectors'' depth' depth'' faults' faults'' late' late'' tells' tells'' content' content''
+    → OnlyReadsBase idle sectors sectors'' faults faults'' tells tells'' content content''
+served_base idle x y = record {
+  idle = idle;
+  sectors_same = y.sectors_same ∙ x.sectors_same;
+  calm = (let p = x.faults_rise in let q = y.faults_rise in omega arith);
+  told_before = λ t. x.told_before (y.told_before t);
+  content_same = λ t. y.content_same t ∙ x.content_same (y.told_before t);
+}
 
--- The store is counted from when it was handed in.
+-- The store is counted from when it was handed in, and its log goes on behind the closing.
 
-caused_earlier : {device : Device} {history : List Entry} {first faults faults' : ℕ} → first ≤ faults → AreCaused device history faults faults' → AreCaused device history first faults'
-caused_earlier calm caused = record { once = caused.once; counted = (let c = caused.counted in omega arith) }
+caused_wider : {device : Device} {history : List Entry} {first faults faults' last : ℕ} → first ≤ faults → faults' ≤ last → AreCaused device history faults faults' → AreCaused device history first last
+caused_wider calm later caused = record { once = caused.once; counted = (let c = caused.counted in omega arith) }
 
-pub run_earlier : {trace : Script} {h : Header} {base_sectors first faults faults' base_faults base_faults' : ℕ} {told base_told : Type 0} {log : List Entry} {base : List Sector} {history : Numbered} → first ≤ faults
-    → IsRun trace h base_sectors told base_told log base faults faults' base_faults base_faults' history → IsRun trace h base_sectors told base_told log base first faults' base_faults base_faults' history
-run_earlier calm run = record {
+fails_later : {log : List Entry} {ticket from to : ℕ} (more : List Entry) → FailsBetween log ticket from to → FailsBetween (log ++ more) ticket from to
+fails_later {log = log} more fails = record {
+  at = fails.at;
+  entry = fails.entry;
+  there = get_left log more fails.at (slice_get_within log fails.at fails.entry fails.there) ∙ fails.there;
+  fails = fails.fails;
+  after = fails.after;
+  before = fails.before;
+}
+
+ticket_later : (request : Asked) (log more history : List Entry) (numbers : List ℕ) (id : CallId) (ticket to : ℕ) → IsTicketOf request log history numbers id ticket to → IsTicketOf request (log ++ more) history numbers id ticket to
+ticket_later (law.Read first count) log more history numbers id ticket to (at, begins, many, there) = (at, begins, many, get_left log more at (slice_get_within log at _ there) ∙ there)
+ticket_later (law.Write first content) log more history numbers id ticket to (at, number, last, numbered, (begins, written, there)) = (at, number, last, numbered, (begins, written, get_left log more number (slice_get_within log number _ there) ∙ there))
+ticket_later law.Flush log more history numbers id ticket to is = tt
+
+traced_later : {log history : List Entry} {numbers : List ℕ} (more : List Entry) → AreTraced log history numbers → AreTraced (log ++ more) history numbers
+traced_later {log = log} {history = history} {numbers = numbers} more traced to id ticket done now there numbered =
+    let one = traced to id ticket done now there numbered in
+    record {
+      at = one.at;
+      request = one.request;
+      asked = one.asked;
+      number = one.number;
+      numbered = one.numbered;
+      failed = fails_later more one.failed;
+      ticket_is = ticket_later one.request log more history numbers id ticket to one.ticket_is;
+    }
+
+traced_on : {history : List Entry} {numbers : List ℕ} (old new : Disk) → AddsNoWrite old new → AreTraced old.log history numbers → AreTraced new.log history numbers
+traced_on {history = history} {numbers = numbers} old new adds traced = subst (λ (l : List Entry). AreTraced l history numbers) (sym adds.log) (traced_later adds.more traced)
+
+-- a run from when the store was handed in until it is handed out, which before and behind the serving is only read
+pub run_wider : {trace : Script} {h : Header} {base_sectors f0 f1 f2 f3 base_faults base_faults' base_faults'' : ℕ} {t1 t2 t3 base_told base_told' : Type 0} {d0 d1 d2 d3 : Disk} {base : List Sector} {history : Numbered} {closing : Line} → f0 ≤ f1 → f2 ≤ f3 → base_faults' ≤ base_faults'' → (t3 → t2) → (t2 → t1) → (base_told' → base_told)
+    → (t1 → AddsNoWrite d0 d1) → (t1 → d1.held ≡ d0.held) → (t3 → AddsNoWrite d2 d3) → IsRun trace h base_sectors t2 base_told d1 d2.log base f1 f2 base_faults base_faults' history closing
+    → IsRun trace h base_sectors t3 base_told' d0 d3.log base f0 f3 base_faults base_faults'' history closing
+run_wider {h = h} {d0 = d0} {d1 = d1} {d2 = d2} {d3 = d3} {base = base} before behind base_behind told earlier base_earlier reads same reads_on run = record {
+  served = run.served;
   asked = run.asked;
   alone = run.alone;
+  answer = run.answer;
+  closed = run.closed;
+  closing_is = run.closing_is;
   replied = run.replied;
   regular = run.regular;
-  legal = run.legal;
-  store_caused = caused_earlier calm run.store_caused;
-  base_caused = run.base_caused;
-  traced = run.traced;
+  legal = λ t b clean start is. (let at = earlier (told t) in
+      run.legal (told t) (base_earlier b) (clean_later d0 d1 (reads at) clean) start (subst (λ (x : List Sector). IsDisk h x base start) (sym (same at)) is));
+  store_caused = caused_wider before behind run.store_caused;
+  base_caused = caused_wider (omega arith) base_behind run.base_caused;
+  traced = λ t. traced_on d2 d3 (reads_on t) (run.traced (told t));
+  had = run.had;
+  had_is = λ t chunk within. (let at = earlier (told t) in subst (λ (x : List Sector). IsEntryOf h (image_of x) run.had chunk) (same at) (run.had_is (told t) chunk within));
   full = run.full;
 }

@@ -50,7 +50,7 @@ past_it {first = first} {count = count} s sized same says past =
     Past_the_disk (λ t. record { header = s.header; opens = subst (λ (x : List Sector). OpensAs x s.header) (same t) (opens_as _ s sized (says t)); past = ltb-true s.header.size (first + count) past })
 
 -- the disk that is read by a state is the image's
-disk_shown : (held base : List Sector) (s : State) (first : ℕ) (sectors : List Sector) → IsDisk held base s first sectors → ShowsDisk held base s.header first sectors
+pub disk_shown : (held base : List Sector) (s : State) (first : ℕ) (sectors : List Sector) → IsDisk held base s first sectors → ShowsDisk held base s.header first sectors
 disk_shown held base s first sectors disk = record { current = disk.current; old = disk.old }
 
 in_disk : (held mid after base base' : List Sector) (s : State) (first count : ℕ) (sectors : List Sector) → mid ≡ held → after ≡ mid → base' ≡ base → IsSized s → StateSays mid s → (StateSays after s → IsDisk after base' s first sectors) → first + count ≤ s.header.size

@@ -1,10 +1,9 @@
-pub mod Fresh
-pub mod Looking
-pub mod Opening
 pub mod Statuses
 pub mod Outcomes
 pub mod Showing
 pub mod Making
+pub mod Writing
+pub mod Reopening
 pub mod Running
 pub mod Commands
 pub mod Tasks

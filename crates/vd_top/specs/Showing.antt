@@ -17,12 +17,12 @@ use Rattle.vd_replay.specs.Fresh.{is_fresh}
 use Rattle.vd_replay.specs.Refusals.{Refused}
 use Rattle.vd_replay.specs.declared.error.OpenError as refusal
 use Rattle.vd_replay.specs.declared.error.OpenError.TheVariants as refusals
+use Rattle.vd_replay.specs.declared.disk.DiskFault.{DiskFault}
+use Rattle.vd_replay.specs.declared.disk.DiskFault.TheVariants as faults
 use Rattle.vd_command.specs.declared.command.Command.TheVariants.{Show}
 use Rattle.vd_command.specs.Words.{Spells}
 use Rattle.vd_report.specs.declared.line.Line.{Line}
 use Rattle.vd_report.specs.declared.line.Line.TheVariants as lines
-use Rattle.vd_top.specs.declared.opening.OpenError as error
-use Rattle.vd_top.specs.declared.opening.OpenError.TheVariants as errors
 use Rattle.vd_top.specs.Statuses.{status_of_line}
 use Rattle.vd_top.specs.Outcomes.{Outcome, Says, Shown}
 
@@ -30,14 +30,6 @@ abbrev pub header_line : HeaderError → Line
 header_line header_errors.NotImage = lines.NotImage
 header_line (header_errors.Version version) = lines.Version version
 header_line (header_errors.Field field) = lines.BadField field
-
--- the line that names why a fresh image was not opened
-abbrev pub open_line : error.OpenError → Line
-open_line (errors.Store ticket) = lines.StoreFault ticket
-open_line (errors.Header e) = header_line e
-open_line (errors.TooSmall need have) = lines.TooSmall need have
-open_line errors.OldVersion = lines.OldVersion
-open_line errors.NotBuilt = lines.NotBuilt
 
 -- the line that names why an image was not opened
 abbrev pub show_line : refusal.OpenError → Line
@@ -81,6 +73,11 @@ pub record IsInDisk (held base : List Sector) (first count : ℕ) (sectors : Lis
   pub opens : OpensAs held header
   pub within : first + count ≤ header.size
   pub disk : ShowsDisk held base header first sectors
+
+-- the line that names the device that failed to give sectors
+abbrev pub fault_line : DiskFault → Line
+fault_line (faults.Store ticket) = lines.StoreFault ticket
+fault_line (faults.Base ticket) = lines.BaseFault ticket
 
 -- the image itself is what is refused
 abbrev pub IsJudged : refusal.OpenError → Type 0

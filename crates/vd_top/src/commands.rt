@@ -137,13 +137,15 @@ fn obey<S: Store, B: Base, O: Sink>(
 /// So far these are `show`, `make` and `run` of one guest without copies and workers, which reads its trace from `trace`; all
 /// other words are answered `bad words`. It always returns.
 ///
-/// Statuses: 0 the sectors were printed, the image was made, or each reply of the run is Ok; 1 a reply of the run isn't; 2 the
-/// words are outside the grammar; 3 the image is refused by its bytes or its size; 4 a line of the trace is refused, or a range
-/// lies past the disk; 5 a device failed; 6 the source failed, or the sink where the status would be 0 or 1; 7 there was no
-/// memory; 8 the image holds what this stage of the program does not read: for a run, and for `show` of version 1, more than it
-/// was made with. Of `show` the first of 2, 7, 5 or 3 or 8, 4, 5 that holds is answered, and 7 may come once the header is
-/// read; of `make` the first of 2, 3, 7, 5; of `run` the first of 2, 6 or 4 of the trace, 7, 5 or 3 or 8, 4 of a range, 7, 6, 1.
-/// docs/FORMAT.md has the texts.
+/// Statuses: 0 the sectors were printed, the image was made, or each reply of the run is Ok; 1 a reply of the run isn't, the
+/// closing flush's among them; 2 the words are outside the grammar; 3 the image is refused by its bytes or its size, as it is
+/// opened or as a run opens it again; 4 a line of the trace is refused, or a range lies past the disk; 5 a device failed, of a
+/// run in the opening, the closing, the reopening or at a line that shows sectors; 6 the source failed, or the sink where the
+/// status would be 0 or 1; 7 there was no memory; 8 `show` of an image of version 1 that holds more than it was made with. Of
+/// `show` the first of 2, 7, 5 or 3 or 8, 4, 5 that holds is answered, and 7 may come once the header is read; of `make` the
+/// first of 2, 3, 7, 5; of `run` the first of 2, 6 or 4 of the trace, 7, 5 or 3 of the opening, 4 of a range, 7, 5, 3 of the
+/// reopening, 6, 1. A run's first request comes behind all of these that stand before the second 5; nothing takes memory
+/// after it. docs/FORMAT.md has the texts.
 pub fn still<S: Store, B: Base, I: Source, O: Sink>(
     alloc: Global,
     words: &[String],
@@ -161,10 +163,11 @@ pub fn still<S: Store, B: Base, I: Source, O: Sink>(
         (λ ticket. IsFault ticket (S.last result.store) (S.faults store) (S.faults result.store)) (λ ticket. IsFault ticket (B.last result.base) (B.faults base) (B.faults result.base)) outcome
         × Ends outcome result.status (O.faults out.old) (O.faults out.new) (O.tells out.new) (O.written out.old) (O.written out.new) }
 
-    // What a run was answered: why no guest was served, or the report of a legal history, which is handed out.
+    // What a run was answered: why no guest was served; or the report of a legal history, which is handed out, and of the
+    // image that it has left.
     ensures ran { AsksRun (map string_bytes words.now) → (outcome : Outcome)
-        × RunEnds (I.tells trace.new) (I.rest trace.old) (Rose (I.faults trace.old) (I.faults trace.new)) (S.tells result.store) (B.tells result.base) (S.disk store).held (B.content base) (B.sectors base)
-        (λ ticket. IsFault ticket (S.last result.store) (S.faults store) (S.faults result.store)) (S.disk result.store).log (S.faults store) (S.faults result.store) (B.faults base) (B.faults result.base) result.history outcome
+        × RunEnds (I.tells trace.new) (I.rest trace.old) (Rose (I.faults trace.old) (I.faults trace.new)) (S.tells result.store) (B.tells result.base) (S.disk store) (S.disk result.store) (B.content base) (B.sectors base)
+        (λ ticket. IsFault ticket (S.last result.store) (S.faults store) (S.faults result.store)) (S.faults store) (S.faults result.store) (B.faults base) (B.faults result.base) result.history outcome
         × Ends outcome result.status (O.faults out.old) (O.faults out.new) (O.tells out.new) (O.written out.old) (O.written out.new) }
 
     // The causes of statuses.

@@ -12,9 +12,9 @@ ghost use Rattle.vd_top.specs.Putting.{AreAll, Story, IsWritten};
 ghost use Rattle.vd_top.specs.Images.{MakesSafely, HasNewImage};
 ghost use Rattle.vd_top.specs.Making.{MakingEnds, IsWhole};
 
-use crate::area::MOST;
 use crate::filling::fill;
 use crate::printing::say;
+use crate::room::MOST;
 use std::alloc::Global;
 use vd_device::Store;
 use vd_header::{Header, layout_of, write_header};

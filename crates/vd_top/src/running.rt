@@ -1,38 +1,37 @@
 //! The command `run`: one guest's requests, and the report of their history.
 
-ghost use Rattle.std.specs.Prelude.{◌≡◌, ℕ, ◌≤◌, ◌++◌, [], None, length, IfOk, IfErr, OnErr};
-ghost use Rattle.std.specs.List.{All};
-ghost use Rattle.vd_law.specs.Entries.{entry_of};
-ghost use Rattle.vd_report.specs.Replies.{HasText, history_text, sum_text};
+ghost use Rattle.std.specs.Prelude.{◌≡◌, ℕ, ◌≤◌, ◌<◌, [], None, Some, length, IfOk, IfErr};
+ghost use Rattle.vd_device.specs.Disks.{IsHonest, IsRunning};
 ghost use Rattle.vd_format.specs.Headers.{IsValid};
 ghost use Rattle.vd_format.specs.Layouts.{need_of};
 ghost use Rattle.vd_reading.specs.Quiet.{OnlyReads, OnlyReadsBase, IsFault};
-ghost use Rattle.vd_io.specs.Streams.{Rose, Writes};
-ghost use Rattle.vd_top.specs.Outcomes.{Outcome, Reported};
-ghost use Rattle.vd_top.specs.Ending.{Ends, is_ok_reply, are_ok};
+ghost use Rattle.vd_replay.specs.States.{IsSized, IsWhole, Says};
+ghost use Rattle.vd_trace.specs.Scripts.{need_of as trace_need};
+ghost use Rattle.vd_serve.specs.Driving.{with_flush};
+ghost use Rattle.vd_io.specs.Streams.{Rose};
+ghost use Rattle.vd_top.specs.Outcomes.{Outcome, Reopened, Reported};
+ghost use Rattle.vd_top.specs.Reopening.{Reopens};
+ghost use Rattle.vd_report.specs.Replies.{HasText};
+ghost use Rattle.std.specs.List.{All};
+ghost use Rattle.vd_top.specs.Ending.{Ends};
 ghost use Rattle.vd_top.specs.Leaving.{Leaves};
-ghost use Rattle.vd_trace.specs.Scripts.{unserved};
-ghost use Rattle.vd_top.specs.Running.{trace_line, past, ReadsScript, IsReadLine, OpensFor, IsOpenLine, IsRun, RunEnds};
+ghost use Rattle.vd_top.specs.Running.{trace_line, closing_line, past, ReadsScript, IsReadLine, OpensFor, IsOpenLine, IsRun, RunEnds};
 
-use crate::area::MOST;
 use crate::ending::End;
-use crate::opening::open_fresh;
 use crate::printing::say;
-use crate::showing::line_of;
+use crate::reporting::report;
+use crate::room::MOST;
+use crate::showing::show_line;
 use std::alloc::Global;
 use vd_core::{Closed, Core, Unopened};
 use vd_device::{Base, Patient, Store};
-use vd_header::Header;
-use vd_io::Failed;
 use vd_io::sink::Sink;
 use vd_io::source::Source;
-use vd_law::entry::{Answer, Event, Sector};
+use vd_law::entry::{Answer, Room, Sector};
 use vd_law::history::History;
-use vd_law::log::Log;
+use vd_replay::{State, recover};
 use vd_report::line::Line;
-use vd_report::replies::put_history;
-use vd_report::sum::put_sum;
-use vd_serve::serve;
+use vd_serve::{close, serve};
 use vd_trace::error::TraceError;
 use vd_trace::trace::Trace;
 
@@ -47,121 +46,112 @@ fn line_of_trace(error: TraceError) -> Line
     }
 }
 
-/// The trace of one guest that reads and writes. The error is the line that says why not, of status 4, 6 or 7. Lines that flush or
-/// show sectors are not served yet, and so are bad.
+/// The trace of one guest. The error is the line that says why there is none, of status 4, 6 or 7.
 fn read_trace<I: Source>(alloc: Global, source: &mut I) -> Result<Trace, Line>
     ensures read { IfOk result (ReadsScript (I.tells source.new) (I.rest source.old)) }
     ensures refused { IfErr result (IsReadLine (I.tells source.new) (I.rest source.old) (Rose (I.faults source.old) (I.faults source.new))) }
     ensures told_before { I.tells source.new → I.tells source.old }
     ensures calm { I.faults source.old ≤ I.faults source.new }
 {
-    let trace = match Trace::read(alloc, 1, source) {
-        Ok(trace) => trace,
-        Err(error) => return Err(line_of_trace(error)),
-    };
-    match trace.unserved() {
-        Some(number) => Err(Line::BadLine { number }),
-        None => Ok(trace),
+    match Trace::read(alloc, 1, source) {
+        Ok(trace) => Ok(trace),
+        Err(error) => Err(line_of_trace(error)),
     }
 }
 
-/// The header of a fresh image of version 2, on whose disk all of the trace's ranges lie. The error is the line that says why
-/// not, of status 3, 4, 5 or 8.
-fn open_for<S: Store>(store: &mut S, room: &mut [Sector], trace: &Trace) -> Result<Header, Line>
+/// What is known of a store by what it tells.
+fn look<S: Store>(store: &S)
+    ensures running { S.tells store.now → IsRunning (S.events store.now) (S.disk store.now) }
+    ensures honest { S.tells store.now → IsHonest (S.disk store.now) }
+    ensures recorded { S.tells store.now → S.records store.now }
+{
+    let _events = store.events();
+    let _flying = store.in_flight();
+}
+
+/// Opens an image of version 2, on whose disk all of the trace's ranges lie. The error is the line that says why not, of
+/// status 3, 4, 5 or 7.
+fn open_for<S: Store>(alloc: Global, store: &mut S, trace: &Trace) -> Result<State, Line>
     requires idle { S.flies store.old [] }
-    requires room { length room.old ≡ MOST }
     ensures quiet { OnlyReads (S.flies store.new []) (S.sectors store.old) (S.sectors store.new) (S.depth store.old) (S.depth store.new) (S.faults store.old) (S.faults store.new) (S.tells store.old) (S.tells store.new) (S.records store.old) (S.records store.new) (S.disk store.old) (S.disk store.new) }
-    ensures valid { IfOk result IsValid }
-    ensures large { IfOk result (λ h. need_of h ≤ S.sectors store.new) }
-    ensures opened { IfOk result (OpensFor trace.now (S.tells store.new) (S.disk store.old).held) }
+    ensures opened { IfOk result (λ state. OpensFor trace.now (S.tells store.new) (S.disk store.old).held state.header) }
+    ensures whole { IfOk result IsWhole }
+    ensures says { IfOk result (λ state. S.tells store.new → Says (S.disk store.new).held state) }
+    ensures large { IfOk result (λ state. need_of state.header ≤ S.sectors store.new) }
+    ensures recorded { IfOk result (λ state. S.tells store.new → S.records store.new) }
     ensures refused { IfErr result (IsOpenLine trace.now (S.tells store.new) (S.disk store.old).held (λ ticket. IsFault ticket (S.last store.new) (S.faults store.old) (S.faults store.new))) }
-    ensures room { length room.new ≡ MOST }
 {
-    let header = match open_fresh(store, room, 2) {
-        Ok(header) => header,
-        Err(error) => return Err(line_of(error)),
+    let state = match recover(alloc, store, 2) {
+        Ok(state) => state,
+        Err(error) => return Err(show_line(error)),
     };
-    match trace.past(header.size) {
+    look(store);
+    match trace.past(state.header.size) {
         Some(number) => Err(Line::LinePastTheDisk { number }),
-        None => Ok(header),
+        None => Ok(state),
     }
 }
 
-/// Whether the event is no reply, or an Ok.
-fn is_ok(event: Event<'_>) -> bool
-    ensures { result ≡ is_ok_reply (entry_of event.entry) }
+/// The room that the history of a run takes at most: that of the trace's requests, and that of the closing flush.
+fn room_for(trace: &Trace, block: u32) -> Room
+    requires { 0 < block }
+    ensures { result ≡ with_flush (trace_need block trace.now.asks) }
 {
-    match event {
-        Event::Reply { id: _, answer } => matches!(answer, Answer::Ok),
-        _ => true,
+    let need = trace.need(block);
+    Room {
+        events: need.events + 2,
+        sectors: need.sectors,
     }
 }
 
-/// Whether each reply is Ok.
-fn are_ok(log: &Log) -> bool
-    ensures { result ≡ are_ok log.now.entries }
-{
-    let mut ok = true;
-    for at in 0..log.len() {
-        ok &= is_ok(log.event(at));
-    }
-    ok
+/// What the serving of a trace leaves.
+struct Served<S, B> {
+    store: S,
+    base: B,
+    history: History,
+    /// As the image was opened, to read it again.
+    state: State,
+    /// The answer of the closing flush.
+    closing: Answer,
 }
 
-/// Writes the report of a history of one guest. After Failed a front of it is written.
-fn put_report<O: Sink>(out: &mut O, history: &History) -> Result<(), Failed>
-    requires { All HasText history.now.log.entries }
-    ensures told_before { O.tells out.new → O.tells out.old }
-    ensures writes { O.tells out.new → Writes (history_text 1 history.now.log.entries ++ sum_text 1 history.now.log.entries) result (O.written out.old) (O.written out.new) }
-    ensures calm { O.faults out.old ≤ O.faults out.new }
-    ensures cause { OnErr result (Rose (O.faults out.old) (O.faults out.new)) }
-{
-    put_history(out, history, 1)?;
-    put_sum(out, history, 1)
-}
-
-/// Prints the report of a history of one guest, and answers the status.
-fn report<O: Sink>(out: &mut O, history: &History) -> u8
-    requires { All HasText history.now.log.entries }
-    ensures told_before { O.tells out.new → O.tells out.old }
-    ensures calm { O.faults out.old ≤ O.faults out.new }
-    ensures ends { Ends (Reported 1 history.now.log.entries) result (O.faults out.old) (O.faults out.new) (O.tells out.new) (O.written out.old) (O.written out.new) }
-{
-    match put_report(out, history) {
-        Ok(()) => { if are_ok(history.log()) { 0 } else { 1 } }
-        Err(_) => 6,
-    }
-}
-
-/// Serves the trace over the devices of an image with this header, and hands them back with the history. Want of memory hands
-/// them back as they were.
+/// Serves the trace over the devices of an image that was opened as this state, makes durable what was written, and hands the
+/// devices back with the history. Want of memory hands them back as they were.
 fn serve_trace<S: Store, B: Base>(
     alloc: Global,
     trace: &Trace,
-    header: &Header,
+    state: State,
     content: &mut [Sector],
     seen: &mut [Sector],
     store: S,
     base: B,
-) -> Result<Closed<S, B>, Unopened<S, B>>
+) -> Result<Served<S, B>, Unopened<S, B>>
     requires idle { S.flies store [] }
     requires base_idle { B.flies base [] }
-    requires valid { IsValid header.now }
-    requires large { need_of header.now ≤ S.sectors store }
+    requires opened { OpensFor trace.now (S.tells store) (S.disk store).held state.header }
+    requires whole { IsWhole state }
+    requires says { S.tells store → Says (S.disk store).held state }
+    requires large { need_of state.header ≤ S.sectors store }
     requires guests { trace.now.guests ≡ 1 }
-    requires unserved { unserved trace.now ≡ None }
-    requires inside { past header.now.size trace.now ≡ None }
     requires content { length content.old ≡ MOST }
     requires seen { length seen.old ≡ MOST }
-    ensures run { IfOk result (λ closed. IsRun trace.now header.now (B.sectors base) (S.tells closed.store) (B.tells closed.base) (S.disk closed.store).log (B.content base) (S.faults store) (S.faults closed.store) (B.faults base) (B.faults closed.base) closed.history) }
-    ensures store { IfOk result (λ closed. Leaves (S.flies closed.store []) (S.sectors store) (S.sectors closed.store) (S.depth store) (S.depth closed.store) (S.faults store) (S.faults closed.store) (S.tells store) (S.tells closed.store) (S.records store) (S.records closed.store)) }
-    ensures base { IfOk result (λ closed. OnlyReadsBase (B.flies closed.base []) (B.sectors base) (B.sectors closed.base) (B.faults base) (B.faults closed.base) (B.tells base) (B.tells closed.base) (B.content base) (B.content closed.base)) }
+    ensures run { IfOk result (λ served. IsRun trace.now state.header (B.sectors base) (S.tells served.store) (B.tells served.base) (S.disk store) (S.disk served.store).log (B.content base) (S.faults store) (S.faults served.store) (B.faults base) (B.faults served.base) served.history (closing_line served.closing)) }
+    ensures state { IfOk result (λ served. IsSized served.state × (served.state.header ≡ state.header)) }
+    ensures store { IfOk result (λ served. Leaves (S.flies served.store []) (S.sectors store) (S.sectors served.store) (S.depth store) (S.depth served.store) (S.faults store) (S.faults served.store) (S.tells store) (S.tells served.store) (S.records store) (S.records served.store)) }
+    ensures base { IfOk result (λ served. OnlyReadsBase (B.flies served.base []) (B.sectors base) (B.sectors served.base) (B.faults base) (B.faults served.base) (B.tells base) (B.tells served.base) (B.content base) (B.content served.base)) }
     ensures back { IfErr result (λ refused. (refused.store ≡ store) × (refused.base ≡ base)) }
+    ensures seen { length seen.new ≡ MOST }
 {
-    let room = trace.need(header.block);
-    let store = Patient::new(store);
-    let base = Patient::new(base);
-    match Core::new(alloc, store, base, header, 2, room) {
+    look(&store);
+    let room = room_for(trace, state.header.block);
+    match Core::new(
+        alloc,
+        Patient::new(store),
+        Patient::new(base),
+        state,
+        2,
+        room,
+    ) {
         Err(Unopened { store, base }) => Err(Unopened {
             store: store.into_inner(),
             base: base.into_inner(),
@@ -169,15 +159,20 @@ fn serve_trace<S: Store, B: Base>(
         Ok(core) => {
             let mut core = core;
             serve(&mut core, trace, content, seen);
+            // Behind the last request, so that whatever was answered is among what the flush makes durable.
+            let closing = close(&mut core);
             let Closed {
                 store,
                 base,
                 history,
+                state,
             } = core.finish();
-            Ok(Closed {
+            Ok(Served {
                 store: store.into_inner(),
                 base: base.into_inner(),
                 history,
+                state,
+                closing,
             })
         }
     }
@@ -195,9 +190,56 @@ fn unserved<S, B>(status: u8, store: S, base: B) -> End<S, B>
     }
 }
 
-/// Runs the trace of one guest on a fresh image and prints the report: the guest's calls with their answers, and the sum. It
-/// answers status 0 where each reply is Ok, else 1; or, first things first, 6 or 4 for the trace, 5, 3 or 8 for the opening, 4
-/// for a range past the disk, 7 for want of memory, 6 for a sink that fails.
+/// Prints the report of a trace that was served, and hands out what the serving left.
+fn leave<S: Store, B: Base, O: Sink>(
+    out: &mut O,
+    trace: &Trace,
+    served: Served<S, B>,
+    room: &mut [Sector],
+) -> End<S, B>
+    requires idle { S.flies served.store [] }
+    requires base_idle { B.flies served.base [] }
+    requires text { All HasText served.history.log.entries }
+    requires sized { IsSized served.state }
+    requires version { served.state.header.version ≡ 2 }
+    requires inside { past served.state.header.size trace.now ≡ None }
+    requires room { length room.old ≡ MOST }
+    ensures store { OnlyReads (S.flies result.store []) (S.sectors served.store) (S.sectors result.store) (S.depth served.store) (S.depth result.store) (S.faults served.store) (S.faults result.store) (S.tells served.store) (S.tells result.store) (S.records served.store) (S.records result.store) (S.disk served.store) (S.disk result.store) }
+    ensures base { OnlyReadsBase (B.flies result.base []) (B.sectors served.base) (B.sectors result.base) (B.faults served.base) (B.faults result.base) (B.tells served.base) (B.tells result.base) (B.content served.base) (B.content result.base) }
+    ensures recorded { S.tells result.store → S.records result.store }
+    ensures history { result.history ≡ Some served.history }
+    ensures told_before { O.tells out.new → O.tells out.old }
+    ensures calm { O.faults out.old ≤ O.faults out.new }
+    ensures reported { (reopened : Reopened)
+        × Reopens served.state.header trace.now.shows (S.tells result.store) (B.tells result.base) (S.disk result.store).held (B.content served.base) (λ ticket. IsFault ticket (S.last result.store) (S.faults served.store) (S.faults result.store))
+        (Rose (S.faults served.store) (S.faults result.store)) (Rose (B.faults served.base) (B.faults result.base)) reopened
+        × Ends (Reported 1 served.history.log.entries (closing_line served.closing) reopened) result.status (O.faults out.old) (O.faults out.new) (O.tells out.new) (O.written out.old) (O.written out.new) }
+{
+    let Served {
+        mut store,
+        mut base,
+        history,
+        mut state,
+        closing,
+    } = served;
+    let status = report(
+        out, trace, &history, closing, &mut store, &mut base, &mut state, room,
+    );
+    look(&store);
+    End {
+        status,
+        store,
+        base,
+        history: Some(history),
+    }
+}
+
+/// Runs the trace of one guest on an image of version 2 and prints the report: the guest's calls with their answers, how the
+/// closing flush was answered, how the image opens again, what the trace's lines show of it, how many blocks are local, and the
+/// sum. It answers status 5 where a device failed at the closing, the reopening or a line that shows, 3 where the reopening is
+/// refused, 0 where each reply is Ok, else 1; or, first things first, 6 or 4 for the trace, 7 for want of memory, 5 or 3 for the
+/// opening, 4 for a range past the disk, and 6 for a sink that fails where the status would be 0 or 1. After the first request
+/// nothing takes memory.
 pub fn run<S: Store, B: Base, I: Source, O: Sink>(
     alloc: Global,
     source: &mut I,
@@ -208,8 +250,8 @@ pub fn run<S: Store, B: Base, I: Source, O: Sink>(
     requires idle { S.flies store [] }
     requires base_idle { B.flies base [] }
     ensures ran { (outcome : Outcome)
-        × RunEnds (I.tells source.new) (I.rest source.old) (Rose (I.faults source.old) (I.faults source.new)) (S.tells result.store) (B.tells result.base) (S.disk store).held (B.content base) (B.sectors base)
-        (λ ticket. IsFault ticket (S.last result.store) (S.faults store) (S.faults result.store)) (S.disk result.store).log (S.faults store) (S.faults result.store) (B.faults base) (B.faults result.base) result.history outcome
+        × RunEnds (I.tells source.new) (I.rest source.old) (Rose (I.faults source.old) (I.faults source.new)) (S.tells result.store) (B.tells result.base) (S.disk store) (S.disk result.store) (B.content base) (B.sectors base)
+        (λ ticket. IsFault ticket (S.last result.store) (S.faults store) (S.faults result.store)) (S.faults store) (S.faults result.store) (B.faults base) (B.faults result.base) result.history outcome
         × Ends outcome result.status (O.faults out.old) (O.faults out.new) (O.tells out.new) (O.written out.old) (O.written out.new) }
     ensures store { Leaves (S.flies result.store []) (S.sectors store) (S.sectors result.store) (S.depth store) (S.depth result.store) (S.faults store) (S.faults result.store) (S.tells store) (S.tells result.store) (S.records store) (S.records result.store) }
     ensures base { OnlyReadsBase (B.flies result.base []) (B.sectors base) (B.sectors result.base) (B.faults base) (B.faults result.base) (B.tells base) (B.tells result.base) (B.content base) (B.content result.base) }
@@ -229,31 +271,20 @@ pub fn run<S: Store, B: Base, I: Source, O: Sink>(
     let Ok(mut seen) = vec![in alloc; Sector::filled(0); MOST as usize] else {
         return unserved(say(out, Line::NoMemory), store, base);
     };
-    let header = match open_for(&mut store, content.as_mut_slice(), &trace) {
-        Ok(header) => header,
+    let state = match open_for(alloc, &mut store, &trace) {
+        Ok(state) => state,
         Err(line) => return unserved(say(out, line), store, base),
     };
     match serve_trace(
         alloc,
         &trace,
-        &header,
+        state,
         content.as_mut_slice(),
         seen.as_mut_slice(),
         store,
         base,
     ) {
-        Ok(
-            Closed {
-                store,
-                base,
-                history,
-            },
-        ) => End {
-            status: report(out, &history),
-            store,
-            base,
-            history: Some(history),
-        },
+        Ok(served) => leave(out, &trace, served, seen.as_mut_slice()),
         Err(Unopened { store, base }) => unserved(say(out, Line::NoMemory), store, base),
     }
 }

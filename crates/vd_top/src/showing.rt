@@ -3,18 +3,17 @@
 ghost use Rattle.std.specs.Prelude.{◌≡◌, ℕ, ◌+◌, ◌^◌, ◌<◌, ◌≤◌, [], length, nat_lt};
 ghost use Rattle.vd_reading.specs.Quiet.{OnlyReads, OnlyReadsBase, IsFault};
 ghost use Rattle.vd_top.specs.Outcomes.{Outcome};
-ghost use Rattle.vd_top.specs.Showing.{outcome_of, open_line, header_line, show_line, Finds};
+ghost use Rattle.vd_top.specs.Showing.{outcome_of, header_line, show_line, fault_line, Finds};
 ghost use Rattle.vd_top.specs.Ending.{Ends};
 
-use crate::area::MOST;
-use crate::opening::OpenError;
 use crate::printing::{print_sectors, say};
+use crate::room::MOST;
 use std::alloc::Global;
 use vd_device::{Base, Store};
 use vd_header::HeaderError;
 use vd_io::sink::Sink;
 use vd_law::entry::Sector;
-use vd_replay::{DiskFault, OpenError as Refusal, read_disk, recover};
+use vd_replay::{DiskFault, OpenError, read_disk, recover};
 use vd_report::line::Line;
 
 fn header_line(error: HeaderError) -> Line
@@ -27,37 +26,34 @@ fn header_line(error: HeaderError) -> Line
     }
 }
 
-/// The line that says why a fresh image was not opened.
-pub(crate) fn line_of(error: OpenError) -> Line
-    ensures { result ≡ open_line error }
+/// The line that says why an image was not opened.
+pub fn show_line(error: OpenError) -> Line
+    ensures { result ≡ show_line error }
 {
     match error {
         OpenError::Store(ticket) => Line::StoreFault { ticket },
         OpenError::Header(error) => header_line(error),
         OpenError::TooSmall { need, have } => Line::TooSmall { need, have },
         OpenError::OldVersion => Line::OldVersion,
-        OpenError::NotBuilt => Line::NotBuilt,
-    }
-}
-
-/// The line that says why an image was not opened.
-fn show_line(refusal: Refusal) -> Line
-    ensures { result ≡ show_line refusal }
-{
-    match refusal {
-        Refusal::Store(ticket) => Line::StoreFault { ticket },
-        Refusal::Header(error) => header_line(error),
-        Refusal::TooSmall { need, have } => Line::TooSmall { need, have },
-        Refusal::OldVersion => Line::OldVersion,
-        Refusal::BadEntry { chunk, value } => Line::BadEntry { chunk, value },
-        Refusal::BadRecord { slot } => Line::BadRecord { slot },
-        Refusal::DoubleChunk { a, b } => Line::DoubleChunk {
+        OpenError::BadEntry { chunk, value } => Line::BadEntry { chunk, value },
+        OpenError::BadRecord { slot } => Line::BadRecord { slot },
+        OpenError::DoubleChunk { a, b } => Line::DoubleChunk {
             first: a,
             second: b,
         },
-        Refusal::Changed { field } => Line::Changed { field },
-        Refusal::NotBuilt => Line::NotBuilt,
-        Refusal::NoMemory => Line::NoMemory,
+        OpenError::Changed { field } => Line::Changed { field },
+        OpenError::NotBuilt => Line::NotBuilt,
+        OpenError::NoMemory => Line::NoMemory,
+    }
+}
+
+/// The line that names the device that failed to give sectors of the disk.
+pub fn fault_line(fault: DiskFault) -> Line
+    ensures { result ≡ fault_line fault }
+{
+    match fault {
+        DiskFault::Store(ticket) => Line::StoreFault { ticket },
+        DiskFault::Base(ticket) => Line::BaseFault { ticket },
     }
 }
 

@@ -197,7 +197,7 @@ fn shows_and_refusals(rt: HostRuntime) -> Result<(), Fail> {
             "run I P 1 0 off 0",
             104,
             &[],
-            b"sum ok 0 full 0 fault 0 worn 0\n",
+            b"close ok\nreopen ok\nlocal 0 of 12\nsum ok 0 full 0 fault 0 worn 0\n",
             0,
         ),
         ("", 104, &[], b"bad words\n", 2),

@@ -1,5 +1,5 @@
 -- Asking a request keeps a core.
-use Rattle.std.proofs.Common.{◌≡◌, ℕ, ◌+◌, ◌-◌, ◌*◌, ◌^◌, ◌<◌, Bool, false, List, length, refl, sym, ◌∙◌, ap, inl, inr, arith, Option, Some, slice_get}
+use Rattle.std.proofs.Common.{◌≡◌, ℕ, ◌+◌, ◌-◌, ◌*◌, ◌^◌, Bool, false, List, length, refl, sym, ◌∙◌, ap, inl, inr, arith, Option, Some, slice_get}
 use Rattle.vd_law.specs.declared.entry.Sector.{Sector}
 use Rattle.vd_law.specs.declared.entry.Room.{Room}
 use Rattle.vd_law.specs.declared.entry.Answer.{Answer}
@@ -9,12 +9,13 @@ use Rattle.vd_law.specs.Logs.{asked_content}
 use Rattle.vd_law.specs.Rules.{IsInside}
 use Rattle.vd_device.specs.declared.ticket.Ticket.{Ticket}
 use Rattle.vd_device.specs.Disks.{Disk}
+use Rattle.vd_format.specs.declared.header.Header.{Header}
 use Rattle.vd_regions.specs.declared.regions.Region.{Region}
 use Rattle.vd_table.specs.Tables.{Given}
 use Rattle.vd_passes.specs.declared.shape.Shape.{Shape}
 use Rattle.vd_passes.specs.declared.pass.Pass.{Pass}
 use Rattle.vd_passes.specs.declared.pass.Phase.TheVariants.{Idle}
-use Rattle.vd_passes.specs.Needs.{need_of, sectors_of}
+use Rattle.vd_passes.specs.Needs.{need_of}
 use Rattle.vd_passes.specs.Places.{place_of, ArePlaces, Extends}
 use Rattle.vd_passes.specs.Passes.{has_region, after_ask}
 use Rattle.vd_passes.specs.Steps.{IsAt}
@@ -23,20 +24,21 @@ use Rattle.vd_passes.proofs.PlacesGiven.{are-places}
 use Rattle.vd_passes.proofs.Needing.{room-idle, room-asked}
 use Rattle.vd_passes.proofs.Holding.{phase-at, asks-regions, asks_full-regions}
 use Rattle.vd_passes.proofs.Asking.{IsPlaced, asks-coherent, asks-faithful, asks_full-coherent, asks_full-faithful}
-use Rattle.vd_core.specs.Asking.{CanAsk, EndsFull, EndsAsked, AskEnds}
+use Rattle.vd_core.specs.Asking.{CanAsk, HasSize, EndsFull, EndsAsked, AskEnds}
 use Rattle.vd_core.specs.Kept.{IsRoomy, IsKept, IsTold}
-use Rattle.vd_core.proofs.Claiming.{need-events, need-sectors, inside-more, run-inside, run-placed, claim-extends, claim-storage}
+use Rattle.vd_core.proofs.Claiming.{some-sectors, need-events, need-sectors, inside-more, run-inside, run-placed, claim-extends, claim-storage}
 use Rattle.vd_core.proofs.Reserving.{room-shared}
+use Rattle.vd_core.proofs.Keeping.Telling.{told-here}
 
 -- what a pass that has asked has for its request, and which call it is
-asked-has : (p : Pass) (r : Asked) (events sectors : ℕ) → 0 < sectors_of r → ((after_ask p r events sectors).events ≡ events) × ((after_ask p r events sectors).sectors ≡ sectors) × ((after_ask p r events sectors).call ≡ p.call + 1)
-asked-has p (Read first count) events sectors some = (refl, refl, refl)
-asked-has p (Write first content) events sectors some = (refl, refl, refl)
-asked-has p Flush events sectors some = absurd (omega arith)
+asked-has : (p : Pass) (r : Asked) (events sectors : ℕ) → ((after_ask p r events sectors).events ≡ events) × ((after_ask p r events sectors).sectors ≡ sectors) × ((after_ask p r events sectors).call ≡ p.call + 1)
+asked-has p (Read first count) events sectors = (refl, refl, refl)
+asked-has p (Write first content) events sectors = (refl, refl, refl)
+asked-has p Flush events sectors = (refl, refl, refl)
 
 module _ {shape : Shape} {table : Given} {fresh : List Bool} {regions : List (Option Region)} {passes : List Pass} {history : Numbered} {spare : Room} {sectors depth events base_sectors base_depth : ℕ} {flies base_flies : List Ticket → Type 0}
     (request : Asked) (i : ℕ) (kept : IsKept shape table fresh regions passes history spare sectors depth events base_sectors base_depth flies base_flies)
-    (at : IsAt passes i (λ p. p.phase ≡ Idle)) (some : 0 < sectors_of request) (inside : IsInside (shape.block * shape.blocks) request) where
+    (at : IsAt passes i (λ p. p.phase ≡ Idle)) (size : HasSize request) (inside : IsInside (shape.block * shape.blocks) request) where
   pub can-ask : CanAsk shape table passes history spare events request i
   can-ask = record {
     some_block = kept.coherent.shaped.some;
@@ -44,9 +46,9 @@ module _ {shape : Shape} {table : Given} {fresh : List Bool} {regions : List (Op
     some_chunk = kept.coherent.shaped.some_blocks;
     few = kept.coherent.few;
     there = (at.0, at.1, (let h = kept.roomy.calls i at.0 at.1 in let b = kept.roomy.bounded in omega (arith, h, b)));
-    some = some;
+    size = size;
     range = inside-more request (shape.block * shape.blocks) (2 ^ 26) kept.coherent.shaped.size inside;
-    run = run-inside shape request (length table.chunks) kept.storage.chunks kept.coherent.shaped.some kept.coherent.shaped.some_blocks some inside;
+    run = run-inside shape request (length table.chunks) kept.storage.chunks kept.coherent.shaped.some kept.coherent.shaped.some_blocks size inside;
     spare_events = let h = kept.roomy.spare_events in omega (arith, h);
     spare_sectors = let h = kept.roomy.spare_sectors in omega (arith, h);
     later = kept.roomy.later;
@@ -81,8 +83,8 @@ module _ {shape : Shape} {table : Given} {fresh : List Bool} {regions : List (Op
         let few = need-events shape.block request in let told = need-sectors shape.block request in
         let a = ends.enough.0 in let b = ends.enough.1 in
         let c = ap (λ (r : Room). r.events) ends.left_after in let d = ap (λ (r : Room). r.sectors) ends.left_after in
-        let own = asked-has step.pass request ((need_of shape.block request).events - 1) ((need_of shape.block request).sectors - length (asked_content request)) some in
-        room-shared kept.roomy i step.there step.after ends.extends (room-asked shape.block step.pass request _ _ some (omega (arith, few)) (omega (arith, told))) spare'
+        let own = asked-has step.pass request ((need_of shape.block request).events - 1) ((need_of shape.block request).sectors - length (asked_content request)) in
+        room-shared kept.roomy i step.there step.after ends.extends (room-asked shape.block step.pass request _ _ (omega (arith, few)) (omega (arith, told))) spare'
         (omega (arith, few, a, c, own.0, none.0)) (omega (arith, told, b, d, own.1, none.1)) (omega (arith, own.2)) (omega arith)
 
     asked-extends : Extends (place_of shape table.chunks) (place_of shape table'.chunks)
@@ -96,63 +98,58 @@ module _ {shape : Shape} {table : Given} {fresh : List Bool} {regions : List (Op
 
     asked-kept : IsKept shape table' fresh regions passes' history' spare' sectors depth events base_sectors base_depth flies base_flies
     asked-kept = record {
-      coherent = asks-coherent request kept.coherent at some inside asked-extends asked-places asked-placed ends.asks;
+      coherent = asks-coherent request kept.coherent at (some-sectors request size) inside asked-extends asked-places asked-placed ends.asks;
       held = kept.held ∙ sym (asks-regions none-held ends.asks);
       roomy = asked-roomy;
       storage = claim-storage kept.storage ends.claims;
     }
 
-    asked-told : {disk : Disk} {last : ℕ} {base : List Sector} → IsTold shape table fresh passes history disk last base base_sectors → IsTold shape table' fresh passes' history' disk last base base_sectors
-    asked-told {disk} {last} {base} told = record {
-      base_size = told.base_size;
-      faithful = asks-faithful request kept.coherent at some inside asked-extends asked-places asked-placed ends.asks told.faithful;
-    }
+    asked-told : {h : Header} {disk : Disk} {last : ℕ} {base : List Sector} → IsTold shape h table fresh passes history disk last base base_sectors → IsTold shape h table' fresh passes' history' disk last base base_sectors
+    asked-told {h} {disk} {last} {base} told = told-here told ends.extends.opened (λ start faithful. asks-faithful request kept.coherent at (some-sectors request size) inside asked-extends asked-places asked-placed ends.asks faithful)
 
 -- Only a write is answered Full.
 module _ {shape : Shape} {table : Given} {fresh : List Bool} {regions : List (Option Region)} {passes : List Pass} {history : Numbered} {spare : Room} {sectors depth events base_sectors base_depth : ℕ} {flies base_flies : List Ticket → Type 0} where
   full-kept : (request : Asked) (i : ℕ) → IsKept shape table fresh regions passes history spare sectors depth events base_sectors base_depth flies base_flies → IsAt passes i (λ p. p.phase ≡ Idle)
-      → 0 < sectors_of request → IsInside (shape.block * shape.blocks) request → {needed free : ℕ} {table' : Given} {passes' : List Pass} {history' : Numbered} {spare' : Room}
+      → HasSize request → IsInside (shape.block * shape.blocks) request → {needed free : ℕ} {table' : Given} {passes' : List Pass} {history' : Numbered} {spare' : Room}
       → EndsFull request needed free shape i table table' passes passes' history history' spare spare' events
       → IsKept shape table' fresh regions passes' history' spare' sectors depth events base_sectors base_depth flies base_flies
-  full-kept (Read first count) i kept at some inside {needed} ends = let none : needed ≡ 0 = ends.needed_is in absurd (let less = ends.fewer in omega arith)
-  full-kept (Write first content) i kept at some inside ends = record {
-    coherent = rw ends.table_same (asks_full-coherent first content kept.coherent at some inside ends.asks);
-    held = kept.held ∙ sym (asks_full-regions (none-held (Write first content) i kept at some inside) ends.asks);
-    roomy = full-roomy (Write first content) i kept at some inside ends;
+  full-kept (Read first count) i kept at size inside {needed} ends = let none : needed ≡ 0 = ends.needed_is in absurd (let less = ends.fewer in omega arith)
+  full-kept (Write first content) i kept at size inside ends = record {
+    coherent = rw ends.table_same (asks_full-coherent first content kept.coherent at size.0 inside ends.asks);
+    held = kept.held ∙ sym (asks_full-regions (none-held (Write first content) i kept at size inside) ends.asks);
+    roomy = full-roomy (Write first content) i kept at size inside ends;
     storage = rw ends.table_same kept.storage;
   }
-  full-kept Flush i kept at some inside ends = absurd (omega arith)
+  full-kept Flush i kept at size inside {needed} ends = let none : needed ≡ 0 = ends.needed_is in absurd (let less = ends.fewer in omega arith)
 
   full-told : (request : Asked) (i : ℕ) → IsKept shape table fresh regions passes history spare sectors depth events base_sectors base_depth flies base_flies → IsAt passes i (λ p. p.phase ≡ Idle)
-      → 0 < sectors_of request → IsInside (shape.block * shape.blocks) request → {needed free : ℕ} {table' : Given} {passes' : List Pass} {history' : Numbered} {spare' : Room}
+      → HasSize request → IsInside (shape.block * shape.blocks) request → {needed free : ℕ} {table' : Given} {passes' : List Pass} {history' : Numbered} {spare' : Room}
       → EndsFull request needed free shape i table table' passes passes' history history' spare spare' events
-      → {disk : Disk} {last : ℕ} {base : List Sector} → IsTold shape table fresh passes history disk last base base_sectors → IsTold shape table' fresh passes' history' disk last base base_sectors
-  full-told (Read first count) i kept at some inside {needed} ends told = let none : needed ≡ 0 = ends.needed_is in absurd (let less = ends.fewer in omega arith)
-  full-told (Write first content) i kept at some inside ends told = record {
-    base_size = told.base_size;
-    faithful = rw ends.table_same (asks_full-faithful first content kept.coherent at some inside ends.asks told.faithful);
-  }
-  full-told Flush i kept at some inside ends told = absurd (omega arith)
+      → {h : Header} {disk : Disk} {last : ℕ} {base : List Sector} → IsTold shape h table fresh passes history disk last base base_sectors → IsTold shape h table' fresh passes' history' disk last base base_sectors
+  full-told (Read first count) i kept at size inside {needed} ends told = let none : needed ≡ 0 = ends.needed_is in absurd (let less = ends.fewer in omega arith)
+  full-told (Write first content) i kept at size inside ends told =
+      told-here told ends.extends.opened (λ start faithful. rw ends.table_same (asks_full-faithful first content kept.coherent at size.0 inside ends.asks faithful))
+  full-told Flush i kept at size inside {needed} ends told = let none : needed ≡ 0 = ends.needed_is in absurd (let less = ends.fewer in omega arith)
 
 -- However an ask ends.
 module _ {shape : Shape} {table : Given} {fresh : List Bool} {regions : List (Option Region)} {passes : List Pass} {history : Numbered} {spare : Room} {sectors depth events base_sectors base_depth : ℕ} {flies base_flies : List Ticket → Type 0}
     (request : Asked) (i : ℕ) (kept : IsKept shape table fresh regions passes history spare sectors depth events base_sectors base_depth flies base_flies)
-    (at : IsAt passes i (λ p. p.phase ≡ Idle)) (some : 0 < sectors_of request) (inside : IsInside (shape.block * shape.blocks) request)
+    (at : IsAt passes i (λ p. p.phase ≡ Idle)) (size : HasSize request) (inside : IsInside (shape.block * shape.blocks) request)
     {result : Option Answer} {table' : Given} {passes' : List Pass} {history' : Numbered} {spare' : Room} (ends : AskEnds result request shape i table table' passes passes' history history' spare spare' events) where
   pub ask-kept : IsKept shape table' fresh regions passes' history' spare' sectors depth events base_sectors base_depth flies base_flies
   ask-kept = elim ends [
     | inl none ↦ let same = none.2 in rw (same.table_same, same.passes_same, same.history_same, same.left_same) kept
     | inr more ↦ elim more [
-      | inl full ↦ full-kept request i kept at some inside full.3
-      | inr asked ↦ asked-kept request i kept at some inside asked.1
+      | inl full ↦ full-kept request i kept at size inside full.3
+      | inr asked ↦ asked-kept request i kept at size inside asked.1
     ]
   ]
 
-  pub ask-told : {disk : Disk} {last : ℕ} {base : List Sector} → IsTold shape table fresh passes history disk last base base_sectors → IsTold shape table' fresh passes' history' disk last base base_sectors
-  ask-told {disk} {last} {base} told = elim ends [
+  pub ask-told : {h : Header} {disk : Disk} {last : ℕ} {base : List Sector} → IsTold shape h table fresh passes history disk last base base_sectors → IsTold shape h table' fresh passes' history' disk last base base_sectors
+  ask-told {h} {disk} {last} {base} told = elim ends [
     | inl none ↦ let same = none.2 in rw (same.table_same, same.passes_same, same.history_same) told
     | inr more ↦ elim more [
-      | inl full ↦ full-told request i kept at some inside full.3 told
-      | inr asked ↦ asked-told request i kept at some inside asked.1 told
+      | inl full ↦ full-told request i kept at size inside full.3 told
+      | inr asked ↦ asked-told request i kept at size inside asked.1 told
     ]
   ]

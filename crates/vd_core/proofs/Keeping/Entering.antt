@@ -1,5 +1,5 @@
 -- Entering a block keeps a core.
-use Rattle.std.proofs.Common.{◌≡◌, ℕ, ◌+◌, ◌*◌, ◌<◌, ◌≤◌, Bool, List, [], ◌∷◌, zero, suc, map, refl, sym, ◌∙◌, ap, subst, inl, inr, arith, Option, Some, None, slice_get}
+use Rattle.std.proofs.Common.{◌≡◌, ℕ, ◌+◌, ◌*◌, ◌<◌, ◌≤◌, Bool, false, List, [], ◌∷◌, zero, suc, map, refl, sym, ◌∙◌, ap, subst, inl, inr, arith, Option, Some, None, slice_get}
 use Rattle.std.specs.Prelude.{if◌then◌else◌, Result, Ok, Err, IfErr, OnOk}
 use Rattle.std.proofs.Math.Nat.{mul-le-mul_left}
 use Rattle.std.proofs.lemmas.Bool.{cases_lt}
@@ -8,6 +8,7 @@ use Rattle.vd_law.specs.Histories.{Numbered}
 use Rattle.vd_device.specs.declared.ticket.Ticket.{Ticket}
 use Rattle.vd_device.specs.Disks.{Disk}
 use Rattle.vd_law.specs.declared.entry.Sector.{Sector}
+use Rattle.vd_format.specs.declared.header.Header.{Header}
 use Rattle.vd_regions.specs.declared.regions.Region.{Region}
 use Rattle.vd_regions.specs.declared.regions.Busy.{Busy}
 use Rattle.vd_table.specs.Tables.{Given}
@@ -23,6 +24,7 @@ use Rattle.vd_passes.proofs.Entering.{enters-coherent, enters-faithful, enters-r
 use Rattle.vd_core.specs.Entering.{CanEnter, EntersBlock, IsKeptOut}
 use Rattle.vd_core.specs.Kept.{IsKept, IsTold}
 use Rattle.vd_core.proofs.Rooming.{room-same}
+use Rattle.vd_core.proofs.Keeping.Telling.{told-here}
 
 below-blocks : (block b blocks s : ℕ) → block * b ≤ s → s < block * blocks → b < blocks
 below-blocks block b blocks s from to = elim (cases_lt b blocks) [
@@ -40,11 +42,11 @@ none-held : (p : Pass) → p.phase ≡ HasAsked → region_of p ≡ None
 none-held p is = ap (λ ph. if has_region ph then Some (region_on p.block p.write) else None) is
 
 module _ {shape : Shape} {table : Given} {fresh : List Bool} {regions : List (Option Region)} {passes : List Pass} {history : Numbered} {spare : Room} {sectors depth events base_sectors base_depth : ℕ} {flies base_flies : List Ticket → Type 0}
-    (kept : IsKept shape table fresh regions passes history spare sectors depth events base_sectors base_depth flies base_flies) (i : ℕ) (at : IsAt passes i (λ p. p.phase ≡ HasAsked)) where
+    (kept : IsKept shape table fresh regions passes history spare sectors depth events base_sectors base_depth flies base_flies) (i : ℕ) (at : IsAt passes i (λ p. (p.phase ≡ HasAsked) × (p.flush ≡ false))) where
   pub can-enter : IsAt passes i (CanEnter shape table.chunks)
   can-enter =
-      let p = at.0 in let co = kept.coherent in let stands = co.each i p at.1 in let is = at.2 in
-      let range = stands.range (λ e. absurd (cc)) in let left = stands.left is in (
+      let p = at.0 in let co = kept.coherent in let stands = co.each i p at.1 in let is = at.2.0 in
+      let range = stands.range (λ e. absurd (cc)) in let left = stands.left is at.2.1 in (
         p,
         at.1,
         record {
@@ -60,15 +62,15 @@ module _ {shape : Shape} {table : Given} {fresh : List Bool} {regions : List (Op
       )
 
   pub holds-nothing : slice_get regions i ≡ Some None
-  holds-nothing = ap (λ (rs : List (Option Region)). slice_get rs i) kept.held ∙ map-there passes i at.0 at.1 ∙ ap Some (none-held at.0 at.2)
+  holds-nothing = ap (λ (rs : List (Option Region)). slice_get rs i) kept.held ∙ map-there passes i at.0 at.1 ∙ ap Some (none-held at.0 at.2.0)
 
   module _ {regions' : List (Option Region)} {passes' : List Pass} where
     entered-kept : EntersBlock shape table.chunks regions regions' i passes passes' → IsKept shape table fresh regions' passes' history spare sectors depth events base_sectors base_depth flies base_flies
     entered-kept step =
-        let e = step.enters in let p = e.pass in let is = ap (λ (x : Pass). x.phase) (some-inj (sym e.there ∙ at.1)) ∙ at.2 in
+        let e = step.enters in let p = e.pass in let is = ap (λ (x : Pass). x.phase) (some-inj (sym e.there ∙ at.1)) ∙ at.2.0 in
         record {
-          coherent = enters-coherent kept.coherent at e regions kept.held step.free;
-          held = step.regions_after ∙ sym (enters-regions kept.coherent at e regions kept.held step.free);
+          coherent = enters-coherent kept.coherent (at.0, at.1, at.2.0) e regions kept.held step.free;
+          held = step.regions_after ∙ sym (enters-regions kept.coherent (at.0, at.1, at.2.0) e regions kept.held step.free);
           roomy = room-same kept.roomy i events e.there e.after (room-entered (kept.roomy.reserved i p e.there) (ap is_before_event is) e.block e.piece e.at) refl refl refl (omega arith);
           storage = kept.storage;
         }
@@ -81,14 +83,13 @@ module _ {shape : Shape} {table : Given} {fresh : List Bool} {regions : List (Op
     enter-kept (Ok v) busy enters = entered-kept enters
     enter-kept (Err busy) out enters = kept-out-kept busy.by out
 
-  module _ {passes' : List Pass} {tells base_tells : Type 0} {disk : Disk} {last : ℕ} {base : List Sector} (was : tells → base_tells → IsTold shape table fresh passes history disk last base base_sectors) (regions' : List (Option Region)) where
-    entered-told : EntersBlock shape table.chunks regions regions' i passes passes' → tells → base_tells → IsTold shape table fresh passes' history disk last base base_sectors
+  module _ {passes' : List Pass} {h : Header} {tells base_tells : Type 0} {disk : Disk} {last : ℕ} {base : List Sector} (was : tells → base_tells → IsTold shape h table fresh passes history disk last base base_sectors) (regions' : List (Option Region)) where
+    entered-told : EntersBlock shape table.chunks regions regions' i passes passes' → tells → base_tells → IsTold shape h table fresh passes' history disk last base base_sectors
     entered-told step told base_told =
-        let before = was told base_told in
-        record { base_size = before.base_size; faithful = enters-faithful kept.coherent at step.enters regions kept.held step.free before.faithful }
+        told-here (was told base_told) refl (λ start faithful. enters-faithful kept.coherent (at.0, at.1, at.2.0) step.enters regions kept.held step.free faithful)
 
     pub enter-told : (result : Result Unit Busy) → IfErr result (λ busy. IsKeptOut shape regions regions' i passes passes' busy.by) → OnOk result (EntersBlock shape table.chunks regions regions' i passes passes')
-        → tells → base_tells → IsTold shape table fresh passes' history disk last base base_sectors
+        → tells → base_tells → IsTold shape h table fresh passes' history disk last base base_sectors
     enter-told (Ok v) busy enters told base_told = entered-told enters told base_told
     enter-told (Err busy) out enters told base_told = rw out.passes_same (was told base_told)
 

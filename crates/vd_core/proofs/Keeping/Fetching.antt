@@ -7,6 +7,7 @@ use Rattle.vd_device.specs.declared.ticket.Ticket.{Ticket}
 use Rattle.vd_device.specs.declared.settled.Settled.{Settled}
 use Rattle.vd_device.specs.declared.settled.Settled.TheVariants as settled
 use Rattle.vd_device.specs.Disks.{Disk}
+use Rattle.vd_format.specs.declared.header.Header.{Header}
 use Rattle.vd_regions.specs.declared.regions.Region.{Region}
 use Rattle.vd_table.specs.Tables.{Given}
 use Rattle.vd_passes.specs.declared.shape.Shape.{Shape}
@@ -25,6 +26,7 @@ use Rattle.vd_core.specs.Fetching.{FetchesBlock}
 use Rattle.vd_core.specs.Kept.{IsKept, IsTold}
 use Rattle.vd_core.proofs.Rooming.{room-same}
 use Rattle.vd_core.proofs.Keeping.Devices.{flight-kept, backed}
+use Rattle.vd_core.proofs.Keeping.Telling.{told-here}
 
 module _ {shape : Shape} {table : Given} {fresh : List Bool} {regions : List (Option Region)} {passes : List Pass} {history : Numbered} {spare : Room}
     {sectors depth events base_sectors base_depth : ℕ} {flies base_flies : List Ticket → Type 0}
@@ -64,17 +66,14 @@ module _ {shape : Shape} {table : Given} {fresh : List Bool} {regions : List (Op
     pub fetch-kept : IsKept shape table fresh regions passes' history spare sectors depth events base_sectors' base_depth' flies base_flies'
     fetch-kept = rw (stays.sectors_same, stays.depth_same) (fetched-block step)
 
-    same-told : {disk : Disk} {last : ℕ} → IsTold shape table fresh passes history disk last content base_sectors → IsTold shape table fresh passes' history disk last content base_sectors
-    same-told {disk} {last} was = record {
-      base_size = was.base_size;
-      faithful = elim step [
-        | inl f ↦ fetches-faithful kept.coherent at f.0 (λ (told : Unit {0}). was.faithful) tt
-        | inr z ↦ fills_zeros-faithful kept.coherent at z.0 content (λ (told : Unit {0}). backed kept.coherent content was.base_size) (λ told. was.faithful) tt
-      ];
-    }
+    same-told : {h : Header} {disk : Disk} {last : ℕ} → IsTold shape h table fresh passes history disk last content base_sectors → IsTold shape h table fresh passes' history disk last content base_sectors
+    same-told {h} {disk} {last} was = told-here was refl (λ start faithful. elim step [
+      | inl f ↦ fetches-faithful kept.coherent at f.0 (λ (told : Unit {0}). faithful) tt
+      | inr z ↦ fills_zeros-faithful kept.coherent at z.0 content (λ (told : Unit {0}). backed kept.coherent content was.base_size) (λ told. faithful) tt
+    ])
 
-    pub fetch-told : {told : Type 0} {disk : Disk} {last : ℕ} → (told → tells → IsTold shape table fresh passes history disk last content base_sectors) → told → tells' → IsTold shape table fresh passes' history disk last content' base_sectors'
-    fetch-told {told} {disk} {last} was store base = rw (stays.sectors_same, stays.content_same base) (same-told (was store (stays.told_before base)))
+    pub fetch-told : {h : Header} {told : Type 0} {disk : Disk} {last : ℕ} → (told → tells → IsTold shape h table fresh passes history disk last content base_sectors) → told → tells' → IsTold shape h table fresh passes' history disk last content' base_sectors'
+    fetch-told {h} {told} {disk} {last} was store base = rw (stays.sectors_same, stays.content_same base) (same-told (was store (stays.told_before base)))
 
 -- The settle of that read.
 
@@ -119,10 +118,7 @@ module _ {shape : Shape} {table : Given} {fresh : List Bool} {regions : List (Op
           → IsKept shape table fresh regions' passes' history spare sectors depth events base_sectors' base_depth' flies base_flies'
       settle_fetch-kept regions' released = rw (stays.sectors_same, stays.depth_same) (settled-block regions' released)
 
-      pub settle_fetch-told : {told : Type 0} {disk : Disk} {last : ℕ} → (told → tells → IsTold shape table fresh passes history disk last content base_sectors) → told → base_tells → IsTold shape table fresh passes' history disk last base base_sectors'
-      settle_fetch-told {told} {disk} {last} was store tell =
-          let before : IsTold shape table fresh passes history disk last base base_sectors = rw (stays.content_same tell) (was store (stays.told_before tell)) in
-          rw stays.sectors_same (record {
-            base_size = before.base_size;
-            faithful = fetch_settled-faithful kept.coherent at step (λ (t : Unit {0}). tell) (λ t. backed kept.coherent base before.base_size) (λ t. before.faithful) tt;
-          })
+      pub settle_fetch-told : {h : Header} {told : Type 0} {disk : Disk} {last : ℕ} → (told → tells → IsTold shape h table fresh passes history disk last content base_sectors) → told → base_tells → IsTold shape h table fresh passes' history disk last base base_sectors'
+      settle_fetch-told {h} {told} {disk} {last} was store tell =
+          let before : IsTold shape h table fresh passes history disk last base base_sectors = rw (stays.content_same tell) (was store (stays.told_before tell)) in
+          rw stays.sectors_same (told-here before refl (λ start faithful. fetch_settled-faithful kept.coherent at step (λ (t : Unit {0}). tell) (λ t. backed kept.coherent base before.base_size) (λ t. faithful) tt))

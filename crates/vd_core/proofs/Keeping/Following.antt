@@ -45,3 +45,10 @@ ask-followed {result} {request} {shape} {i} {table} {table'} {passes} {passes'} 
     absurd (longer history.log.entries _ (sym (ap (λ (h : Numbered). h.log.entries) same) ∙ asked.1.asks.event))
 ask-followed {result} {request} {shape} {i} {table} {table'} {passes} {passes'} {history} {history'} {spare} {spare'} {events} {log} followed at (inr (inr asked)) (inr running) =
     asks-followed followed asked.1.asks asked.1.extends.numbers running
+
+-- no ask changes what the store had told at opening
+pub ask-opened : {result : Option Answer} {request : Asked} {shape : Shape} {i : ℕ} {table table' : Given} {passes passes' : List Pass} {history history' : Numbered} {spare spare' : Room} {events : ℕ}
+    → AskEnds result request shape i table table' passes passes' history history' spare spare' events → history'.opened ≡ history.opened
+ask-opened (inl none) = ap (λ (h : Numbered). h.opened) none.2.history_same
+ask-opened (inr (inl full)) = full.3.extends.opened
+ask-opened (inr (inr asked)) = asked.1.extends.opened

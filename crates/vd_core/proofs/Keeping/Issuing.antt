@@ -1,15 +1,16 @@
 -- Issuing a piece keeps a core.
-use Rattle.std.proofs.Common.{◌≡◌, ℕ, ◌<◌, ◌≤◌, ◌⊎◌, Bool, true, List, [], ◌∷◌, refl, sym, ◌∙◌, ap, subst, inl, inr, arith, Option}
+use Rattle.std.proofs.Common.{◌≡◌, ◌≢◌, ℕ, ◌<◌, ◌≤◌, ◌⊎◌, Bool, true, List, [], ◌∷◌, refl, sym, ◌∙◌, ap, subst, inl, inr, arith, Option, Some, slice_get}
 use Rattle.vd_law.specs.declared.entry.Sector.{Sector}
 use Rattle.vd_law.specs.declared.entry.Room.{Room}
 use Rattle.vd_law.specs.Histories.{Numbered}
 use Rattle.vd_device.specs.declared.ticket.Ticket.{Ticket}
 use Rattle.vd_device.specs.Disks.{Disk}
+use Rattle.vd_format.specs.declared.header.Header.{Header}
 use Rattle.vd_regions.specs.declared.regions.Region.{Region}
 use Rattle.vd_table.specs.Tables.{Given}
 use Rattle.vd_passes.specs.declared.shape.Shape.{Shape}
 use Rattle.vd_passes.specs.declared.pass.Pass.{Pass}
-use Rattle.vd_passes.specs.declared.pass.Phase.TheVariants.{Held, Filled}
+use Rattle.vd_passes.specs.declared.pass.Phase.TheVariants.{Held, Filled, Flushing}
 use Rattle.vd_passes.specs.Needs.{sectors_left, pieces_left, events_needed, sectors_needed, HasRoom}
 use Rattle.vd_passes.specs.Steps.{IsAt, HasAskedWrite, Issues}
 use Rattle.vd_passes.proofs.Lists.{some-inj}
@@ -20,8 +21,9 @@ use Rattle.vd_passes.proofs.Holding.{issues-regions}
 use Rattle.vd_core.specs.Adding.{Extends}
 use Rattle.vd_core.specs.Devices.{Stays}
 use Rattle.vd_core.specs.Issuing.{CanIssue, IsWritable}
-use Rattle.vd_core.specs.Kept.{IsKept, IsTold}
+use Rattle.vd_core.specs.Kept.{IsKept, IsLogged, IsTold}
 use Rattle.vd_core.proofs.Rooming.{can-add, room-used}
+use Rattle.vd_core.proofs.Keeping.Telling.{told-on}
 
 -- a pass whose piece can be issued holds its region
 pub writable-holding : {shape : Shape} {fresh : List Bool} {p : Pass} → IsWritable shape fresh p → IsHolding p
@@ -36,6 +38,13 @@ holding-before p (inr filled) = ap is_before_event filled
 
 pub writing-at : {shape : Shape} {fresh : List Bool} (passes : List Pass) (i : ℕ) → IsAt passes i (IsWritable shape fresh) → IsAt passes i (λ p. ((p.phase ≡ Held) ⊎ (p.phase ≡ Filled)) × (p.write ≡ true))
 writing-at {shape} {fresh} passes i at = (at.0, at.1, (writable-holding at.2, at.2.write))
+
+-- no flush of its is under way
+pub issuer-not : {shape : Shape} {fresh : List Bool} (passes : List Pass) (i : ℕ) → IsAt passes i (IsWritable shape fresh) → (p : Pass) → slice_get passes i ≡ Some p → p.phase ≢ Flushing
+issuer-not {shape} {fresh} passes i at p there flushing = elim (writable-holding (subst (λ (x : Pass). IsWritable shape fresh x) (some-inj (sym at.1 ∙ there)) at.2)) [
+  | inl held ↦ absurd (let e = sym held ∙ flushing in cc)
+  | inr filled ↦ absurd (let e = sym filled ∙ flushing in cc)
+]
 
 -- it needs one event at least, and the sectors that are left
 holding-events : (block : ℕ) (p : Pass) → HasRoom block p → IsHolding p → 0 < p.events
@@ -83,10 +92,7 @@ module _ {shape : Shape} {table : Given} {fresh : List Bool} {regions : List (Op
           storage = rw stays.sectors_same kept.storage;
         }
 
-    pub issue-told : {base_tells : Type 0} {base : List Sector} → (tells → base_tells → IsTold shape table fresh passes history disk last base base_sectors)
-        → tells' → base_tells → IsTold shape table fresh passes' history' disk' last' base base_sectors
-    issue-told {base_tells} {base} was told base_told =
-        record {
-          base_size = (was (step.told_before told) base_told).base_size;
-          faithful = issues-faithful content kept.coherent (writing-at passes i at) asked step (λ before. (was before base_told).faithful) told;
-        }
+    pub issue-told : {h : Header} {base_tells : Type 0} {base : List Sector} → history'.opened ≡ history.opened → (tells → IsLogged passes history disk) → (tells → base_tells → IsTold shape h table fresh passes history disk last base base_sectors)
+        → tells' → base_tells → IsTold shape h table fresh passes' history' disk' last' base base_sectors
+    issue-told {h} {base_tells} {base} opened logged was told base_told = let before = step.told_before told in
+        told-on (was before base_told) (logged before) (_, (step.told told).0) opened (λ start faithful. issues-faithful content kept.coherent (writing-at passes i at) asked step (λ b. faithful) told)

@@ -7,6 +7,7 @@ use Rattle.vd_law.specs.Entries.{Entry}
 use Rattle.vd_law.specs.Histories.{Numbered}
 use Rattle.vd_device.specs.declared.ticket.Ticket.{Ticket}
 use Rattle.vd_device.specs.Disks.{Disk}
+use Rattle.vd_format.specs.declared.header.Header.{Header}
 use Rattle.vd_regions.specs.declared.regions.Region.{Region}
 use Rattle.vd_table.specs.Tables.{Given}
 use Rattle.vd_reading.specs.Background.{zero_sector}
@@ -28,9 +29,10 @@ use Rattle.vd_passes.proofs.LookSteps.{looks-coherent, looks-faithful, looks_at_
 use Rattle.vd_core.specs.Adding.{CanAdd, Extends}
 use Rattle.vd_core.specs.Devices.{Stays, BaseStays}
 use Rattle.vd_core.specs.Looking.{IsReader}
-use Rattle.vd_core.specs.Kept.{IsKept, IsTold}
+use Rattle.vd_core.specs.Kept.{IsKept, IsLogged, IsTold}
 use Rattle.vd_core.proofs.Rooming.{can-add, room-used, room-same}
 use Rattle.vd_core.proofs.Keeping.Devices.{backed}
+use Rattle.vd_core.proofs.Keeping.Telling.{told-on, told-here}
 
 -- the zeros are those of a piece of which the base has nothing
 pub zeros-seen : {shape : Shape} {i : ℕ} {passes passes' : List Pass} {history history' : List Entry} {out out' : List Sector} {P : Pass → Type 0} → IsAt passes i (λ p. below shape.limit (p.first + p.done) p.piece ≡ 0)
@@ -83,11 +85,10 @@ module _ {shape : Shape} {table : Given} {fresh : List Bool} {regions : List (Op
       storage = rw stays.sectors_same kept.storage;
     }
 
-    pub look-told : {base_told : Type 0} {base : List Sector} → (tells → base_told → IsTold shape table fresh passes history disk last base base_sectors) → tells' → base_told → IsTold shape table fresh passes' history disk' last' base base_sectors
-    look-told {base_told} {base} was store tell = record {
-      base_size = (was (step.told_before store) tell).base_size;
-      faithful = looks-faithful kept.coherent (to-look true at) step (λ told. (was told tell).faithful) store;
-    }
+    pub look-told : {h : Header} {base_told : Type 0} {base : List Sector} → (tells → IsLogged passes history disk) → (tells → base_told → IsTold shape h table fresh passes history disk last base base_sectors) → tells' → base_told
+        → IsTold shape h table fresh passes' history disk' last' base base_sectors
+    look-told {h} {base_told} {base} logged was store tell = let before = step.told_before store in
+        told-on (was before tell) (logged before) (_, (step.told store).0) refl (λ start faithful. looks-faithful kept.coherent (to-look true at) step (λ told. faithful) store)
 
   -- The look in the base.
   pub can-look-in-base : (at : IsAt passes i (λ p. IsReader p × (slice_get fresh p.block ≡ Some false) × (0 < below shape.limit (p.first + p.done) p.piece)))
@@ -106,13 +107,10 @@ module _ {shape : Shape} {table : Given} {fresh : List Bool} {regions : List (Op
       storage = kept.storage;
     }
 
-    pub base_look-told : {told : Type 0} {disk : Disk} {last : ℕ} → (told → tells → IsTold shape table fresh passes history disk last content base_sectors) → told → tells' → IsTold shape table fresh passes' history disk last content' base_sectors'
-    base_look-told {told} {disk} {last} was store tell =
-        let before : IsTold shape table fresh passes history disk last content' base_sectors = rw (stays.content_same tell) (was store (stays.told_before tell)) in
-        rw stays.sectors_same (record {
-          base_size = before.base_size;
-          faithful = looks_at_base-faithful kept.coherent (to-look false at) step (λ (t : Unit {0}). before.faithful) tt;
-        })
+    pub base_look-told : {h : Header} {told : Type 0} {disk : Disk} {last : ℕ} → (told → tells → IsTold shape h table fresh passes history disk last content base_sectors) → told → tells' → IsTold shape h table fresh passes' history disk last content' base_sectors'
+    base_look-told {h} {told} {disk} {last} was store tell =
+        let before : IsTold shape h table fresh passes history disk last content' base_sectors = rw (stays.content_same tell) (was store (stays.told_before tell)) in
+        rw stays.sectors_same (told-here before refl (λ start faithful. looks_at_base-faithful kept.coherent (to-look false at) step (λ (t : Unit {0}). faithful) tt))
 
   -- The piece is zeros.
   module _ (at : IsAt passes i (λ p. IsReader p × (slice_get fresh p.block ≡ Some false))) where
@@ -141,9 +139,7 @@ module _ {shape : Shape} {table : Given} {fresh : List Bool} {regions : List (Op
             storage = kept.storage;
           }
 
-      pub zeros-told : {tells base_tells : Type 0} {disk : Disk} {last : ℕ} {base : List Sector} → (tells → base_tells → IsTold shape table fresh passes history disk last base base_sectors)
-          → tells → base_tells → IsTold shape table fresh passes' history' disk last base base_sectors
-      zeros-told {tells} {base_tells} {disk} {last} {base} was store tell = let old = was store tell in record {
-        base_size = old.base_size;
-        faithful = sees_zeros-faithful kept.coherent (to-look false at) step base (λ (t : Unit {0}). backed kept.coherent base old.base_size) (λ t. old.faithful) tt;
-      }
+      pub zeros-told : {h : Header} {tells base_tells : Type 0} {disk : Disk} {last : ℕ} {base : List Sector} → history'.opened ≡ history.opened → (tells → base_tells → IsTold shape h table fresh passes history disk last base base_sectors)
+          → tells → base_tells → IsTold shape h table fresh passes' history' disk last base base_sectors
+      zeros-told {h} {tells} {base_tells} {disk} {last} {base} opened was store tell = let old = was store tell in
+          told-here old opened (λ start faithful. sees_zeros-faithful kept.coherent (to-look false at) step base (λ (t : Unit {0}). backed kept.coherent base old.base_size) (λ t. faithful) tt)

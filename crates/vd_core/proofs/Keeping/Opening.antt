@@ -1,52 +1,45 @@
 -- A core as it is made keeps what its type keeps.
-use Rattle.std.proofs.Common.{◌≡◌, ℕ, suc, ◌+◌, ◌-◌, ◌*◌, ◌/◌, ◌^◌, ◌<◌, ◌≤◌, Bool, true, false, List, [], ◌∷◌, ◌++◌, length, map, replicate, refl, sym, ◌∙◌, ap, subst, inl, arith, Option, None, Some, slice_get}
-use Rattle.std.specs.List.{sum_by, Contains}
+use Rattle.std.proofs.Common.{◌≡◌, ℕ, suc, ◌+◌, ◌-◌, ◌*◌, ◌/◌, ◌^◌, ◌<◌, ◌≤◌, Bool, List, [], ◌∷◌, ◌++◌, length, map, replicate, refl, sym, ◌∙◌, ap, subst, inl, arith, Option, None, Some, slice_get}
+use Rattle.std.specs.List.{sum_by}
 use Rattle.std.proofs.Math.Nat.{div-add-mod, div-le_self, div-mul-le_self, le-div_iff_mul-le, add-div_right, mul_assoc}
-use Rattle.std.specs.List.{All}
-use Rattle.std.specs.Option.{option_to_list}
-use Rattle.std.proofs.lemmas.List.Elements.{All-head}
 use Rattle.std.proofs.lemmas.List.Sums.{sum_by-cons}
-use Rattle.std.proofs.lemmas.List.FromFn.{length-map-range_with_len}
 use Rattle.std.proofs.lemmas.List.{length-replicate}
-use Rattle.std.proofs.lemmas.Option.{slice_get_within}
 use Rattle.vd_law.specs.declared.entry.Sector.{Sector}
 use Rattle.vd_law.specs.declared.entry.Room.{Room}
-use Rattle.vd_law.specs.Entries.{past}
-use Rattle.vd_law.specs.Contents.{Open, open_writes}
 use Rattle.vd_device.specs.declared.ticket.Ticket.{Ticket}
-use Rattle.vd_device.specs.Disks.{Disk, AreWrites, IsOneOf}
 use Rattle.vd_format.specs.declared.header.Header.{Header}
 use Rattle.vd_format.specs.Headers.{IsValid}
-use Rattle.vd_format.specs.Layouts.{blocks_of, chunks_of, need_of}
+use Rattle.vd_format.specs.Layouts.{blocks_of, need_of}
 use Rattle.vd_format.proofs.Rules.{block_within, chunk_within, size_within}
-use Rattle.vd_reading.specs.Background.{zero_sector, background, background_run}
-use Rattle.vd_reading.proofs.BackgroundLaws.{slice_get_replicate, slice_get_run}
-use Rattle.vd_table.specs.Tables.{Given}
+use Rattle.vd_reading.specs.Background.{zero_sector}
+use Rattle.vd_table.specs.Tables.{Given, IsOneToOne}
+use Rattle.vd_replay.specs.declared.state.State.{State}
+use Rattle.vd_replay.specs.States.{IsWhole}
+use Rattle.vd_replay.proofs.Starting.{whole-storage}
 use Rattle.vd_passes.specs.declared.shape.Shape.{Shape}
 use Rattle.vd_passes.specs.declared.pass.Pass.{Pass}
 use Rattle.vd_passes.specs.declared.pass.Phase.TheVariants.{Idle}
-use Rattle.vd_passes.specs.Tracks.{track, writes, content_by}
+use Rattle.vd_passes.specs.Tracks.{writes}
 use Rattle.vd_passes.specs.Standings.{Standing, standing}
 use Rattle.vd_passes.specs.Places.{IsShape, place_of}
 use Rattle.vd_passes.specs.Passes.{has_region, region_of, ticket_of, tickets_of, fetches_of, writes_in, IsNew, HasTicket, StandsAs}
 use Rattle.vd_passes.specs.Coherent.{IsCoherent}
 use Rattle.vd_regions.specs.declared.regions.Region.{Region}
-use Rattle.vd_passes.proofs.Tracks.{track-writes, is-one}
 use Rattle.vd_passes.proofs.Holding.{region-none}
 use Rattle.vd_passes.proofs.Standing.{standing-nothing}
-use Rattle.vd_passes.proofs.PlacesGiven.{place-from}
+use Rattle.vd_passes.proofs.PlacesGiven.{are-places, has-place}
 use Rattle.vd_passes.proofs.Needing.{room-idle}
-use Rattle.vd_core.specs.Kept.{IsRoomy, IsStorage, IsKept, IsTold, start_of}
+use Rattle.vd_core.specs.Kept.{IsRoomy, IsStorage, IsKept}
 use Rattle.vd_core.specs.Opening.{shape_of, AreNew, empty_history}
 
 -- The shape of a header's disk.
 
-whole : (h : Header) → IsValid h → h.block * blocks_of h ≡ h.size
-whole h valid = let parts = div-add-mod h.size h.block in let rest = valid.whole_blocks in omega arith
+pub whole-blocks : (h : Header) → IsValid h → h.block * blocks_of h ≡ h.size
+whole-blocks h valid = let parts = div-add-mod h.size h.block in let rest = valid.whole_blocks in omega arith
 
 shaped : (h : Header) (sectors base_sectors : ℕ) → IsValid h → sectors < 2 ^ 64 → IsShape (shape_of h base_sectors) sectors base_sectors
 shaped h sectors base_sectors valid bounded =
-    let block = block_within h valid in let chunk = chunk_within h valid in let all = whole h valid in let size = size_within h valid in let tracked = valid.tracked in let slots = valid.some_slot in
+    let block = block_within h valid in let chunk = chunk_within h valid in let all = whole-blocks h valid in let size = size_within h valid in let tracked = valid.tracked in let slots = valid.some_slot in
     record {
       some = omega (arith, block.0);
       small = block.1;
@@ -58,26 +51,6 @@ shaped h sectors base_sectors valid bounded =
       header = omega (arith, slots);
       bounded = bounded;
     }
-
--- No chunk has storage.
-
-abbrev none_of : ℕ → List (Option ℕ)
-none_of n = replicate n None
-
-nothing-there : (n i p : ℕ) → slice_get (none_of n) i ≡ Some (Some p) → ⊥
-nothing-there n i p there =
-    let within = slice_get_within (none_of n) i (Some p) there in let long : length (none_of n) ≡ n = length-replicate n None in
-    let read : slice_get (none_of n) i ≡ Some None = slice_get_replicate n None i (omega arith) in
-    let both : Some None ≡ Some (Some p) = sym read ∙ there in cc
-
-no-place : (shape : Shape) (n b x : ℕ) → place_of shape (none_of n) b ≡ Some x → ⊥
-no-place shape n b x at = let from = place-from shape (none_of n) b x at in nothing-there n (b / shape.chunk) from.0 from.1
-
-no-fresh : (n b : ℕ) → slice_get (replicate n false) b ≡ Some true → ⊥
-no-fresh n b there =
-    let within = slice_get_within (replicate n false) b true there in let long = length-replicate n false in
-    let read : slice_get (replicate n false) b ≡ Some false = slice_get_replicate n false b (omega arith) in
-    let both : Some false ≡ Some true = sym read ∙ there in cc
 
 -- Nobody holds or has anything.
 
@@ -114,6 +87,9 @@ new-stands {buffer} shape fresh places i p new long = subst (λ (t : Standing). 
   write = λ is. absurd (let none = sym (ap writes_in new.phase) ∙ is in cc);
   read = λ is. absurd (let other = sym new.phase ∙ is in cc);
   left = λ is. absurd (let other = sym new.phase ∙ is in cc);
+  flush = λ is. absurd (let other = sym new.phase ∙ is in cc);
+  no_flush = λ is. absurd (let none = sym (ap has_region new.phase) ∙ is in cc);
+  unstarted = λ is. absurd (is new.phase);
   placed = λ is. absurd (is new.phase);
   piece = λ is. absurd (let none = sym (ap has_region new.phase) ∙ is in cc);
   at = λ is. absurd (let none = sym (ap has_region new.phase) ∙ is in cc);
@@ -125,15 +101,6 @@ no-writes : (s : ℕ) → writes [] s ≡ []
 unfolding writes
 no-writes s = refl
 
-nobody-writes : (ws : List Open) (a : ℕ) → All (IsOneOf [] a) ws → ws ≡ []
-nobody-writes [] a all = refl
-nobody-writes (w ∷ ws) a all = absurd (let one = (All-head (IsOneOf [] a) w ws all).among in let within = one.1 in omega arith)
-
--- nothing is being written where nothing is in flight
-quiet : (disk : Disk) (a : ℕ) → AreWrites [] disk → (track disk.start disk.log a).writes ≡ []
-unfolding writes
-quiet disk a none = track-writes disk.start disk.log a ∙ ap (map content_by) (nobody-writes (open_writes (past disk.log) a) a (none a))
-
 -- the chunk of a block of the disk is one of its chunks
 chunk-inside : (blocks chunk b : ℕ) → 1 ≤ chunk → b < blocks → b / chunk < (blocks + chunk - 1) / chunk
 chunk-inside blocks chunk b some inside =
@@ -144,27 +111,52 @@ chunk-inside blocks chunk b some inside =
     let goal : b / chunk < ((blocks - 1) + chunk) / chunk = omega (arith, less, more) in
     subst (λ (n : ℕ). b / chunk < n / chunk) (sym same) goal
 
-module _ (h : Header) (valid : IsValid h) (passes : List Pass) (count sectors depth events base_sectors base_depth : ℕ) (room : Room) (flies base_flies : List Ticket → Type 0)
-    (fits : need_of h ≤ sectors) (bounded : sectors < 2 ^ 64) (deep : 128 ≤ depth) (base_deep : 128 ≤ base_depth) (idle : flies []) (base_idle : base_flies [])
-    (few : count ≤ 64) (new : AreNew count h.block passes) (counted : room.events < 2 ^ 64) where
+-- no two chunks have one storage chunk, and there is each that a chunk has
+one-to-one : (s : State) → IsWhole s → IsOneToOne s.table
+one-to-one s whole = record {
+  apart = whole.placed.apart;
+  inside = λ chunk p has.
+      let given = whole.placed.given chunk p has in
+      let entry = whole.entries.each chunk given.1.0 (let within = given.0 in let many = whole.sized.map in omega (arith, within, many)) given.1.1 in
+      let fits = entry.storage in let is = given.1.2 in let all = whole.sized.storage in omega (arith, fits, is, all);
+}
+
+module _ (s : State) (whole : IsWhole s) (passes : List Pass) (count sectors depth events base_sectors base_depth : ℕ) (room : Room) (flies base_flies : List Ticket → Type 0)
+    (fits : need_of s.header ≤ sectors) (bounded : sectors < 2 ^ 64) (deep : 128 ≤ depth) (base_deep : 128 ≤ base_depth) (idle : flies []) (base_idle : base_flies [])
+    (few : count ≤ 64) (new : AreNew count s.header.block passes) (counted : room.events < 2 ^ 64) where
+  abbrev h : Header
+  h = s.header
+
+  valid : IsValid h
+  valid = whole.sized.valid
+
   abbrev shape : Shape
   shape = shape_of h base_sectors
 
   abbrev table : Given
-  table = record { chunks = none_of (chunks_of h); storage = h.storage }
+  table = s.table
 
   abbrev fresh : List Bool
-  fresh = replicate (blocks_of h) false
+  fresh = s.fresh.bits
 
   is-idle : (i : ℕ) (p : Pass) → slice_get passes i ≡ Some p → p.phase ≡ Idle
   is-idle i p there = (new.each i p there).phase
 
+  storage : IsStorage shape table sectors
+  storage = record {
+    chunks = λ b inside. let many = whole.sized.table in let less = chunk-inside (blocks_of h) h.chunk b (chunk_within h valid).0 inside in omega arith;
+    few = let many = whole.sized.table in let less = div-le_self (blocks_of h + h.chunk - 1) h.chunk in let blocks = div-le_self h.size h.block in
+        let size = size_within h valid in let chunk = (chunk_within h valid).1 in omega arith;
+    one_to_one = one-to-one s whole;
+    inside = let same : s.table.storage * (h.chunk * h.block) ≡ h.storage * h.chunk * h.block = ap (λ (n : ℕ). n * (h.chunk * h.block)) whole.sized.storage ∙ sym (mul_assoc h.storage h.chunk h.block) in omega (arith, same, fits);
+  }
+
   coherent : IsCoherent shape fresh (place_of shape table.chunks) passes [] sectors depth base_sectors base_depth flies base_flies
   coherent = record {
     shaped = shaped h sectors base_sectors valid bounded;
-    size = length-replicate (blocks_of h) false;
-    placed = record { apart = λ b c x y at_b at_c. absurd (no-place shape (chunks_of h) b x at_b); inside = λ b x at. absurd (no-place shape (chunks_of h) b x at) };
-    fresh_placed = λ b is. absurd (no-fresh (blocks_of h) b is);
+    size = whole.sized.fresh;
+    placed = are-places shape table (one-to-one s whole) (let chunk = (chunk_within h valid).0 in omega (arith, chunk)) storage.inside;
+    fresh_placed = λ b is. let stored = whole-storage s b whole is in has-place shape table.chunks b stored.0 stored.1;
     regular = record { in_turn = tt; in_place = tt; alone = tt; answered = tt };
     few = let many = new.many in omega arith;
     deep = deep;
@@ -173,7 +165,7 @@ module _ (h : Header) (valid : IsValid h) (passes : List Pass) (count sectors de
     apart = λ i j p q there_p there_q other has_p. absurd (let none = sym (ap has_region (is-idle i p there_p)) ∙ has_p in cc);
     flight = subst flies (sym (no-tickets passes (λ i p there. (new.each i p there).ticket))) idle;
     base_flight = subst base_flies (sym (no-fetches passes (λ i p there. (new.each i p there).fetch))) base_idle;
-    guest = λ s. inl (record { nobody = λ i p there w. let phase = w.phase in let other = sym (is-idle i p there) ∙ phase in cc; none = no-writes s });
+    guest = λ x. inl (record { nobody = λ i p there w. let phase = w.phase in let other = sym (is-idle i p there) ∙ phase in cc; none = no-writes x });
   }
 
   roomy : IsRoomy h.block passes (empty_history room events) room events
@@ -186,18 +178,6 @@ module _ (h : Header) (valid : IsValid h) (passes : List Pass) (count sectors de
     bounded = counted;
   }
 
-  storage : IsStorage shape table sectors
-  storage = record {
-    chunks = λ b inside. let long : length (none_of (chunks_of h)) ≡ chunks_of h = length-replicate (chunks_of h) None in let less = chunk-inside (blocks_of h) h.chunk b (chunk_within h valid).0 inside in omega arith;
-    few = let long : length (none_of (chunks_of h)) ≡ chunks_of h = length-replicate (chunks_of h) None in let less = div-le_self (blocks_of h + h.chunk - 1) h.chunk in let blocks = div-le_self h.size h.block in
-        let size = size_within h valid in let chunk = (chunk_within h valid).1 in omega arith;
-    one_to_one = record {
-      apart = λ a b p has_a has_b. absurd (nothing-there (chunks_of h) a p has_a);
-      inside = λ chunk p has. absurd (nothing-there (chunks_of h) chunk p has);
-    };
-    inside = let same : h.storage * (h.chunk * h.block) ≡ h.storage * h.chunk * h.block = sym (mul_assoc h.storage h.chunk h.block) in omega (arith, same, fits);
-  }
-
   pub opened-kept : IsKept shape table fresh (replicate count None) passes (empty_history room events) room sectors depth events base_sectors base_depth flies base_flies
   opened-kept = record {
     coherent = coherent;
@@ -205,38 +185,3 @@ module _ (h : Header) (valid : IsValid h) (passes : List Pass) (count sectors de
     roomy = roomy;
     storage = storage;
   }
-
-  -- Where the devices tell: nothing is being written.
-  module _ (disk : Disk) (last : ℕ) (base : List Sector) (base_size : length base ≡ base_sectors) (writes_none : AreWrites [] disk) where
-    abbrev start : List Sector
-    start = start_of shape base
-
-    long : length start ≡ shape.block * shape.blocks
-    unfolding background_run
-    long = length-map-range_with_len (background base shape.tracked) 0 (shape.block * shape.blocks)
-
-    starts : (s : ℕ) → s < length start → (track start [] s).contents ≡ background base shape.tracked s ∷ []
-    unfolding track background_run
-    starts s inside = let size = long in
-        ap option_to_list (slice_get_run (background base shape.tracked) 0 (shape.block * shape.blocks) s (omega arith))
-        ∙ ap (λ (n : ℕ). background base shape.tracked n ∷ []) (let plain : 0 + s ≡ s = omega arith in plain)
-
-    pub opened-told : IsTold shape table fresh passes (empty_history room events) disk last base base_sectors
-    opened-told = record {
-      base_size = base_size;
-      faithful = record {
-        size = long;
-        shown = tt;
-        numbers = λ i p t there has. absurd (let none = sym (new.each i p there).ticket ∙ has in cc);
-        distinct = λ i j p q t u there_p there_q other has_t. absurd (let none = sym (new.each i p there_p).ticket ∙ has_t in cc);
-        stands = λ s inside. record {
-          local = λ b x in_b is. absurd (no-fresh (blocks_of h) b is);
-          other = λ b in_b is. subst (λ (cs : List Sector). Contains cs (background base shape.tracked s)) (sym (starts s inside)) (is-one (background base shape.tracked s));
-        };
-        filling = λ a. inl (record {
-          nobody = λ i p there w. let phase = w.phase in let other = sym (is-idle i p there) ∙ phase in cc;
-          none = quiet disk a writes_none;
-        });
-        buffers = λ i p there is. absurd (let other = sym (is-idle i p there) ∙ is in cc);
-      };
-    }

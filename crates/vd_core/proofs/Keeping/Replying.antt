@@ -1,5 +1,5 @@
 -- A reply keeps a core.
-use Rattle.std.proofs.Common.{◌≡◌, ℕ, Bool, false, List, [], ◌∷◌, refl, sym, ◌∙◌, ap, subst, arith, Option, Some, None, slice_get}
+use Rattle.std.proofs.Common.{◌≡◌, ℕ, Bool, false, List, [], ◌∷◌, refl, sym, ◌∙◌, ap, subst, inl, inr, arith, Option, Some, None, slice_get}
 use Rattle.std.specs.Prelude.{◌↔◌}
 use Rattle.vd_law.specs.declared.entry.Sector.{Sector}
 use Rattle.vd_law.specs.declared.entry.Room.{Room}
@@ -9,6 +9,7 @@ use Rattle.vd_law.specs.Entries.{Entry}
 use Rattle.vd_law.specs.Histories.{Numbered}
 use Rattle.vd_device.specs.declared.ticket.Ticket.{Ticket}
 use Rattle.vd_device.specs.Disks.{Disk}
+use Rattle.vd_format.specs.declared.header.Header.{Header}
 use Rattle.vd_regions.specs.declared.regions.Region.{Region}
 use Rattle.vd_table.specs.Tables.{Given}
 use Rattle.vd_passes.specs.declared.shape.Shape.{Shape}
@@ -26,12 +27,14 @@ use Rattle.vd_core.specs.Adding.{Extends}
 use Rattle.vd_core.specs.Asking.{CanReply, IsOkWhereDone, freed}
 use Rattle.vd_core.specs.Kept.{IsRoomy, IsKept, IsTold}
 use Rattle.vd_core.proofs.Reserving.{room-shared}
+use Rattle.vd_core.proofs.Keeping.Telling.{told-here}
 
--- an answer is Ok exactly where all is done
-ok-where : (p : Pass) (broken : Bool) (f : Option Fault) → HasOutcome p broken f → (answer_by f p.done ≡ Ok) ↔ (p.done ≡ p.count)
-ok-where p broken None outcome = (λ is. outcome.0, λ is. refl)
-ok-where p broken (Some (fault.Store ticket)) outcome = (λ is. absurd (cc), λ is. absurd (let less = outcome.0 in omega arith))
-ok-where p broken (Some (fault.Base ticket)) outcome = (λ is. absurd (cc), λ is. absurd (let less = outcome.0 in omega arith))
+-- an answer to a read or a write is Ok exactly where all is done
+ok-where : (p : Pass) (broken : Bool) (f : Option Fault) → HasOutcome p broken f → p.flush ≡ false → (answer_by f p.done ≡ Ok) ↔ (p.done ≡ p.count)
+ok-where p broken None outcome data_call = (λ is. outcome.0, λ is. refl)
+ok-where p broken (Some (fault.Store ticket)) outcome data_call = (λ is. absurd (cc), λ is. elim outcome.0 [ inl flush ↦ absurd (let f = sym flush ∙ data_call in cc) | inr less ↦ absurd (omega arith) ])
+ok-where p broken (Some (fault.Base ticket)) outcome data_call = (λ is. absurd (cc), λ is. absurd (let less = outcome.0 in omega arith))
+ok-where p broken (Some (fault.Worn generation)) outcome data_call = absurd (let f = sym outcome.0 ∙ data_call in cc)
 
 module _ {shape : Shape} {table : Given} {fresh : List Bool} {regions : List (Option Region)} {passes : List Pass} {history : Numbered} {spare : Room} {sectors depth events base_sectors base_depth : ℕ} {flies base_flies : List Ticket → Type 0}
     (i : ℕ) (kept : IsKept shape table fresh regions passes history spare sectors depth events base_sectors base_depth flies base_flies) (at : IsAt passes i (λ p. p.phase ≡ Ready)) where
@@ -74,5 +77,5 @@ module _ {shape : Shape} {table : Given} {fresh : List Bool} {regions : List (Op
       storage = kept.storage;
     }
 
-    pub reply-told : {disk : Disk} {last : ℕ} {base : List Sector} → IsTold shape table fresh passes history disk last base base_sectors → IsTold shape table fresh passes' history' disk last base base_sectors
-    reply-told {disk} {last} {base} told = record { base_size = told.base_size; faithful = replies-faithful kept.coherent at step told.faithful }
+    pub reply-told : {h : Header} {disk : Disk} {last : ℕ} {base : List Sector} → history'.opened ≡ history.opened → IsTold shape h table fresh passes history disk last base base_sectors → IsTold shape h table fresh passes' history' disk last base base_sectors
+    reply-told {h} {disk} {last} {base} opened told = told-here told opened (λ start faithful. replies-faithful kept.coherent at step faithful)

@@ -9,6 +9,7 @@ use Rattle.vd_device.specs.declared.ticket.Kind.TheVariants.{Read as ReadKind}
 use Rattle.vd_device.specs.declared.settled.Settled.{Settled}
 use Rattle.vd_device.specs.declared.settled.Settled.TheVariants as settled
 use Rattle.vd_device.specs.Disks.{Disk}
+use Rattle.vd_format.specs.declared.header.Header.{Header}
 use Rattle.vd_regions.specs.declared.regions.Region.{Region}
 use Rattle.vd_table.specs.Tables.{Given}
 use Rattle.vd_passes.specs.declared.shape.Shape.{Shape}
@@ -29,13 +30,15 @@ use Rattle.vd_passes.proofs.LookSteps.{look_settled-coherent, look_settled-faith
 use Rattle.vd_core.specs.Adding.{CanAdd, Extends}
 use Rattle.vd_core.specs.Devices.{Stays, BaseStays}
 use Rattle.vd_core.specs.Outcomes.{outcome_of, read_numbers_of, read_sectors_of, released}
-use Rattle.vd_core.specs.Kept.{IsKept, IsTold, IsRoomy}
+use Rattle.vd_core.specs.Kept.{IsKept, IsLogged, IsTold, IsRoomy}
 use Rattle.vd_core.proofs.Rooming.{room-used, room-late}
 use Rattle.vd_core.proofs.Keeping.Devices.{backed}
 use Rattle.vd_core.proofs.Keeping.Looking.{has-room-to-see}
 use Rattle.vd_core.proofs.Keeping.Settling.{released-ended}
+use Rattle.vd_core.proofs.Starting.{settle-goes-on}
+use Rattle.vd_core.proofs.Keeping.Telling.{told-on, told-here}
 
-not-some : {X : Type 0} (o : Option X) → o ≡ None → IsSome o → ⊥
+pub not-some : {X : Type 0} (o : Option X) → o ≡ None → IsSome o → ⊥
 not-some None is some = cc
 not-some (Some x) is some = cc
 
@@ -139,12 +142,10 @@ module _ {shape : Shape} {table : Given} {fresh : List Bool} {regions : List (Op
         storage = rw stays.sectors_same kept.storage;
       }
 
-      pub settle_look-told : {base_tells : Type 0} {base : List Sector} → (tells → base_tells → IsTold shape table fresh passes history disk last base base_sectors) → tells' → base_tells
-          → IsTold shape table fresh passes' history' disk' last' base base_sectors
-      settle_look-told {base_tells} {base} was store tell = record {
-        base_size = (was (step.told_before store) tell).base_size;
-        faithful = look_settled-faithful kept.coherent at step (λ told. (was told tell).faithful) store;
-      }
+      pub settle_look-told : {h : Header} {base_tells : Type 0} {base : List Sector} → history'.opened ≡ history.opened → (tells → IsLogged passes history disk) → (tells → base_tells → IsTold shape h table fresh passes history disk last base base_sectors)
+          → tells' → base_tells → IsTold shape h table fresh passes' history' disk' last' base base_sectors
+      settle_look-told {h} {base_tells} {base} opened logged was store tell = let before = step.told_before store in
+          told-on (was before tell) (logged before) (settle-goes-on (step.told store)) opened (λ start faithful. look_settled-faithful kept.coherent at step (λ told. faithful) store)
 
     -- It came from the base.
     module _ {answer : Settled} {passes' : List Pass} {history' : Numbered} {base_flies' : List Ticket → Type 0} {base_tells : Type 0} {base out out' : List Sector}
@@ -159,11 +160,8 @@ module _ {shape : Shape} {table : Given} {fresh : List Bool} {regions : List (Op
         storage = kept.storage;
       }
 
-      pub settle_base_look-told : {told : Type 0} {disk : Disk} {last : ℕ} → (told → tells → IsTold shape table fresh passes history disk last content base_sectors) → told → base_tells
-          → IsTold shape table fresh passes' history' disk last base base_sectors'
-      settle_base_look-told {told} {disk} {last} was store tell =
-          let before : IsTold shape table fresh passes history disk last base base_sectors = rw (stays.content_same tell) (was store (stays.told_before tell)) in
-          rw stays.sectors_same (record {
-            base_size = before.base_size;
-            faithful = base_look_settled-faithful kept.coherent at step (λ (t : Unit {0}). tell) (λ t. backed kept.coherent base before.base_size) (λ t. before.faithful) tt;
-          })
+      pub settle_base_look-told : {h : Header} {told : Type 0} {disk : Disk} {last : ℕ} → history'.opened ≡ history.opened → (told → tells → IsTold shape h table fresh passes history disk last content base_sectors) → told → base_tells
+          → IsTold shape h table fresh passes' history' disk last base base_sectors'
+      settle_base_look-told {h} {told} {disk} {last} opened was store tell =
+          let before : IsTold shape h table fresh passes history disk last base base_sectors = rw (stays.content_same tell) (was store (stays.told_before tell)) in
+          rw stays.sectors_same (told-here before opened (λ start faithful. base_look_settled-faithful kept.coherent at step (λ (t : Unit {0}). tell) (λ t. backed kept.coherent base before.base_size) (λ t. faithful) tt))

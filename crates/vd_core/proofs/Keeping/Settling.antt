@@ -1,5 +1,5 @@
 -- Settling a write keeps a core.
-use Rattle.std.proofs.Common.{◌≡◌, ℕ, ◌<◌, ◌≤◌, Bool, List, length, refl, sym, ◌∙◌, ap, arith, Option}
+use Rattle.std.proofs.Common.{◌≡◌, ℕ, ◌<◌, ◌≤◌, Bool, List, length, refl, sym, ◌∙◌, ap, subst, arith, Option, Some, slice_get}
 use Rattle.vd_law.specs.declared.entry.Sector.{Sector}
 use Rattle.vd_law.specs.declared.entry.Room.{Room}
 use Rattle.vd_law.specs.Entries.{Entry}
@@ -9,6 +9,7 @@ use Rattle.vd_device.specs.declared.ticket.Kind.TheVariants.{Write as WriteKind}
 use Rattle.vd_device.specs.declared.settled.Settled.{Settled}
 use Rattle.vd_device.specs.declared.settled.Settled.TheVariants as settled
 use Rattle.vd_device.specs.Disks.{Disk}
+use Rattle.vd_format.specs.declared.header.Header.{Header}
 use Rattle.vd_regions.specs.declared.regions.Region.{Region}
 use Rattle.vd_table.specs.Tables.{Given}
 use Rattle.vd_passes.specs.declared.shape.Shape.{Shape}
@@ -25,8 +26,10 @@ use Rattle.vd_passes.proofs.Holding.{regions_ended, write_settled-regions}
 use Rattle.vd_core.specs.Adding.{CanAdd, Extends}
 use Rattle.vd_core.specs.Outcomes.{outcome_of, numbers_of, released}
 use Rattle.vd_core.specs.Devices.{Stays}
-use Rattle.vd_core.specs.Kept.{IsRoomy, IsKept, IsTold}
+use Rattle.vd_core.specs.Kept.{IsRoomy, IsKept, IsLogged, IsTold}
 use Rattle.vd_core.proofs.Rooming.{can-add, room-used, room-late}
+use Rattle.vd_core.proofs.Starting.{settle-goes-on}
+use Rattle.vd_core.proofs.Keeping.Telling.{told-on}
 
 -- what is released is what a settle with which a piece ends leaves
 pub released-ended : (answer : Settled) (i : ℕ) (regions : List (Option Region)) → released (outcome_of answer) i regions ≡ regions_ended answer i regions
@@ -38,6 +41,9 @@ module _ {shape : Shape} {table : Given} {fresh : List Bool} {regions : List (Op
     (kept : IsKept shape table fresh regions passes history spare sectors depth events base_sectors base_depth flies base_flies) (i : ℕ) (at : IsAt passes i (λ p. p.phase ≡ Issuing)) where
   pub waiting-issue : IsAt passes i (λ p. IsWaiting WriteKind shape flies p × (p.block < length fresh))
   waiting-issue = let w = waiting-write kept.coherent i at in (w.0, w.1, (w.2, let d = w.2.piece.in_disk in let s = kept.coherent.size in omega (arith, d, s)))
+
+  pub settled-block : (p : Pass) → slice_get passes i ≡ Some p → p.block < length fresh
+  settled-block p there = subst (λ (x : Pass). x.block < length fresh) (some-inj (sym waiting-issue.1 ∙ there)) waiting-issue.2.1
 
   -- the end of the write has its event
   pub can-end : CanAdd 0 history events
@@ -75,10 +81,8 @@ module _ {shape : Shape} {table : Given} {fresh : List Bool} {regions : List (Op
           storage = rw stays.sectors_same kept.storage;
         }
 
-    pub settle_issue-told : {answer : Settled} {base_tells : Type 0} {base : List Sector} → WriteSettled answer i fresh fresh' passes passes' history.log.entries history'.log.entries flies flies' tells tells' disk disk' last last'
-        → (tells → base_tells → IsTold shape table fresh passes history disk last base base_sectors) → tells' → base_tells → IsTold shape table fresh' passes' history' disk' last' base base_sectors
-    settle_issue-told {answer} {base_tells} {base} step was told base_told =
-        record {
-          base_size = (was (step.told_before told) base_told).base_size;
-          faithful = write_settled-faithful kept.coherent at step (λ before. (was before base_told).faithful) told;
-        }
+    pub settle_issue-told : {answer : Settled} {h : Header} {base_tells : Type 0} {base : List Sector} → WriteSettled answer i fresh fresh' passes passes' history.log.entries history'.log.entries flies flies' tells tells' disk disk' last last'
+        → history'.opened ≡ history.opened → (tells → IsLogged passes history disk) → (tells → base_tells → IsTold shape h table fresh passes history disk last base base_sectors) → tells' → base_tells
+        → IsTold shape h table fresh' passes' history' disk' last' base base_sectors
+    settle_issue-told {answer} {h} {base_tells} {base} step opened logged was told base_told = let before = step.told_before told in
+        told-on (was before base_told) (logged before) (settle-goes-on (step.told told)) opened (λ start faithful. write_settled-faithful kept.coherent at step (λ b. faithful) told)

@@ -17,5 +17,7 @@ standing kept i p there = let stands = kept.coherent.each i p there in record {
   write = stands.write;
   read = stands.read;
   left = stands.left;
+  flush = stands.flush;
+  no_flush = stands.no_flush;
   piece = stands.piece;
 }

@@ -6,7 +6,7 @@ use Rattle.vd_passes.specs.Needs.{need_of}
 use Rattle.vd_core.specs.Asking.{Suffices}
 use Rattle.vd_serve.specs.Driving.{Serves}
 use Rattle.vd_serve.proofs.Needs.{guest-suffices, next-suffices}
-use Rattle.vd_serve.proofs.Going.{servable-at, none-served, one-served, all-served}
+use Rattle.vd_serve.proofs.Going.{servable-at, none-served, one-served, all-served, flush-suffices}
 use Rattle.vd_serve.proofs.Leaving.{store-same, base-same, store-then, base-then, same-disk, disk-then}
 use Rattle.vd_serve.proofs.serve.Goals as goal
 
@@ -14,7 +14,7 @@ pub loop-at-init : goal.loop-at-init
 loop-at-init g c = record {
   serving = none-served c.requires.unused (guest-suffices c.args.core.now.shape.block 1 c.args.trace.now.asks c.args.core.now.spare c.requires.room);
   disk = same-disk;
-  start = λ told. refl;
+  opening = λ told. refl;
   store = store-same g.S.Store.sectors g.S.Store.depth g.S.Store.events g.S.Store.faults g.S.Store.tells g.S.Store.records refl;
   base = base-same g.B.Base.sectors g.B.Base.depth g.B.Base.faults g.B.Base.tells g.B.Base.content refl;
 }
@@ -37,7 +37,7 @@ loop-at-preserved g c =
     let serves = subst (λ (b : ℕ). Serves asked b c.loop-at.core.history.log.entries new.history.log.entries c.loop-at.core.spare new.spare) (ap (λ (s : Shape). s.block) now.disk.shape) one.serves in record {
       serving = one-served asked c.request-asked.ensures.request one.resting serves now.serving;
       disk = disk-then now.disk one.disk;
-      start = λ told. one.start told ∙ now.start (one.base.told_before told);
+      opening = λ told. one.opening told ∙ now.opening (one.store.told_before told);
       store = store-then now.store one.store;
       base = base-then now.base one.base;
     }
@@ -46,3 +46,9 @@ pub returns-clause-served : goal.returns-clause-served
 returns-clause-served g c =
     let many = c.count-at-end.ensures in let all = c.loop-at-test.false in
     all-served c.loop-at.core.passes c.loop-at.core.history.log.entries (c.loop-at.core.shape.block * c.loop-at.core.shape.blocks) (omega (arith, many, all)) c.history.ensures.regular c.loop-at.invariant.serving
+
+pub returns-clause-resting : goal.returns-clause-resting
+returns-clause-resting g c = c.loop-at.invariant.serving.resting
+
+pub returns-clause-room : goal.returns-clause-room
+returns-clause-room g c = flush-suffices c.loop-at.core.shape.block c.loop-at.invariant.serving

@@ -1,8 +1,11 @@
-use Rattle.std.proofs.Common.{[], refl, ◌∙◌, ap, slice_set}
-use Rattle.vd_device.specs.declared.settled.Settled.TheVariants.{NotYet, Failed}
+use Rattle.std.proofs.Common.{[], true, refl, ◌∙◌, ap, slice_set}
+use Rattle.vd_bits.specs.Blocks.{Blocks}
+use Rattle.vd_device.specs.declared.settled.Settled.TheVariants.{Done, NotYet, Failed}
 use Rattle.vd_passes.specs.declared.pass.Pass.{Pass}
+use Rattle.vd_passes.specs.Passes.{spent, after_piece}
+use Rattle.vd_meta.specs.Moves.{owing}
 use Rattle.vd_core.proofs.Picked.{read-there}
-use Rattle.vd_core.proofs.Ended.{set-there, put-back, write-failed, tells-nothing-read, extends-none, broke-entry}
+use Rattle.vd_core.proofs.Ended.{set-there, put-back, write-failed, tells-nothing-read, extends-none, broke-entry, done-entry, nothing-long}
 use Rattle.vd_core.proofs.issuing.settle_write.Goals as goal
 
 pub returns-in-NotYet-clause-settled : goal.returns-in-NotYet-clause-settled
@@ -29,17 +32,19 @@ returns-in-NotYet-clause-settled g c =
       },
       extends-none c.args.history.now,
       late.cause,
+      (q, there, refl),
     )
 
 pub returns-in-Failed-clause-settled : goal.returns-in-Failed-clause-settled
 returns-in-Failed-clause-settled g c =
-    let at = c.requires.waiting in let q = c.index_mut-p.result.now in let taken = c.take_ticket-ticket.ensures in let failed = c.in-Failed.ensures in (
+    let at = c.requires.waiting in let q = c.index_mut-p.result.now in let taken = c.take_ticket-ticket.ensures in let failed = c.in-Failed.ensures in
+    let there = read-there c.args.passes.now.items c.args.pass at.0 q at.1 c.index_mut-p.ensures.value in (
       Failed c.in-Failed.number,
       refl,
       record {
         pass = q;
         ticket = c.take_ticket-ticket.result;
-        there = read-there c.args.passes.now.items c.args.pass at.0 q at.1 c.index_mut-p.ensures.value;
+        there = there;
         has = taken.ticket;
         number = failed.last;
         settles = ([], c.settle.new.out, failed.settles);
@@ -54,4 +59,31 @@ returns-in-Failed-clause-settled g c =
       },
       c.add-in-Failed.ensures.extends,
       failed.cause,
+      (q, there, refl),
+    )
+
+pub returns-in-Done-clause-settled : goal.returns-in-Done-clause-settled
+returns-in-Done-clause-settled g c =
+    let at = c.requires.waiting in let q = c.index_mut-p.result.now in let taken = c.take_ticket-ticket.ensures in let done = c.in-Done.ensures in
+    let there = read-there c.args.passes.now.items c.args.pass at.0 q at.1 c.index_mut-p.ensures.value in (
+      Done,
+      refl,
+      record {
+        pass = q;
+        ticket = c.take_ticket-ticket.result;
+        there = there;
+        has = taken.ticket;
+        number = done.last;
+        settles = ([], c.settle.new.out, done.settles);
+        effect = (
+          ap (λ (b : Blocks). b.bits) c.set.ensures ∙ ap (λ (x : Pass). slice_set c.args.fresh.now.bits x.block true) taken.rest,
+          ap (λ (x : Pass). slice_set c.args.passes.now.items c.args.pass x) (c.spend.ensures ∙ ap (spent 1 0) (c.end_piece.ensures ∙ ap after_piece taken.rest)),
+          done-entry c.call_id-id.result c.args.pass q c.args.history.now.log.entries c.add.new.history.log.entries c.call_id-id.ensures.pass c.call_id-id.ensures.call c.add.ensures.entry,
+        );
+        told_before = done.told_before;
+        told = λ told. tells-nothing-read Done c.take_ticket-ticket.result c.settle.new.out _ _ (nothing-long c.settle.new.out c.settle.auto.out) (done.told told);
+      },
+      c.add.ensures.extends,
+      done.cause,
+      (q, there, c.owe.ensures ∙ ap (λ (x : Pass). owing x.block c.args.keeper.now) taken.rest),
     )

@@ -4,7 +4,7 @@ use Rattle.vd_law.specs.declared.entry.Room.{Room}
 use Rattle.vd_passes.specs.Passes.{writes_in}
 use Rattle.vd_core.proofs.Views.{same-history, same-left}
 use Rattle.vd_core.proofs.Leaving.{kept-out}
-use Rattle.vd_core.proofs.Moving.{still-drives, drives-as, replies-drives}
+use Rattle.vd_core.proofs.Moving.{still-drives, drives-as, enters-drives, replies-drives}
 use Rattle.vd_read.proofs.Driving.{look-drives, settle-drives}
 use Rattle.vd_read.proofs.Reader.next.Goals as goal
 
@@ -15,8 +15,14 @@ unreachable-requires g c =
       | inl idle ↦ at.2.0 (sym is ∙ idle)
       | inr (inl fetching) ↦ (let writes = stands.write (ap writes_in (sym is ∙ fetching)) in cc)
       | inr (inr (inl filled)) ↦ (let writes = stands.write (ap writes_in (sym is ∙ filled)) in cc)
-      | inr (inr (inr issuing)) ↦ (let writes = stands.write (ap writes_in (sym is ∙ issuing)) in cc)
+      | inr (inr (inr (inl issuing))) ↦ (let writes = stands.write (ap writes_in (sym is ∙ issuing)) in cc)
+      | inr (inr (inr (inr flushing))) ↦ (let flushes = stands.flush (sym is ∙ flushing) in let not = at.2.2 in cc)
     ]
+
+pub returns-in-Ok-clause-drives : goal.returns-in-Ok-clause-drives
+returns-in-Ok-clause-drives g c =
+    let at = c.requires.busy in let phase = sym (c.phase.ensures.phase at.0 at.1) ∙ c.in-Asked.is in let same = same-history c.enter.ensures.others in let left = same-left c.enter.ensures.others in
+    drives-as refl (ap (λ (h : Numbered). h.log.entries) same) left (enters-drives c.args.core.now.history.log.entries c.args.core.now.spare at.0 at.1 phase c.in-Ok.ensures.enters.enters)
 
 pub returns-in-Err-clause-drives : goal.returns-in-Err-clause-drives
 returns-in-Err-clause-drives g c =

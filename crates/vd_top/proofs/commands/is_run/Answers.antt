@@ -1,6 +1,6 @@
 use Rattle.std.proofs.Common.{false}
 use Rattle.vd_command.specs.declared.command.Command.TheVariants.{Run}
-use Rattle.vd_top.proofs.CommandLaws.{is_no_command, same_command, run_exact, no_run}
+use Rattle.vd_top.proofs.CommandLaws.{is_no_command, run_exact, no_run}
 use Rattle.vd_top.proofs.commands.is_run.Goals as goal
 
 pub returns-in-Run : goal.returns-in-Run

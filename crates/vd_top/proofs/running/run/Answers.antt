@@ -1,10 +1,17 @@
+use Rattle.std.proofs.Common.{ℕ, ◌≤◌, refl, arith}
+use Rattle.vd_io.proofs.Composing.{rose-earlier}
+use Rattle.vd_replay.proofs.DiskLaws.{base_twice}
 use Rattle.vd_report.specs.declared.line.Line.TheVariants.{NoMemory}
 use Rattle.vd_top.specs.Outcomes.{Says, Reported}
-use Rattle.vd_top.specs.Running.{Is_unread, Is_unopened, Ran_without_memory, Has_run}
-use Rattle.vd_top.proofs.LeavingLaws.{leaves_twice, reads_leave, base_left}
+use Rattle.vd_top.specs.Running.{Is_unread, Is_unopened, Ran_without_memory, Has_run, closing_line}
+use Rattle.vd_top.proofs.LeavingLaws.{leaves_twice, reads_leave, base_left, fault_earlier}
+use Rattle.vd_top.proofs.ReopeningLaws.{reopens_wider}
 use Rattle.vd_top.proofs.RunningLaws.{regular_text, opens_told}
-use Rattle.vd_top.proofs.ServedLaws.{run_earlier}
+use Rattle.vd_top.proofs.ServedLaws.{run_wider}
 use Rattle.vd_top.proofs.running.run.Goals as goal
+
+earlier : {a b c : ℕ} → a ≤ b → b ≤ c → a ≤ c
+earlier x y = omega arith
 
 pub returns-in-Err-clause-ran : goal.returns-in-Err-clause-ran
 returns-in-Err-clause-ran g c = rw c.unserved.ensures (Says c.in-Err.line, Is_unread c.in-Err.line c.in-Err.ensures.refused, c.say.ensures.ends)
@@ -25,20 +32,6 @@ returns-in-Err-open_for-clause-store g c = rw c.unserved-in-Err-open_for.ensures
 pub returns-in-Err-open_for-clause-base : goal.returns-in-Err-open_for-clause-base
 returns-in-Err-open_for-clause-base g c = rw c.unserved-in-Err-open_for.ensures (base_left c.requires.base_idle)
 
-pub report-requires : goal.report-requires
-report-requires g c = regular_text c.in-Ok-serve_trace.field-0.history.log.entries c.in-Ok-serve_trace.ensures.run.regular
-
-pub returns-in-Ok-serve_trace-clause-ran : goal.returns-in-Ok-serve_trace-clause-ran
-returns-in-Ok-serve_trace-clause-ran g c =
-    let h = c.in-Ok-serve_trace.field-0.history in let left = c.in-Ok-serve_trace.ensures.store in (
-      Reported 1 h.log.entries,
-      Has_run c.in-Ok.trace c.in-Ok-open_for.header h c.in-Ok.ensures.read (opens_told left.told_before c.in-Ok-open_for.ensures.opened) (run_earlier c.open_for.ensures.quiet.calm c.in-Ok-serve_trace.ensures.run),
-      c.report.ensures.ends,
-    )
-
-pub returns-in-Ok-serve_trace-clause-store : goal.returns-in-Ok-serve_trace-clause-store
-returns-in-Ok-serve_trace-clause-store g c = leaves_twice (reads_leave c.open_for.ensures.quiet) c.in-Ok-serve_trace.ensures.store
-
 pub returns-clause-ran : goal.returns-clause-ran
 returns-clause-ran g c = rw c.unserved-in-Err-serve_trace.ensures (Says NoMemory, Ran_without_memory, c.say-in-Err-serve_trace.ensures.ends)
 
@@ -47,3 +40,30 @@ returns-clause-store g c = rw (c.unserved-in-Err-serve_trace.ensures, c.in-Err-s
 
 pub returns-clause-base : goal.returns-clause-base
 returns-clause-base g c = rw (c.unserved-in-Err-serve_trace.ensures, c.in-Err-serve_trace.ensures.back.1) (base_left c.requires.base_idle)
+
+pub leave-requires-clause-text : goal.leave-requires-clause-text
+leave-requires-clause-text g c = regular_text c.in-Ok-serve_trace.served.history.log.entries c.in-Ok-serve_trace.ensures.run.regular
+
+pub returns-in-Ok-serve_trace-clause-store : goal.returns-in-Ok-serve_trace-clause-store
+returns-in-Ok-serve_trace-clause-store g c = leaves_twice (leaves_twice (reads_leave c.open_for.ensures.quiet) c.in-Ok-serve_trace.ensures.store) (reads_leave c.leave.ensures.store)
+
+pub returns-in-Ok-serve_trace-clause-base : goal.returns-in-Ok-serve_trace-clause-base
+returns-in-Ok-serve_trace-clause-base g c = base_twice c.in-Ok-serve_trace.ensures.base c.leave.ensures.base
+
+pub returns-in-Ok-serve_trace-clause-ran : goal.returns-in-Ok-serve_trace-clause-ran
+returns-in-Ok-serve_trace-clause-ran g c =
+    let opening = c.open_for.ensures.quiet in
+    let served = c.in-Ok-serve_trace.served in
+    let serving = c.in-Ok-serve_trace.ensures in
+    let leaving = c.leave.ensures in
+    let reopened = leaving.reported in
+    rw leaving.history (
+      Reported 1 served.history.log.entries (closing_line served.closing) reopened.0,
+      Has_run c.in-Ok.trace c.in-Ok-open_for.state.header served.history (closing_line served.closing) reopened.0 c.in-Ok.ensures.read
+          (opens_told (λ t. serving.store.told_before (leaving.store.told_before t)) (λ t. refl) c.in-Ok-open_for.ensures.opened)
+          (run_wider opening.calm leaving.store.calm leaving.base.calm leaving.store.told_before serving.store.told_before leaving.base.told_before
+          (λ t. opening.recorded (c.in-Ok-open_for.ensures.recorded t)) opening.held (λ t. leaving.store.recorded (leaving.recorded t)) serving.run)
+          (reopens_wider serving.state.1 (λ t. serving.base.content_same (leaving.base.told_before t)) (λ ticket fault. fault_earlier (earlier opening.calm serving.store.calm) fault)
+          (λ r. rose-earlier _ _ _ (earlier opening.calm serving.store.calm) r) (λ r. rose-earlier _ _ _ serving.base.calm r) reopened.1),
+      reopened.2,
+    )

@@ -1,7 +1,7 @@
 use Rattle.std.proofs.Common.{sym}
 use Rattle.vd_reading.proofs.QuietLaws.{reads_twice}
 use Rattle.vd_top.specs.Showing.{Store_failed, Base_failed}
-use Rattle.vd_top.proofs.AreaLaws.{fault_earlier}
+use Rattle.vd_top.proofs.LeavingLaws.{fault_earlier}
 use Rattle.vd_top.proofs.ShowLaws.{not_opened_line, past_it, found_it}
 use Rattle.vd_top.proofs.showing.find_sectors.Goals as goal
 

@@ -3,7 +3,7 @@ use Rattle.vd_law.specs.Histories.{Numbered}
 use Rattle.vd_law.specs.declared.entry.Room.{Room}
 use Rattle.vd_core.proofs.Views.{same-history, same-left}
 use Rattle.vd_core.proofs.Leaving.{kept-out}
-use Rattle.vd_core.proofs.Moving.{still-drives, drives-as, fetch_settled-drives, issues-drives, write_settled-drives, replies-drives}
+use Rattle.vd_core.proofs.Moving.{still-drives, drives-as, enters-drives, fetches-drives, fetch_settled-drives, issues-drives, write_settled-drives, replies-drives}
 use Rattle.vd_write.proofs.Writer.next.Goals as goal
 
 pub unreachable-requires : goal.unreachable-requires
@@ -11,8 +11,14 @@ unreachable-requires g c =
     let at = c.requires.busy in let is = c.phase.ensures.phase at.0 at.1 in let stands = c.phase.ensures.stands at.0 at.1 in
     elim c.in-Idle.is [
       | inl idle ↦ at.2.0 (sym is ∙ idle)
-      | inr looking ↦ (let reads = stands.read (sym is ∙ looking) in let writes = at.2.1 in cc)
+      | inr (inl looking) ↦ (let reads = stands.read (sym is ∙ looking) in let writes = at.2.1 in cc)
+      | inr (inr flushing) ↦ (let flushes = stands.flush (sym is ∙ flushing) in let not = at.2.2 in cc)
     ]
+
+pub returns-in-Ok-clause-drives : goal.returns-in-Ok-clause-drives
+returns-in-Ok-clause-drives g c =
+    let at = c.requires.busy in let phase = sym (c.phase.ensures.phase at.0 at.1) ∙ c.in-Asked.is in let same = same-history c.enter.ensures.others in let left = same-left c.enter.ensures.others in
+    drives-as refl (ap (λ (h : Numbered). h.log.entries) same) left (enters-drives c.args.core.now.history.log.entries c.args.core.now.spare at.0 at.1 phase c.in-Ok.ensures.enters.enters)
 
 pub returns-in-Err-clause-drives : goal.returns-in-Err-clause-drives
 returns-in-Err-clause-drives g c =
@@ -26,6 +32,12 @@ pub returns-then-is_whole-clause-drives : goal.returns-then-is_whole-clause-driv
 returns-then-is_whole-clause-drives g c =
     let at = c.requires.busy in let phase = sym (c.phase.ensures.phase at.0 at.1) ∙ c.in-Held.is in let stands = c.phase.ensures.stands at.0 at.1 in let left = same-left c.issue.ensures.others in
     drives-as refl refl left (issues-drives c.args.core.now.spare at.0 at.1 (inl phase) at.2.1 stands c.issue.ensures.issues)
+
+pub returns-else-is_whole-clause-drives : goal.returns-else-is_whole-clause-drives
+returns-else-is_whole-clause-drives g c =
+    let at = c.requires.busy in let phase = sym (c.phase.ensures.phase at.0 at.1) ∙ c.in-Held.is in let stands = c.phase.ensures.stands at.0 at.1 in
+    let same = same-history c.fetch.ensures.others in let left = same-left c.fetch.ensures.others in
+    drives-as refl (ap (λ (h : Numbered). h.log.entries) same) left (fetches-drives c.args.core.now.history.log.entries c.args.core.now.spare at.0 at.1 phase at.2.1 stands c.fetch.ensures.fetches)
 
 pub returns-in-Fetching-clause-drives : goal.returns-in-Fetching-clause-drives
 returns-in-Fetching-clause-drives g c =

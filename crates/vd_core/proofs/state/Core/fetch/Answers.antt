@@ -1,8 +1,10 @@
-use Rattle.std.proofs.Common.{sym}
+use Rattle.std.proofs.Common.{sym, refl}
 use Rattle.vd_passes.proofs.Fetching.{can-read-base}
 use Rattle.vd_core.proofs.Keeping.Accounting.{fetch-accounted}
 use Rattle.vd_core.proofs.Keeping.Following.{fetch-followed}
 use Rattle.vd_core.proofs.Keeping.Fetching.{fetch-kept, fetch-told}
+use Rattle.vd_core.proofs.Keeping.Recording.{fetch-recorded}
+use Rattle.vd_core.proofs.Keeping.Telling.{logged-here}
 use Rattle.vd_core.proofs.state.Core.fetch.Goals as goal
 
 pub fetch_block-requires : goal.fetch_block-requires
@@ -16,7 +18,8 @@ invariant_of-self g c =
       fetch-kept c.self.invariant.0 c.args.pass at done.fetches done.stays,
       fetch-told c.self.invariant.0 c.args.pass at done.fetches done.stays c.self.invariant.1,
       fetch-accounted c.self.invariant.2 c.args.pass done.fetches done.number done.calm.0,
-      λ told. fetch-followed (c.self.invariant.3 told) c.args.pass (at.0, at.1, at.2.0) done.fetches,
+      λ told. let was = c.self.invariant.3 told in logged-here was refl (fetch-followed was.followed c.args.pass (at.0, at.1, at.2.0) done.fetches),
+      fetch-recorded c.self.invariant.4 c.args.pass (at.0, at.1, at.2.0) done.fetches,
     )
 
 pub returns-clause-fetches : goal.returns-clause-fetches

@@ -4,6 +4,7 @@ use Rattle.vd_passes.proofs.Blaming.{blamed-caused}
 use Rattle.vd_passes.proofs.Tracing.{followed-traced}
 use Rattle.vd_core.proofs.Storing.{stored-fulls}
 use Rattle.vd_core.proofs.Keeping.Ending.{calm, base-calm}
+use Rattle.vd_core.proofs.Keeping.Telling.{told-legal}
 use Rattle.vd_core.proofs.state.Core.finish.Goals as goal
 
 pub returns-clause-calm : goal.returns-clause-calm
@@ -22,7 +23,10 @@ pub returns-clause-base_faults : goal.returns-clause-base_faults
 returns-clause-base_faults g c = rw (sym c.self.view_is) (blamed-caused c.self.invariant.2.of_base)
 
 pub returns-clause-traced : goal.returns-clause-traced
-returns-clause-traced g c = λ told. followed-traced (c.self.invariant.3 told)
+returns-clause-traced g c = λ told. followed-traced (c.self.invariant.3 told).followed
 
 pub returns-clause-full : goal.returns-clause-full
 returns-clause-full g c = rw (sym c.self.view_is) (stored-fulls c.self.invariant.2.stored)
+
+pub returns-clause-legal : goal.returns-clause-legal
+returns-clause-legal g c = rw (sym c.self.view_is) (λ told base_told. told-legal c.self.invariant.0.coherent.regular (c.self.invariant.1 told base_told))

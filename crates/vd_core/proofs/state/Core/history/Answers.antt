@@ -11,7 +11,7 @@ pub returns-clause-base_faults : goal.returns-clause-base_faults
 returns-clause-base_faults g c = rw (sym c.self.view_is) (blamed-caused c.self.invariant.2.of_base)
 
 pub returns-clause-traced : goal.returns-clause-traced
-returns-clause-traced g c = rw (sym c.self.view_is) (λ told. followed-traced (c.self.invariant.3 told))
+returns-clause-traced g c = rw (sym c.self.view_is) (λ told. followed-traced (c.self.invariant.3 told).followed)
 
 pub returns-clause-full : goal.returns-clause-full
 returns-clause-full g c = rw (sym c.self.view_is) (stored-fulls c.self.invariant.2.stored)

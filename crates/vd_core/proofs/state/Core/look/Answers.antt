@@ -59,7 +59,7 @@ returns-then-get-clause-looks g c =
     let at = rw (sym c.self.view_is) at c.requires.phase in let q = c.index-p.result.now in let passes = c.self.inside.passes.items in
     let there = read-there passes c.args.pass at.0 q at.1 c.index-p.ensures in
     let step = rw (sym c.self.view_is) at c.look_in_store.ensures.looks in
-    let local = at-same passes c.args.pass q step.pass (λ (p : Pass). slice_get c.self.inside.fresh.bits p.block ≡ Some true) there step.there c.if-get.ensures in
+    let local = at-same passes c.args.pass q step.pass (λ (p : Pass). slice_get c.self.inside.state.fresh.bits p.block ≡ Some true) there step.there c.if-get.ensures in
     rw (sym c.self.view_is) (inl (step, local, same-history (rw (sym c.self.view_is) at c.look_in_store.ensures.others), refl))
 
 pub returns-then-count-gt0-clause-looks : goal.returns-then-count-gt0-clause-looks
@@ -68,7 +68,7 @@ returns-then-count-gt0-clause-looks g c =
     let there = read-there passes c.args.pass at.0 q at.1 c.index-p.ensures in
     let some : 0 < below c.self.inside.shape.limit (q.first + q.done) q.piece = (let more = c.if-count-gt0.true in let count = c.below-count.ensures in omega (arith, more, count)) in
     let step = rw (sym c.self.view_is) at c.look_in_base.ensures.looks in
-    let absent = at-same passes c.args.pass q step.pass (λ (p : Pass). slice_get c.self.inside.fresh.bits p.block ≡ Some false) there step.there c.if-get.ensures in
+    let absent = at-same passes c.args.pass q step.pass (λ (p : Pass). slice_get c.self.inside.state.fresh.bits p.block ≡ Some false) there step.there c.if-get.ensures in
     let has = at-same passes c.args.pass q step.pass (λ (p : Pass). 0 < below c.self.inside.shape.limit (p.first + p.done) p.piece) there step.there some in
     rw (sym c.self.view_is) (inr (inl (step, absent, has, same-history (rw (sym c.self.view_is) at c.look_in_base.ensures.others), refl)))
 
@@ -77,7 +77,7 @@ returns-else-count-gt0-clause-looks g c =
     let at = rw (sym c.self.view_is) at c.requires.phase in let q = c.index-p.result.now in let passes = c.self.inside.passes.items in
     let there = read-there passes c.args.pass at.0 q at.1 c.index-p.ensures in
     let step = rw (sym c.self.view_is) at c.look_at_zeros.ensures.sees in let extends = rw (sym c.self.view_is) at c.look_at_zeros.ensures.extends in
-    let absent = at-same passes c.args.pass q step.pass (λ (p : Pass). slice_get c.self.inside.fresh.bits p.block ≡ Some false) there step.there c.if-get.ensures in
+    let absent = at-same passes c.args.pass q step.pass (λ (p : Pass). slice_get c.self.inside.state.fresh.bits p.block ≡ Some false) there step.there c.if-get.ensures in
     let told = at-same passes c.args.pass extends.0 step.pass (λ (p : Pass). Extends (g.S.Store.events c.self.inside.store ∷ []) p.piece c.self.inside.history c.look_at_zeros.new.self.history) extends.1 step.there extends.2 in
     rw (sym c.self.view_is) (inr (inr (step, absent, told)))
 

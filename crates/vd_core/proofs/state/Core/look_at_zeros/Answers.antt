@@ -3,6 +3,8 @@ use Rattle.vd_passes.proofs.TracingSteps.{sees_zeros-followed}
 use Rattle.vd_core.proofs.Keeping.Accounting.{zeros-accounted}
 use Rattle.vd_core.proofs.Keeping.Devices.{region-within}
 use Rattle.vd_core.proofs.Keeping.Looking.{can-see-zeros, zeros-seen, zeros-kept, zeros-told}
+use Rattle.vd_core.proofs.Keeping.Recording.{held-not, sees-recorded}
+use Rattle.vd_core.proofs.Keeping.Telling.{logged-here}
 use Rattle.vd_core.proofs.state.Core.look_at_zeros.Goals as goal
 
 pub see_zeros-requires-clause-ready : goal.see_zeros-requires-clause-ready
@@ -20,7 +22,9 @@ invariant_of-self g c =
     let at = rw (sym c.self.view_is) at c.requires.phase in let seen = c.see_zeros.ensures.sees in
     let step = zeros-seen (at.0, at.1, at.2.2) seen in (
       zeros-kept c.self.invariant.0 c.args.pass (at.0, at.1, (at.2.0, at.2.1)) step (seen.0, seen.1, seen.2.1) c.free.ensures.held,
-      zeros-told c.self.invariant.0 c.args.pass (at.0, at.1, (at.2.0, at.2.1)) step c.self.invariant.1,
+      zeros-told c.self.invariant.0 c.args.pass (at.0, at.1, (at.2.0, at.2.1)) step seen.2.1.opened c.self.invariant.1,
       zeros-accounted c.self.invariant.0.coherent c.self.invariant.2 c.args.pass (at.0, at.1, at.2.0.phase) step,
-      λ told. sees_zeros-followed c.self.invariant.0.coherent (g.S.Store.events c.self.inside.store) (c.self.invariant.3 told) (at.0, at.1, at.2.0.phase) step seen.2.1.numbers,
+      λ told. let was = c.self.invariant.3 told in
+          logged-here was seen.2.1.opened (sees_zeros-followed c.self.invariant.0.coherent (g.S.Store.events c.self.inside.store) was.followed (at.0, at.1, at.2.0.phase) step seen.2.1.numbers),
+      sees-recorded c.self.invariant.4 c.args.pass held-not (at.0, at.1, at.2.0.phase) step.sees,
     )

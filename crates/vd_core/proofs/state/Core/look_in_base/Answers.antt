@@ -1,7 +1,9 @@
-use Rattle.std.proofs.Common.{sym}
+use Rattle.std.proofs.Common.{sym, refl}
 use Rattle.vd_passes.proofs.TracingSteps.{base_looks-followed}
 use Rattle.vd_core.proofs.Keeping.Accounting.{base_look-accounted}
 use Rattle.vd_core.proofs.Keeping.Looking.{can-look-in-base, base_look-kept, base_look-told}
+use Rattle.vd_core.proofs.Keeping.Recording.{base_look-recorded}
+use Rattle.vd_core.proofs.Keeping.Telling.{logged-here}
 use Rattle.vd_core.proofs.state.Core.look_in_base.Goals as goal
 
 pub look_at_base-requires : goal.look_at_base-requires
@@ -15,7 +17,8 @@ invariant_of-self g c =
       base_look-kept c.self.invariant.0 c.args.pass (at.0, at.1, (at.2.0, at.2.1)) done.looks done.stays,
       base_look-told c.self.invariant.0 c.args.pass (at.0, at.1, (at.2.0, at.2.1)) done.looks done.stays c.self.invariant.1,
       base_look-accounted c.self.invariant.2 c.args.pass done.looks done.number done.calm.0,
-      λ told. base_looks-followed c.self.invariant.0.coherent (c.self.invariant.3 told) (at.0, at.1, at.2.0.phase) done.looks,
+      λ told. let was = c.self.invariant.3 told in logged-here was refl (base_looks-followed c.self.invariant.0.coherent was.followed (at.0, at.1, at.2.0.phase) done.looks),
+      base_look-recorded c.self.invariant.4 c.args.pass (at.0, at.1, at.2.0.phase) done.looks,
     )
 
 pub returns-clause-looks : goal.returns-clause-looks

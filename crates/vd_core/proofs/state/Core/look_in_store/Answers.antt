@@ -1,7 +1,9 @@
-use Rattle.std.proofs.Common.{sym}
+use Rattle.std.proofs.Common.{sym, refl}
 use Rattle.vd_passes.proofs.TracingSteps.{looks-followed}
 use Rattle.vd_core.proofs.Keeping.Accounting.{look-accounted}
 use Rattle.vd_core.proofs.Keeping.Looking.{can-look, look-kept, look-told}
+use Rattle.vd_core.proofs.Keeping.Recording.{look-recorded}
+use Rattle.vd_core.proofs.Keeping.Telling.{logged-on, same-opening}
 use Rattle.vd_core.proofs.state.Core.look_in_store.Goals as goal
 
 pub look_at_store-requires : goal.look_at_store-requires
@@ -13,10 +15,15 @@ pub invariant_of-self : goal.invariant_of-self
 invariant_of-self g c =
     let at = rw (sym c.self.view_is) at c.requires.phase in let done = c.look_at_store.ensures in (
       look-kept c.self.invariant.0 c.args.pass at done.looks done.stays,
-      look-told c.self.invariant.0 c.args.pass at done.looks c.self.invariant.1,
+      look-told c.self.invariant.0 c.args.pass at done.looks c.self.invariant.3 c.self.invariant.1,
       look-accounted c.self.invariant.2 c.args.pass done.looks done.number done.calm.0,
-      λ told. looks-followed (c.self.invariant.3 (done.looks.told_before told)) (at.0, at.1, at.2.0.phase) done.looks (done.looks.told told).0,
+      λ told. let was = c.self.invariant.3 (done.looks.told_before told) in let adds = (done.looks.told told).0 in logged-on was (_, adds) refl (looks-followed was.followed (at.0, at.1, at.2.0.phase) done.looks adds),
+      look-recorded c.self.invariant.4 c.args.pass (at.0, at.1, at.2.0.phase) done.looks,
     )
 
 pub returns-clause-looks : goal.returns-clause-looks
 returns-clause-looks g c = rw (sym c.self.view_is) c.look_at_store.ensures.looks
+
+pub returns-clause-opening : goal.returns-clause-opening
+returns-clause-opening g c = let looks = c.look_at_store.ensures.looks in
+    rw (sym c.self.view_is) (λ told. same-opening (c.self.invariant.3 (looks.told_before told)) (_, (looks.told told).0) refl)

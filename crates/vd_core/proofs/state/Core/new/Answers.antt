@@ -1,10 +1,10 @@
-use Rattle.std.proofs.Common.{[], ◌∙◌, ℕ, ◌<◌, ◌≤◌, ◌≡◌, ◌^◌, ap, subst, arith}
-use Rattle.vd_format.specs.Layouts.{chunks_of}
+use Rattle.std.proofs.Common.{◌∙◌, ℕ, ◌<◌, ◌≤◌, ◌≡◌, ◌^◌, sym, ap, subst, arith}
 use Rattle.vd_passes.specs.declared.shape.Shape.{Shape}
-use Rattle.vd_passes.proofs.Tracing.{new-followed}
+use Rattle.vd_replay.proofs.Starting.{whole-given}
 use Rattle.vd_core.specs.Opening.{AreNew}
 use Rattle.vd_core.proofs.Keeping.Accounting.{opened-accounted}
-use Rattle.vd_core.proofs.Keeping.Opening.{opened-kept, opened-told}
+use Rattle.vd_core.proofs.Keeping.Opening.{opened-kept}
+use Rattle.vd_core.proofs.Keeping.OpeningTold.{opened-logged, opened-told, opened-recorded}
 use Rattle.vd_core.proofs.state.Core.new.Goals as goal
 
 bounded-by : (n sectors : ℕ) → n ≡ sectors → n < 2 ^ 64 → sectors < 2 ^ 64
@@ -15,15 +15,15 @@ deep-by n depth e h = omega arith
 
 pub invariant_of-result : goal.invariant_of-result
 invariant_of-result g c =
-    let h = c.args.header.now in let parts = c.in-Ok.ensures in
+    let s = c.args.state in let parts = c.in-Ok.ensures in let whole = c.requires.whole in
     let new = subst (λ (block : ℕ). AreNew c.args.passes block c.in-Ok-new_passes.passes.items) (ap (λ (shape : Shape). shape.block) c.shape_of-shape.ensures) c.in-Ok-new_passes.ensures in
-    rw (c.room_of-spare.ensures.room, parts.table, parts.fresh, parts.regions, parts.history, c.shape_of-shape.ensures, c.sectors-2.ensures.value, c.events.ensures.value) (
-      opened-kept h c.requires.header c.in-Ok-new_passes.passes.items c.args.passes (g.S.Store.sectors c.args.store) (g.S.Store.depth c.args.store) (g.S.Store.events c.args.store) (g.B.Base.sectors c.args.base) (g.B.Base.depth c.args.base) c.args.room
+    rw (c.room_of-spare.ensures.room, parts.keeper, parts.regions, parts.history, c.shape_of-shape.ensures, c.sectors-2.ensures.value, c.events.ensures.value) (
+      opened-kept s whole c.in-Ok-new_passes.passes.items c.args.passes (g.S.Store.sectors c.args.store) (g.S.Store.depth c.args.store) (g.S.Store.events c.args.store) (g.B.Base.sectors c.args.base) (g.B.Base.depth c.args.base) c.args.room
           (g.S.Store.flies c.args.store) (g.B.Base.flies c.args.base) c.requires.fits (bounded-by _ _ c.sectors.ensures.value c.sectors.type_inv) (deep-by _ _ c.depth.ensures.value c.depth.ensures.enough) (deep-by _ _ c.depth-2.ensures.value c.depth-2.ensures.enough)
           c.requires.idle c.requires.base_idle c.requires.most new c.room_of-spare.ensures.bounded,
-      (λ told base_told. opened-told h c.requires.header c.in-Ok-new_passes.passes.items c.args.passes (g.S.Store.sectors c.args.store) (g.S.Store.depth c.args.store) (g.S.Store.events c.args.store) (g.B.Base.sectors c.args.base) (g.B.Base.depth c.args.base) c.args.room
-          (g.S.Store.flies c.args.store) (g.B.Base.flies c.args.base) c.requires.fits (bounded-by _ _ c.sectors.ensures.value c.sectors.type_inv) (deep-by _ _ c.depth.ensures.value c.depth.ensures.enough) (deep-by _ _ c.depth-2.ensures.value c.depth-2.ensures.enough)
-          c.requires.idle c.requires.base_idle c.requires.most new c.room_of-spare.ensures.bounded (g.S.Store.disk c.args.store) (g.S.Store.last c.args.store) (g.B.Base.content c.args.base) (c.sectors-2.ensures.content base_told ∙ c.sectors-2.ensures.value) (c.in_flight.ensures.writes told [] c.requires.idle)),
-      opened-accounted (chunks_of h) h.storage new c.faults-store_faults.ensures c.faults-base_faults.ensures,
-      λ told. new-followed new.each (g.S.Store.disk c.args.store).log,
+      (λ told base_told. opened-told s whole c.requires.version c.args.room (g.S.Store.disk c.args.store) (g.S.Store.last c.args.store) (g.B.Base.content c.args.base) new
+          (c.sectors-2.ensures.content base_told ∙ c.sectors-2.ensures.value) (sym c.events.ensures.value ∙ c.events.ensures.running told) (c.in_flight.ensures.honest told) (c.requires.says told)),
+      opened-accounted s.map s.table new (λ n e. whole-given s n e whole) (whole.sized.map ∙ sym whole.sized.table) c.faults-store_faults.ensures c.faults-base_faults.ensures,
+      (λ told. opened-logged c.args.room (g.S.Store.disk c.args.store) new (sym c.events.ensures.value ∙ c.events.ensures.running told)),
+      opened-recorded s whole c.requires.version (g.B.Base.sectors c.args.base) new,
     )

@@ -2,6 +2,8 @@ use Rattle.std.proofs.Common.{sym}
 use Rattle.vd_passes.proofs.TracingSteps.{replies-followed}
 use Rattle.vd_core.proofs.Keeping.Accounting.{reply-accounted}
 use Rattle.vd_core.proofs.Keeping.Replying.{can-reply, reply-ok, reply-kept, reply-told}
+use Rattle.vd_core.proofs.Keeping.Recording.{reply-recorded}
+use Rattle.vd_core.proofs.Keeping.Telling.{logged-here}
 use Rattle.vd_core.proofs.state.Core.reply.Goals as goal
 
 pub reply_in_room-requires : goal.reply_in_room-requires
@@ -13,9 +15,10 @@ pub invariant_of-self : goal.invariant_of-self
 invariant_of-self g c =
     let at = rw (sym c.self.view_is) at c.requires.phase in let done = c.reply_in_room.ensures in (
       reply-kept c.args.pass c.self.invariant.0 at done.replies done.extends done.left,
-      λ tells base_tells. reply-told c.args.pass c.self.invariant.0 at done.replies (c.self.invariant.1 tells base_tells),
+      λ tells base_tells. reply-told c.args.pass c.self.invariant.0 at done.replies done.extends.opened (c.self.invariant.1 tells base_tells),
       reply-accounted c.self.invariant.2 c.args.pass at done.replies,
-      λ told. replies-followed (c.self.invariant.3 told) at done.replies done.extends.numbers (done.running told),
+      λ told. let was = c.self.invariant.3 told in logged-here was done.extends.opened (replies-followed was.followed at done.replies done.extends.numbers (done.running told)),
+      reply-recorded c.self.invariant.4 c.args.pass at done.replies,
     )
 
 pub returns-clause-ok : goal.returns-clause-ok

@@ -1,10 +1,12 @@
-use Rattle.std.proofs.Common.{sym, ap, ◌∙◌}
+use Rattle.std.proofs.Common.{sym, refl, ap, ◌∙◌}
 use Rattle.vd_passes.proofs.TracingSteps.{fetch_settled-followed}
-use Rattle.vd_core.specs.declared.outcome.Outcome.{Outcome}
+use Rattle.vd_metadata.specs.declared.outcome.Outcome.{Outcome}
 use Rattle.vd_core.specs.Outcomes.{released_failed}
 use Rattle.vd_core.proofs.Keeping.Accounting.{settle_fetch-accounted}
 use Rattle.vd_core.proofs.Keeping.Devices.{region-within}
 use Rattle.vd_core.proofs.Keeping.Fetching.{waiting-block, settle_fetch-kept, settle_fetch-told}
+use Rattle.vd_core.proofs.Keeping.Recording.{settle_fetch-recorded}
+use Rattle.vd_core.proofs.Keeping.Telling.{logged-here}
 use Rattle.vd_core.proofs.state.Core.settle_fetch.Goals as goal
 
 pub settle_block-outcome-requires : goal.settle_block-outcome-requires
@@ -24,5 +26,6 @@ invariant_of-self g c =
       settle_fetch-kept c.self.invariant.0 c.args.pass at done.settled.2 done.stays c.release_failed.new.regions released,
       settle_fetch-told c.self.invariant.0 c.args.pass at done.settled.2 done.stays c.self.invariant.1,
       settle_fetch-accounted c.self.invariant.2 c.args.pass (g.B.Base.late c.self.inside.base) (g.B.Base.late c.settle_block-outcome.new.base) done.settled.2 done.number done.settled.3,
-      λ told. fetch_settled-followed (c.self.invariant.3 told) at done.settled.2,
+      λ told. let was = c.self.invariant.3 told in logged-here was refl (fetch_settled-followed was.followed at done.settled.2),
+      settle_fetch-recorded c.self.invariant.4 c.args.pass at done.settled.2,
     )

@@ -1,0 +1,48 @@
+-- What a core as it is made keeps of its devices and of the metadata.
+use Rattle.std.proofs.Common.{◌≡◌, ℕ, List, length, refl, sym, ◌∙◌, ap, inl, arith, None}
+use Rattle.vd_law.specs.declared.entry.Sector.{Sector}
+use Rattle.vd_law.specs.declared.entry.Room.{Room}
+use Rattle.vd_device.specs.Disks.{Disk, IsHonest}
+use Rattle.vd_replay.specs.declared.state.State.{State}
+use Rattle.vd_replay.specs.States.{IsWhole, Says}
+use Rattle.vd_passes.specs.declared.pass.Pass.{Pass}
+use Rattle.vd_passes.specs.Tracks.{track}
+use Rattle.vd_passes.proofs.Tracing.{new-followed}
+use Rattle.vd_metadata.proofs.Others.{new-attended}
+use Rattle.vd_core.specs.Kept.{IsTold, IsLogged, IsRecorded}
+use Rattle.vd_core.specs.Opening.{shape_of, AreNew, empty_history, new_keeping}
+use Rattle.vd_core.proofs.Starting.{all-told}
+use Rattle.vd_core.proofs.StartingTold.{stands-at}
+use Rattle.vd_core.proofs.Keeping.Opening.{whole-blocks}
+
+pub opened-logged : {passes : List Pass} {count block events : ℕ} (room : Room) (disk : Disk) → AreNew count block passes → events ≡ length disk.log → IsLogged passes (empty_history room events) disk
+opened-logged room disk new all = record { since = omega arith; followed = new-followed new.each disk.log }
+
+-- whatever the guest's disk was, the store agrees with it where blocks are local, and the base elsewhere
+pub opened-told : (s : State) → IsWhole s → s.header.version ≡ 2 → {passes : List Pass} {count events base_sectors : ℕ} (room : Room) (disk : Disk) (last : ℕ) (base : List Sector) → AreNew count s.header.block passes
+    → length base ≡ base_sectors → events ≡ length disk.log → IsHonest disk → Says disk.held s → IsTold (shape_of s.header base_sectors) s.header s.table s.fresh.bits passes (empty_history room events) disk last base base_sectors
+opened-told s whole version {passes} {count} {events} {base_sectors} room disk last base new base_size all honest says = record {
+  base_size = base_size;
+  faithful = λ start is. record {
+    size = is.size ∙ sym (whole-blocks s.header whole.sized.valid);
+    shown = tt;
+    numbers = λ i p t there has. absurd (let none = sym (new.each i p there).ticket ∙ has in cc);
+    distinct = λ i j p q t u there_p there_q other has_t. absurd (let none = sym (new.each i p there_p).ticket ∙ has_t in cc);
+    stands = λ x inside. stands-at s whole version disk events all honest says base start is base_sectors x inside;
+    filling = λ a above. inl (record {
+      nobody = λ i p there w. let phase = w.phase in let other = sym (new.each i p there).phase ∙ phase in cc;
+      none = ap (λ log. (track disk.start log a).writes) (sym (all-told disk events all)) ∙ (is.clean a).none;
+    });
+    buffers = λ i p there is_filled. absurd (let other = sym (new.each i p there).phase ∙ is_filled in cc);
+  };
+}
+
+-- the keeper is a new one, and no flush is under way
+pub opened-recorded : (s : State) → IsWhole s → s.header.version ≡ 2 → {passes : List Pass} {count block : ℕ} (base_sectors : ℕ) → AreNew count block passes → IsRecorded (shape_of s.header base_sectors) s passes None (new_keeping s)
+opened-recorded s whole version base_sectors new = record {
+  attended = new-attended s.header s.fresh s.more s.cursor.next refl whole.sized.valid version (let next = whole.next in let slots = whole.sized.slots in omega (arith, next, slots))
+      whole.sized.chunk whole.sized.fresh (let more = whole.sized.more in omega (arith, more)) refl refl refl refl refl whole.sized.table whole.sized.storage
+      (λ i p there flushing. absurd (let other = sym (new.each i p there).phase ∙ flushing in cc));
+  sized = whole.sized;
+  same = refl;
+}

@@ -1,0 +1,46 @@
+use Rattle.std.proofs.Common.{sym, refl, arith}
+use Rattle.vd_core.proofs.Keeping.FlushingReady.{asked-flush, flush-place, begin-recorded, worn-recorded}
+use Rattle.vd_core.proofs.Keeping.Flushing.{stays-by, submit-kept, submit-told, submit-accounted, submit-logged, submit-opening, end-kept, end-told, end-accounted, end-logged}
+use Rattle.vd_core.proofs.Keeping.Telling.{same-opening}
+use Rattle.vd_core.proofs.state.Core.begin_flush.Goals as goal
+
+pub begin-going-requires : goal.begin-going-requires
+begin-going-requires g c =
+    let at = rw (sym c.self.view_is) at c.requires.phase in let tracked = rw (sym c.self.view_is) at c.requires.tracked in record {
+      asked = asked-flush c.self.invariant.0 c.self.invariant.4 c.args.pass at;
+      rest = c.self.invariant.4.attended.resting c.in_default.is;
+      tracked = λ t is. let same = tracked t is in omega (arith, same);
+      place = flush-place c.self.invariant.0 c.self.invariant.4;
+    }
+
+pub invariant_of-self : goal.invariant_of-self
+invariant_of-self g c =
+    let tracked = rw (sym c.self.view_is) at c.requires.tracked in let done = c.begin-going.ensures in
+    let begun = done.begun c.if-going.true c.self.inside.shape in let step = begun.sends in (
+      submit-kept c.self.invariant.0 c.args.pass step (stays-by done.stays),
+      submit-told c.self.invariant.0 c.args.pass step c.self.invariant.3 c.self.invariant.1,
+      submit-accounted c.self.invariant.2 step (done.number c.if-going.true) done.calm.0,
+      submit-logged step c.self.invariant.3,
+      begin-recorded c.self.invariant.4 c.in_default.is tracked begun,
+    )
+
+pub invariant_of-self-else-going : goal.invariant_of-self-else-going
+invariant_of-self-else-going g c =
+    let done = c.begin-going.ensures in let worn = done.worn c.if-going.false in let same = done.unchanged c.if-going.false in
+    rw (same.0, same.1) (
+      end-kept c.self.invariant.0 c.args.pass worn.ends,
+      end-told c.self.invariant.0 c.args.pass worn.ends c.self.invariant.1,
+      end-accounted c.self.invariant.2 worn.ends,
+      (λ told. end-logged worn.ends (c.self.invariant.3 told)),
+      worn-recorded c.self.invariant.4 worn,
+    )
+
+pub returns-then-going-clause-going : goal.returns-then-going-clause-going
+returns-then-going-clause-going g c = rw (sym c.self.view_is) (λ is. (c.in_default.is, refl, c.begin-going.ensures.begun c.if-going.true c.self.inside.shape))
+
+pub returns-then-going-clause-told_before : goal.returns-then-going-clause-told_before
+returns-then-going-clause-told_before g c = rw (sym c.self.view_is) (c.begin-going.ensures.begun c.if-going.true c.self.inside.shape).sends.told_before
+
+pub returns-then-going-clause-opening : goal.returns-then-going-clause-opening
+returns-then-going-clause-opening g c = let step = (c.begin-going.ensures.begun c.if-going.true c.self.inside.shape).sends in
+    rw (sym c.self.view_is) (λ told. same-opening (c.self.invariant.3 (step.told_before told)) (submit-opening step told) refl)

@@ -1,0 +1,37 @@
+use Rattle.std.proofs.Common.{sym, refl}
+use Rattle.vd_core.proofs.Keeping.FlushingReady.{between-calls, between-due, between-free, kept-storage, put-recorded}
+use Rattle.vd_core.proofs.Keeping.Flushing.{stays-by, submit-kept, submit-told, submit-accounted, submit-logged, submit-opening}
+use Rattle.vd_core.proofs.Keeping.Telling.{same-opening}
+use Rattle.vd_core.proofs.state.Core.put.Goals as goal
+
+pub put-requires-clause-under_way : goal.put-requires-clause-under_way
+put-requires-clause-under_way g c = let at = rw (sym c.self.view_is) at c.requires.phase in between-calls c.self.invariant.0 c.self.invariant.4 c.args.pass at
+
+pub put-requires-clause-storage : goal.put-requires-clause-storage
+put-requires-clause-storage g c = kept-storage c.self.invariant.0 c.self.invariant.4
+
+pub put-requires-clause-due : goal.put-requires-clause-due
+put-requires-clause-due g c =
+    let at = rw (sym c.self.view_is) at c.requires.phase in let stage = rw (sym c.self.view_is) at c.requires.stage in
+    between-due c.self.invariant.0 c.self.invariant.4 c.args.pass at stage
+
+pub put-requires-clause-free : goal.put-requires-clause-free
+put-requires-clause-free g c = let at = rw (sym c.self.view_is) at c.requires.phase in between-free c.self.invariant.0 c.self.invariant.4 c.args.pass at
+
+pub invariant_of-self : goal.invariant_of-self
+invariant_of-self g c =
+    let stage = rw (sym c.self.view_is) at c.requires.stage in let done = c.put.ensures in
+    let puts = done.puts c.self.inside.shape c.self.invariant.4.attended.storage_at in let step = puts.sends in (
+      submit-kept c.self.invariant.0 c.args.pass step (stays-by done.stays),
+      submit-told c.self.invariant.0 c.args.pass step c.self.invariant.3 c.self.invariant.1,
+      submit-accounted c.self.invariant.2 step done.number done.calm.0,
+      submit-logged step c.self.invariant.3,
+      put-recorded c.self.invariant.4 stage puts,
+    )
+
+pub returns-clause-puts : goal.returns-clause-puts
+returns-clause-puts g c = rw (sym c.self.view_is) (c.put.ensures.puts c.self.inside.shape c.self.invariant.4.attended.storage_at)
+
+pub returns-clause-opening : goal.returns-clause-opening
+returns-clause-opening g c = let step = (c.put.ensures.puts c.self.inside.shape c.self.invariant.4.attended.storage_at).sends in
+    rw (sym c.self.view_is) (λ told. same-opening (c.self.invariant.3 (step.told_before told)) (submit-opening step told) refl)

@@ -1,0 +1,11 @@
+pub mod Members
+pub mod Places
+pub mod Submitting
+pub mod Due
+pub mod Kept
+pub mod Stages
+pub mod Followed
+pub mod Attended
+pub mod Others
+pub mod Stored
+pub mod Measuring

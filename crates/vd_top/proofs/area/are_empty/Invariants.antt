@@ -1,6 +1,0 @@
-use Rattle.std.proofs.Common.{◌≡◌, drop}
-use Rattle.vd_top.specs.Fresh.{are_empty}
-use Rattle.vd_top.proofs.area.are_empty.Given as goal
-
-abbrev pub invariant-loop-sector : goal.invariant-loop-sector
-invariant-loop-sector l = are_empty l.bytes l.sectors ≡ are_empty l.left (drop l.sector-index l.sectors)

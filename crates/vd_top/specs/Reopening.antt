@@ -1,0 +1,50 @@
+-- What the report of a run says of the image that the run has left, by what the devices hold in the end.
+use Rattle.std.specs.Prelude.{ℕ, ◌≡◌, ◌↔◌, Bool, true, List, length, Some, slice_get}
+use Rattle.std.specs.Int.{div_ceil}
+use Rattle.vd_law.specs.declared.entry.Sector.{Sector}
+use Rattle.vd_format.specs.declared.header.Header.{Header}
+use Rattle.vd_bits.specs.Marks.{count_true}
+use Rattle.vd_image.specs.Image.{geometry_of, IsLocal}
+use Rattle.vd_image.specs.Layouts.{layout_of}
+use Rattle.vd_image.specs.Decoders.{format_of}
+use Rattle.vd_image.specs.Openings.{Opens}
+use Rattle.vd_replay.specs.Images.{image_of}
+use Rattle.vd_replay.specs.Refusals.{RefusedAgain}
+use Rattle.vd_replay.specs.declared.error.OpenError.{OpenError}
+use Rattle.vd_trace.specs.Traces.{Showing}
+use Rattle.vd_report.specs.declared.line.Line.TheVariants as lines
+use Rattle.vd_top.specs.Outcomes.{ShownLine, Sectors, Failed, Reopened, Refused, Opened}
+use Rattle.vd_top.specs.Showing.{show_line, IsJudged, ShowsDisk}
+
+-- What a line of the trace shows of the image with this header: the sectors of its range, or a device has failed.
+pub data IsShownBy (told : Type 0) (held base : List Sector) (h : Header) (StoreFailed BaseFailed : Type 0) (line : Showing) : ShownLine → Type 0 where
+  Is_read : (sectors : List Sector) → length sectors ≡ line.count → (told → ShowsDisk held base h line.first sectors) → IsShownBy told held base h StoreFailed BaseFailed line (Sectors line.first sectors)
+  Store_failed : (ticket : ℕ) → StoreFailed → IsShownBy told held base h StoreFailed BaseFailed line (Failed line.first (lines.StoreFault ticket))
+  Base_failed : (ticket : ℕ) → BaseFailed → IsShownBy told held base h StoreFailed BaseFailed line (Failed line.first (lines.BaseFault ticket))
+
+-- each of these lines, in order, shows this
+pub record AreShownBy (told : Type 0) (held base : List Sector) (h : Header) (StoreFailed BaseFailed : Type 0) (trace_lines : List Showing) (shown : List ShownLine) : Type 0 where
+  pub many : length shown ≡ length trace_lines
+  pub each : (i : ℕ) (line : Showing) (shows : ShownLine) → slice_get trace_lines i ≡ Some line → slice_get shown i ≡ Some shows → IsShownBy told held base h StoreFailed BaseFailed line shows
+
+-- the block is local in the image with this header
+abbrev pub IsLocalIn : (held : List Sector) → Header → (block : ℕ) → Type 0
+IsLocalIn held h block = (storage : ℕ) × IsLocal (format_of h) (layout_of h) (image_of held) h.generation block storage
+
+-- so many blocks begin in the tracked part of the disk, and so many of these are local
+pub record AreLocal (told : Type 0) (held : List Sector) (h : Header) (local of : ℕ) : Type 0 where
+  pub of_is : of ≡ div_ceil h.tracked h.block
+  -- whether each of them is
+  pub are : List Bool
+  pub many : length are ≡ of
+  pub local_is : local ≡ count_true are
+  pub each : told → (b : ℕ) (is : Bool) → slice_get are b ≡ Some is → (is ≡ true) ↔ IsLocalIn held h b
+
+-- How the image opens again that had the header `kept`: the store failed; or it is refused by what the store holds; or it opens by
+-- the header that it has now, and what is shown and counted is what the store holds.
+pub data Reopens (kept : Header) (trace_lines : List Showing) (told base_told : Type 0) (held base : List Sector) (StoreFault : ℕ → Type 0) (StoreFailed BaseFailed : Type 0) : Reopened → Type 0 where
+  Reopening_failed : (ticket : ℕ) → StoreFault ticket → Reopens kept trace_lines told base_told held base StoreFault StoreFailed BaseFailed (Refused (lines.StoreFault ticket))
+  Is_refused_again : (e : OpenError) → IsJudged e → (told → RefusedAgain kept held e) → Reopens kept trace_lines told base_told held base StoreFault StoreFailed BaseFailed (Refused (show_line e))
+  Opens_again : (h : Header) (shown : List ShownLine) (local of : ℕ) → geometry_of h ≡ geometry_of kept → (told → Opens (length held) (image_of held) h)
+      → AreShownBy (told × base_told) held base h StoreFailed BaseFailed trace_lines shown → AreLocal told held h local of
+      → Reopens kept trace_lines told base_told held base StoreFault StoreFailed BaseFailed (Opened shown local of)

@@ -1,0 +1,193 @@
+//! What crashes leave of a run: each image opens, and each sector has what the last flush or a later write gave it.
+
+use crate::commands::still;
+use crate::ending::End;
+use crate::tests::{base, image, words_of};
+use std::alloc::Global;
+use std::test::Fail;
+use vd_device::{Base, Store, write_now};
+use vd_io::mem_sink::MemSink;
+use vd_io::mem_source::MemSource;
+use vd_law::entry::{Event, Room, Sector};
+use vd_mem::{ByList, Chooser, Fuse, Kept, Lost, MemBase, MemStore, Mixed};
+
+/// The events of an opening: a flush, and reads of the header, the map and the slots.
+const OPENING: u64 = 8;
+
+const ROOM: Room = Room {
+    events: 1000,
+    sectors: 10_000,
+};
+
+/// Does a command over a store, and hands the store back, with the text.
+fn done<S: Store>(
+    alloc: Global,
+    words: &str,
+    trace: &[u8],
+    store: S,
+) -> Result<Option<(S, Vec<u8>)>, Fail>
+where
+    S: Drop,
+{
+    let words = words_of(alloc, words)?;
+    let base = MemBase::new(base(alloc)?, Vec::new(alloc));
+    if store.in_flight() != 0 || base.in_flight() != 0 {
+        return Ok(None);
+    }
+    let mut source = MemSource::new(trace.to_vec(alloc)?, Vec::new(alloc));
+    let mut sink = MemSink::new(vec![in alloc; 0u8; 20_000]?, Vec::new(alloc));
+    let End {
+        status: _,
+        store,
+        base: _,
+        history: _,
+    } = still(alloc, words.as_slice(), &mut source, &mut sink, store, base);
+    let text = sink.bytes().to_vec(alloc)?;
+    Ok(Some((store, text)))
+}
+
+/// Runs a trace on the small image, on a store that stops after so many events.
+fn cut_off(alloc: Global, trace: &[u8], events: u64) -> Result<Option<MemStore>, Fail> {
+    let content = image(alloc, 104, &[])?;
+    let Ok(store) = MemStore::new(alloc, content, ROOM, Vec::new(alloc)) else {
+        return Ok(None);
+    };
+    match done(alloc, "run I P 1 0 off 0", trace, Fuse::new(store, events))? {
+        Some((fuse, _)) => Ok(Some(fuse.into_inner())),
+        None => Ok(None),
+    }
+}
+
+/// Whether a sector of what a crash leaves is shown as one of these two texts.
+fn shows<C: Chooser>(
+    alloc: Global,
+    store: MemStore,
+    chooser: &mut C,
+    words: &str,
+    texts: &[&[u8]],
+) -> Result<bool, Fail> {
+    match done(alloc, words, b"", store.crash(chooser))? {
+        Some((_, text)) => Ok(texts.iter().any(|it| *it == text.as_slice())),
+        None => Ok(false),
+    }
+}
+
+#[test]
+fn unflushed_write_leaves_four_outcomes(rt: HostRuntime) -> Result<(), Fail> {
+    let alloc = rt.alloc();
+    let trace = b"1 W 8 8 aa\n1 F\n1 W 8 2 bb\n";
+    let rows: [(u64, u64, &[u8]); 4] = [
+        (0, 0, b"show 8 *aa *aa *aa\n"),
+        (0, 1, b"show 8 *aa *bb *aa\n"),
+        (1, 0, b"show 8 *bb *aa *aa\n"),
+        (1, 1, b"show 8 *bb *bb *aa\n"),
+    ];
+    for (first, second, text) in &rows {
+        let Some(store) = cut_off(alloc, trace, OPENING + 2 + 6 + 2)? else {
+            panic!(rt; "no store");
+        };
+        let mut pairs = Vec::new(alloc);
+        pairs.push((16, *first))?;
+        pairs.push((17, *second))?;
+        assert!(rt;
+            shows(
+                alloc,
+                store,
+                &mut ByList::new(pairs),
+                "show I P 8 3",
+                &[*text]
+            )?
+        );
+    }
+    Ok(())
+}
+
+/// Five writes, each flushed. The first four flushes use the four slots, the fifth recycles.
+const FIVE: &[u8] =
+    b"1 W 0 8 01\n1 F\n1 W 8 8 02\n1 F\n1 W 16 8 03\n1 F\n1 W 24 8 04\n1 F\n1 W 32 8 05\n1 F\n";
+
+/// The flushed sectors are there in an image that a crash leaves after so many events.
+fn keeps_four<C: Chooser>(
+    alloc: Global,
+    events: u64,
+    chooser: &mut C,
+    last: &[&[u8]],
+) -> Result<bool, Fail> {
+    let rows: [(&str, &[u8]); 4] = [
+        ("show I P 0 1", b"show 0 *01\n"),
+        ("show I P 8 1", b"show 8 *02\n"),
+        ("show I P 16 1", b"show 16 *03\n"),
+        ("show I P 24 1", b"show 24 *04\n"),
+    ];
+    let mut all = true;
+    for (words, text) in &rows {
+        let Some(store) = cut_off(alloc, FIVE, events)? else {
+            return Ok(false);
+        };
+        all &= shows(alloc, store, chooser, words, &[*text])?;
+    }
+    let Some(store) = cut_off(alloc, FIVE, events)? else {
+        return Ok(false);
+    };
+    Ok(all && shows(alloc, store, chooser, "show I P 32 1", last)?)
+}
+
+#[test]
+fn recycle_keeps_what_was_flushed_at_each_moment(rt: HostRuntime) -> Result<(), Fail> {
+    let alloc = rt.alloc();
+    let fourth = OPENING + 4 * (2 + 6);
+    let fifth = fourth + 2 + 10;
+    let open: [&[u8]; 2] = [b"show 32 *20\n", b"show 32 *05\n"];
+    for events in fourth..fifth + 1 {
+        let last = if events < fifth {
+            &open[..]
+        } else {
+            &open[1..]
+        };
+        assert!(rt; keeps_four(alloc, events, &mut Lost, last)?, "{events}");
+        assert!(rt; keeps_four(alloc, events, &mut Kept, last)?, "{events}");
+        for number in 0..8 {
+            assert!(rt;
+                keeps_four(alloc, events, &mut Mixed::new(number), last)?,
+                "{events}"
+            );
+        }
+    }
+    Ok(())
+}
+
+/// The same writes on a store whose flushes do nothing.
+fn without_flushes(alloc: Global, store: &MemStore) -> Result<Option<MemStore>, Fail> {
+    let Ok(mut other) = MemStore::new(alloc, store.start().to_vec(alloc)?, ROOM, Vec::new(alloc))
+    else {
+        return Ok(None);
+    };
+    for at in 0..store.log().len() {
+        if let Event::Issue {
+            id: _,
+            first,
+            content,
+        } = store.log().event(at)
+        {
+            if other.in_flight() == 0 && first + content.len() as u64 <= 104 && content.len() > 0 {
+                let _ = write_now(&mut other, first, content);
+            }
+        }
+    }
+    Ok(Some(other))
+}
+
+#[test]
+fn store_whose_flushes_do_nothing_loses_what_was_flushed(rt: HostRuntime) -> Result<(), Fail> {
+    let alloc = rt.alloc();
+    let flushed = OPENING + 2 + 6;
+    let Some(store) = cut_off(alloc, b"1 W 8 8 aa\n1 F\n", flushed)? else {
+        panic!(rt; "no store");
+    };
+    let Some(other) = without_flushes(alloc, &store)? else {
+        panic!(rt; "no store");
+    };
+    assert!(rt; shows(alloc, store, &mut Lost, "show I P 8 1", &[b"show 8 *aa\n"])?);
+    assert!(rt; shows(alloc, other, &mut Lost, "show I P 8 1", &[b"show 8 *08\n"])?);
+    Ok(())
+}

@@ -1,0 +1,140 @@
+//! The report of a run: the guest's calls with their answers, the closing, the reopening, and the sum.
+
+ghost use Rattle.std.specs.Prelude.{◌≡◌, ℕ, ◌≤◌, [], Ok, None, length};
+ghost use Rattle.std.specs.List.{All};
+ghost use Rattle.vd_law.specs.Entries.{entry_of};
+ghost use Rattle.vd_report.specs.Replies.{HasText, history_text, sum_text};
+ghost use Rattle.vd_reading.specs.Quiet.{OnlyReads, OnlyReadsBase, IsFault};
+ghost use Rattle.vd_io.specs.Streams.{Rose};
+ghost use Rattle.vd_replay.specs.States.{IsSized};
+ghost use Rattle.vd_top.specs.Outcomes.{Reopened, Reported};
+ghost use Rattle.vd_top.specs.Ending.{Ends, is_ok_reply, are_ok, run_status};
+ghost use Rattle.vd_top.specs.Writing.{WritesOn};
+ghost use Rattle.vd_top.specs.Reopening.{Reopens};
+ghost use Rattle.vd_top.specs.Running.{closing_line, past};
+
+use crate::printing::{ended, is_fault, put_next};
+use crate::reopening::reopen;
+use crate::room::MOST;
+use vd_device::{Base, Store};
+use vd_io::Failed;
+use vd_io::sink::Sink;
+use vd_law::entry::{Answer, Event, Sector};
+use vd_law::history::History;
+use vd_law::log::Log;
+use vd_replay::State;
+use vd_report::line::{About, Line};
+use vd_report::replies::put_history;
+use vd_report::sum::put_sum;
+use vd_trace::trace::Trace;
+
+/// Whether the event is no reply, or an Ok.
+fn is_ok(event: Event<'_>) -> bool
+    ensures { result ≡ is_ok_reply (entry_of event.entry) }
+{
+    match event {
+        Event::Reply { id: _, answer } => matches!(answer, Answer::Ok),
+        _ => true,
+    }
+}
+
+/// Whether each reply is Ok.
+fn are_ok(log: &Log) -> bool
+    ensures { result ≡ are_ok log.now.entries }
+{
+    let mut ok = true;
+    for at in 0..log.len() {
+        ok &= is_ok(log.event(at));
+    }
+    ok
+}
+
+/// What the report says of the closing.
+fn closing_line(answer: Answer) -> Line
+    ensures { result ≡ closing_line answer }
+{
+    match answer {
+        Answer::Ok => Line::Ok,
+        Answer::StoreFault { ticket, done: _ } => Line::StoreFault { ticket },
+        Answer::BaseFault { ticket, done: _ } => Line::BaseFault { ticket },
+        Answer::Worn { generation } => Line::Worn { generation },
+        // a flush is answered neither
+        Answer::Full { needed: _, free: _ } => Line::Ok,
+        Answer::NoRoom {
+            events: _,
+            sectors: _,
+        } => Line::Ok,
+    }
+}
+
+/// Prints the calls of guest 1.
+fn put_calls<O: Sink>(out: &mut O, history: &History) -> Result<(), Failed>
+    requires { All HasText history.now.log.entries }
+    ensures { WritesOn (history_text 1 history.now.log.entries) (Ok tt) result (O.faults out.old) (O.faults out.new) (O.tells out.old) (O.tells out.new) (O.written out.old) (O.written out.new) }
+{
+    put_history(out, history, 1)
+}
+
+/// Prints the sum of guest 1's replies, unless the sink has failed at what was printed before.
+fn put_last<O: Sink>(
+    out: &mut O,
+    written: Result<(), Failed>,
+    history: &History,
+) -> Result<(), Failed>
+    ensures { WritesOn (sum_text 1 history.now.log.entries) written result (O.faults out.old) (O.faults out.new) (O.tells out.old) (O.tells out.new) (O.written out.old) (O.written out.new) }
+{
+    written?;
+    put_sum(out, history, 1)
+}
+
+/// The status of a run whose closing and reopening ended so.
+fn run_status(closing_failed: bool, reopened: u8, ok: bool) -> u8
+    ensures { result ≡ run_status closing_failed reopened ok }
+{
+    if closing_failed {
+        5
+    } else if reopened != 0 {
+        reopened
+    } else if ok {
+        0
+    } else {
+        1
+    }
+}
+
+/// Prints the report of a history of one guest, whose closing flush was answered so, and answers the status. The image is
+/// opened again by its state, and each line of the trace that shows sectors is read from it.
+pub fn report<S: Store, B: Base, O: Sink>(
+    out: &mut O,
+    trace: &Trace,
+    history: &History,
+    closing: Answer,
+    store: &mut S,
+    base: &mut B,
+    state: &mut State,
+    room: &mut [Sector],
+) -> u8
+    requires text { All HasText history.now.log.entries }
+    requires store_idle { S.flies store.old [] }
+    requires base_idle { B.flies base.old [] }
+    requires sized { IsSized state.old }
+    requires version { state.old.header.version ≡ 2 }
+    requires inside { past state.old.header.size trace.now ≡ None }
+    requires room { length room.old ≡ MOST }
+    ensures store { OnlyReads (S.flies store.new []) (S.sectors store.old) (S.sectors store.new) (S.depth store.old) (S.depth store.new) (S.faults store.old) (S.faults store.new) (S.tells store.old) (S.tells store.new) (S.records store.old) (S.records store.new) (S.disk store.old) (S.disk store.new) }
+    ensures base { OnlyReadsBase (B.flies base.new []) (B.sectors base.old) (B.sectors base.new) (B.faults base.old) (B.faults base.new) (B.tells base.old) (B.tells base.new) (B.content base.old) (B.content base.new) }
+    ensures told_before { O.tells out.new → O.tells out.old }
+    ensures calm { O.faults out.old ≤ O.faults out.new }
+    ensures reported { (reopened : Reopened)
+        × Reopens state.old.header trace.now.shows (S.tells store.new) (B.tells base.new) (S.disk store.new).held (B.content base.old) (λ ticket. IsFault ticket (S.last store.new) (S.faults store.old) (S.faults store.new))
+        (Rose (S.faults store.old) (S.faults store.new)) (Rose (B.faults base.old) (B.faults base.new)) reopened
+        × Ends (Reported 1 history.now.log.entries (closing_line closing) reopened) result (O.faults out.old) (O.faults out.new) (O.tells out.new) (O.written out.old) (O.written out.new) }
+{
+    let line = closing_line(closing);
+    let calls = put_calls(out, history);
+    let closed = put_next(out, calls, About::Closing, line);
+    let (reopened, opened) = reopen(out, closed, trace, store, base, state, room);
+    let written = put_last(out, opened, history);
+    let status = run_status(is_fault(line), reopened, are_ok(history.log()));
+    ended(status, written)
+}
