@@ -4,6 +4,7 @@
 ghost use Rattle.std.specs.Prelude.{◌≡◌, ℕ, [], IfOk, Some};
 ghost use Rattle.vd_file.specs.Standing.{AreFlying};
 
+use std::io::{BufWriter, Write};
 use std::process::ExitCode;
 use std::{env, fs, io};
 use vd_device::{Base, Store};
@@ -19,6 +20,12 @@ use vd_top::{End, still, store_sectors};
 const NO_FILE: u8 = 5;
 
 const NO_MEMORY: u8 = 7;
+
+/// The status where the text could not be written.
+const NOT_WRITTEN: u8 = 6;
+
+/// Bytes of text that go to standard output in one write.
+const ROOM: usize = 65536;
 
 /// Why there are no devices to work on.
 #[derive(Clone, Copy, Drop)]
@@ -92,38 +99,55 @@ fn words_of(rt: &HostRuntime) -> io::Result<Vec<String>> {
     Ok(words)
 }
 
-fn main(rt: HostRuntime) -> ExitCode {
-    let mut out = StdSink::new(rt.stdout());
-    let Ok(words) = words_of(&rt) else {
-        let _ = put_line(&mut out, Line::NoMemory);
-        return ExitCode::from(NO_MEMORY);
+/// The status where not all of the text is sure to be written: 6 in place of 0 and 1.
+fn unwritten(status: u8) -> u8 {
+    if status < 2 { NOT_WRITTEN } else { status }
+}
+
+/// Carries out the command that the words spell, and prints to this sink. It answers the status.
+fn run<W: Write>(rt: &HostRuntime, out: &mut StdSink<W>) -> u8 {
+    let Ok(words) = words_of(rt) else {
+        let _ = put_line(out, Line::NoMemory);
+        return NO_MEMORY;
     };
     let made = store_sectors(words.as_slice());
-    let (store, base) = match devices_of(&rt, words.as_slice(), made) {
+    let (store, base) = match devices_of(rt, words.as_slice(), made) {
         Ok(devices) => devices,
         Err(Unready::NoFile(word)) => {
-            let _ = put_no_file(&mut out, word);
-            return ExitCode::from(NO_FILE);
+            let _ = put_no_file(out, word);
+            return NO_FILE;
         }
         Err(Unready::NoMemory) => {
-            let _ = put_line(&mut out, Line::NoMemory);
-            return ExitCode::from(NO_MEMORY);
+            let _ = put_line(out, Line::NoMemory);
+            return NO_MEMORY;
         }
     };
     let mut trace = StdSource::new(rt.stdin());
-    let end = still(
-        rt.alloc(),
-        words.as_slice(),
-        &mut trace,
-        &mut out,
-        store,
-        base,
-    );
+    let end = still(rt.alloc(), words.as_slice(), &mut trace, out, store, base);
     let End { status, store, .. } = end;
     drop(store);
+    // Behind a buffer the text is written only now.
+    let status = match out.flush() {
+        Ok(()) => status,
+        Err(Failed) => unwritten(status),
+    };
     if status != 0 && made.is_some() {
-        unmake(&rt, words.as_slice());
+        unmake(rt, words.as_slice());
     }
+    status
+}
+
+fn main(rt: HostRuntime) -> ExitCode {
+    let Ok(buffered) = BufWriter::with_capacity(rt.alloc(), ROOM, rt.stdout()) else {
+        let _ = put_line(&mut StdSink::new(rt.stdout()), Line::NoMemory);
+        return ExitCode::from(NO_MEMORY);
+    };
+    let mut out = StdSink::new(buffered);
+    let status = run(&rt, &mut out);
+    let status = match out.flush() {
+        Ok(()) => status,
+        Err(Failed) => unwritten(status),
+    };
     ExitCode::from(status)
 }
 

@@ -11,6 +11,7 @@ pub mod Picked
 pub mod Placed
 pub mod Reserving
 pub mod Rooming
+pub mod Securing
 pub mod Seen
 pub mod Serving
 pub mod Settled

@@ -13,6 +13,7 @@ use Rattle.vd_format.specs.declared.map.Entry.{Entry as MapEntry}
 use Rattle.vd_table.specs.Tables.{Given, IsOneToOne}
 use Rattle.vd_replay.specs.declared.state.State.{State}
 use Rattle.vd_replay.specs.States.{IsSized}
+use Rattle.vd_image.specs.Log.{Writes}
 use Rattle.vd_image.specs.Image.{geometry_of}
 use Rattle.vd_meta.specs.Keeping.{Keeping}
 use Rattle.vd_metadata.specs.Attending.{IsAttended}
@@ -26,7 +27,8 @@ use Rattle.vd_passes.specs.Coherent.{IsCoherent, IsFaithful}
 use Rattle.vd_passes.specs.Following.{IsFollowed}
 use Rattle.vd_passes.specs.Causes.{OfStore, OfBase, IsBlamed, AreOfPasses}
 use Rattle.vd_core.specs.Storing.{IsStoredBy}
-use Rattle.vd_core.specs.Start.{IsStart, opening_at}
+use Rattle.vd_safety.specs.Mirrors.{opening_for, IsSecured}
+use Rattle.vd_core.specs.Start.{IsStart, WasSafe, opening_at}
 
 -- The room in the history: each pass has reserved what its request may still need, the spare room is what is left beside that,
 -- and the numbers of the entries are not above the store's number of events.
@@ -79,3 +81,11 @@ pub record IsRecorded (shape : Shape) (state : State) (passes : List Pass) (flus
   pub attended : IsAttended shape state.table state.fresh.bits passes flusher k
   pub sized : IsSized state
   pub same : geometry_of k.header ≡ geometry_of state.header
+
+-- What is kept where both devices tell so that each image that a crash may leave is safe, if that was so when the core was made: each
+-- write since then lies in the store; and from whatever the guest's disk was then, the laws of crash safety know the core.
+pub record IsSafelyKept (h : Header) (entries : List MapEntry) (table : Given) (fresh : List Bool) (k : Keeping) (flusher : Option ℕ) (passes : List Pass) (history : Numbered) (disk : Disk) (base : List Sector) (sectors : ℕ) : Type 0 where
+  pub size : length disk.start ≡ sectors
+  pub inside : (i a : ℕ) (v : Sector) → history.opened ≤ i → Writes disk.log i a v → a < sectors
+  pub secured : (start : List Sector) → IsStart (opening_at history.opened disk) base h start → WasSafe (opening_at history.opened disk) h
+      → (held : ℕ → Sector) × IsSecured (opening_for h entries disk.start held base start history.opened) table fresh k flusher passes history disk.log

@@ -1,5 +1,6 @@
 -- A core as it is made.
-use Rattle.std.specs.Prelude.{ℕ, ◌≡◌, min, List, [], true, false, None, IsSome, length, replicate, Some, slice_get}
+use Rattle.std.specs.Prelude.{ℕ, ◌≡◌, ◌≤◌, min, List, [], true, false, None, IsSome, length, replicate, Some, slice_get}
+use Rattle.std.specs.List.{AllByRecursion}
 use Rattle.vd_device.specs.Disks.{Disk}
 use Rattle.vd_law.specs.declared.entry.Room.{Room}
 use Rattle.vd_law.specs.declared.entry.CallId.{CallId}
@@ -77,3 +78,8 @@ pub record IsOpened {S B : Type 0} (s : State) (passes : ℕ) (room : Room) (sto
 -- each call that was asked has its Reply
 abbrev pub AreReplied : List Entry → Type 0
 AreReplied history = (id : CallId) → IsSome (progress (past history) id).asked → (progress (past history) id).answered ≡ true
+
+-- the history was opened within this log, and no entry is numbered above the log's length
+pub record IsNumberedIn (log : List Entry) (history : Numbered) : Type 0 where
+  pub opened : history.opened ≤ length log
+  pub below : AllByRecursion (λ (n : ℕ). n ≤ length log) history.numbers

@@ -1,11 +1,13 @@
 -- The guest's disk when a core was made: a function of what its store had told then, so that no field holds it.
-use Rattle.std.specs.Prelude.{ℕ, ◌≡◌, List, [], ◌∷◌, length, take, Some, slice_get}
+use Rattle.std.specs.Prelude.{ℕ, ◌≡◌, ◌<◌, List, [], ◌∷◌, length, take, Some, slice_get}
 use Rattle.std.specs.List.{Contains}
 use Rattle.vd_law.specs.declared.entry.Sector.{Sector}
 use Rattle.vd_law.specs.Entries.{Entry}
+use Rattle.vd_law.specs.Contents.{may}
 use Rattle.vd_device.specs.Disks.{Disk}
 use Rattle.vd_format.specs.declared.header.Header.{Header}
-use Rattle.vd_image.specs.Image.{Image, DiskHas}
+use Rattle.vd_image.specs.Log.{Writes}
+use Rattle.vd_image.specs.Image.{Image, HasNoLater, DiskHas}
 use Rattle.vd_image.specs.Layouts.{layout_of}
 use Rattle.vd_image.specs.Decoders.{format_of}
 use Rattle.vd_image.specs.CrashImages.{base_at}
@@ -44,3 +46,10 @@ pub record IsStart (o : Opening) (base : List Sector) (h : Header) (start : List
   pub clean : WasClean o
   pub size : length start ≡ h.size
   pub disk : (s : ℕ) (v : Sector) → slice_get start s ≡ Some v → DiskHas (format_of h) (layout_of h) (base_at zero_sector base) zero_sector (image_at o) s v
+
+-- A crash at that moment would have left what the store held and nothing else: each write had gone to a sector of the store, and of
+-- none another content was left. And no record was of a later generation than the header's.
+pub record WasSafe (o : Opening) (h : Header) : Type 0 where
+  pub inside : (i a : ℕ) (v : Sector) → Writes o.log i a v → a < length o.start
+  pub durable : (a : ℕ) (v : Sector) → a < length o.start → Contains (may o.start o.log a) v → v ≡ image_at o a
+  pub no_later : HasNoLater (format_of h) (layout_of h) (image_at o) h.generation

@@ -99,6 +99,7 @@ pub(crate) fn settle_write<S: Store>(
         × IsCaused answer (S.faults store.old) (S.faults store.new) (S.late store.old) (S.late store.new)
         × IsAt passes.old.items pass (λ p. keeper.new ≡ owed_after answer p.block keeper.old) }
     ensures chunk { fresh.new.chunk ≡ fresh.old.chunk }
+    ensures running { S.tells store.new → (history.new ≡ history.old) ⊎ IsRunning (S.events store.new) (S.disk store.new) }
     ensures recorded_before { S.records store.new → S.records store.old }
     ensures stays { Stays (S.sectors store.old) (S.sectors store.new) (S.depth store.old) (S.depth store.new) (S.events store.old) (S.events store.new) }
 {

@@ -1,10 +1,11 @@
 //! The read of a piece: from the store where its block is fresh, else from the base, with zeros where that has nothing.
 
-ghost use Rattle.std.specs.Prelude.{◌≡◌, ◌+◌, ◌-◌, ◌*◌, ◌^◌, [], ◌∷◌, ◌<◌, ◌≤◌, length, replicate, None};
+ghost use Rattle.std.specs.Prelude.{◌≡◌, ◌⊎◌, ◌+◌, ◌-◌, ◌*◌, ◌^◌, [], ◌∷◌, ◌<◌, ◌≤◌, length, replicate, None};
 ghost use Rattle.vd_device.specs.declared.ticket.Kind.TheVariants.{Read};
 ghost use Rattle.vd_device.specs.declared.settled.Settled.{Settled as AnySettled};
 ghost use Rattle.vd_device.specs.Calls.{IsCalm, IsCaused};
 ghost use Rattle.vd_device.specs.Tickets.{IsInFlight};
+ghost use Rattle.vd_device.specs.Disks.{IsRunning};
 ghost use Rattle.vd_passes.specs.Buffers.{BufferSettled};
 ghost use Rattle.vd_reading.specs.Background.{zero_sector};
 ghost use Rattle.vd_passes.specs.Laying.{below};
@@ -75,6 +76,7 @@ pub(crate) fn see_zeros<S: Store>(
     requires few { length passes.old.items ≤ 64 }
     ensures sees { IsAt passes.old.items pass (λ p. Sees (replicate p.piece zero_sector) pass passes.old.items passes.new.items history.old.log.entries history.new.log.entries out.old out.new
         × Extends (S.events store.now ∷ []) p.piece history.old history.new) }
+    ensures running { S.tells store.now → IsRunning (S.events store.now) (S.disk store.now) }
 {
     let p = &mut passes[pass];
     let from = p.done as usize;
@@ -105,6 +107,7 @@ pub(crate) fn settle_store_look<S: Store>(
         (S.flies store.old) (S.flies store.new) (S.tells store.old) (S.tells store.new) (S.disk store.old) (S.disk store.new) (S.last store.old) (S.last store.new) out.old out.new
         × IsAt passes.old.items pass (λ p. Extends (read_numbers_of answer (S.events store.new)) (read_sectors_of answer p.piece) history.old history.new)
         × IsCaused answer (S.faults store.old) (S.faults store.new) (S.late store.old) (S.late store.new) }
+    ensures running { S.tells store.new → (history.new ≡ history.old) ⊎ IsRunning (S.events store.new) (S.disk store.new) }
     ensures recorded_before { S.records store.new → S.records store.old }
     ensures stays { Stays (S.sectors store.old) (S.sectors store.new) (S.depth store.old) (S.depth store.new) (S.events store.old) (S.events store.new) }
 {
@@ -168,6 +171,7 @@ pub(crate) fn settle_base_look<S: Store, B: Base>(
         (B.flies base.old) (B.flies base.new) (B.tells base.new) (B.content base.new) out.old out.new
         × IsAt passes.old.items pass (λ p. Extends (read_numbers_of answer (S.events store.now)) (read_sectors_of answer p.piece) history.old history.new)
         × IsCaused answer (B.faults base.old) (B.faults base.new) (B.late base.old) (B.late base.new) }
+    ensures running { S.tells store.now → (history.new ≡ history.old) ⊎ IsRunning (S.events store.now) (S.disk store.now) }
     ensures number { B.last base.new ≡ B.last base.old }
     ensures stays { BaseStays (B.sectors base.old) (B.sectors base.new) (B.depth base.old) (B.depth base.new) (B.tells base.old) (B.tells base.new) (B.content base.old) (B.content base.new) }
 {

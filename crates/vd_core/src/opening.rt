@@ -12,8 +12,16 @@ ghost use Rattle.vd_passes.specs.Passes.{IsNew};
 ghost use Rattle.vd_passes.specs.Causes.{OfStore, OfBase, AreCaused};
 ghost use Rattle.vd_passes.specs.Tracing.{AreTraced};
 ghost use Rattle.vd_core.specs.Storing.{AreFullsCaused};
-ghost use Rattle.vd_core.specs.Start.{IsStart};
-ghost use Rattle.vd_core.specs.Opening.{AreReplied, shape_of, new_keeping, AreNew, IsOpened, empty_history};
+ghost use Rattle.vd_device.specs.Disks.{Disk};
+ghost use Rattle.vd_image.specs.Layouts.{layout_of as places};
+ghost use Rattle.vd_image.specs.Decoders.{format_of};
+ghost use Rattle.vd_image.specs.CrashImages.{base_at, IsCrashImage};
+ghost use Rattle.vd_crash.specs.CrashSafe.{IsCrashSafe};
+ghost use Rattle.vd_safety.specs.Held.{IsOpenAgain};
+ghost use Rattle.vd_reading.specs.Background.{zero_sector};
+ghost use Rattle.vd_reading.specs.Quiet.{AddsFlush};
+ghost use Rattle.vd_core.specs.Start.{IsStart, WasSafe};
+ghost use Rattle.vd_core.specs.Opening.{AreReplied, shape_of, new_keeping, AreNew, IsOpened, IsNumberedIn, empty_history};
 
 use crate::state::Core;
 use std::alloc::Global;
@@ -200,6 +208,8 @@ impl<S: Store, B: Base> Core<S, B> {
         requires version { state.header.version ≡ 2 }
         requires fits { need_of state.header ≤ S.sectors store }
         requires says { S.tells store → Says (S.disk store).held state }
+        // what was written before is durable
+        requires flushed { S.tells store → (old : Disk) × AddsFlush old (S.disk store) }
         requires idle { S.flies store [] }
         requires base_idle { B.flies base [] }
         requires some { 0 < passes }
@@ -263,6 +273,12 @@ impl<S: Store, B: Base> Core<S, B> {
         ensures base_faults { AreCaused OfBase result.history.log.entries self.base_faults (B.faults result.base) }
         ensures traced { S.tells result.store → AreTraced (S.disk result.store).log result.history.log.entries result.history.numbers }
         ensures full { AreFullsCaused self.shape self.entries (length self.table.chunks) self.table.storage result.history.log.entries }
+        ensures safe { S.tells result.store → B.tells result.base → (start : List Sector) → IsStart self.opening (B.content result.base) self.header start → WasSafe self.opening self.header
+            → IsCrashSafe (format_of self.header) (places self.header) (base_at zero_sector (B.content result.base)) zero_sector (S.disk result.store).start (S.disk result.store).log start result.history }
+        ensures reopens { S.tells result.store → B.tells result.base → (start : List Sector) → IsStart self.opening (B.content result.base) self.header start → WasSafe self.opening self.header
+            → (image : List Sector) → IsCrashImage (S.disk result.store).start (S.disk result.store).log image → IsOpenAgain self.header (B.content result.base) start result.history.log.entries image }
+        ensures numbers { S.tells result.store → B.tells result.base → (start : List Sector) → IsStart self.opening (B.content result.base) self.header start → WasSafe self.opening self.header
+            → IsNumberedIn (S.disk result.store).log result.history }
     {
         let Core {
             store,

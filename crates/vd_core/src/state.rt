@@ -6,7 +6,12 @@ ghost use Rattle.vd_format.specs.Headers.{IsValid};
 ghost use Rattle.vd_image.specs.Image.{geometry_of};
 ghost use Rattle.vd_passes.specs.declared.pass.Phase.TheVariants.{Flushing};
 ghost use Rattle.vd_metadata.specs.Attending.{IsAttended};
-ghost use Rattle.vd_core.specs.Start.{IsStart};
+ghost use Rattle.vd_image.specs.Layouts.{layout_of};
+ghost use Rattle.vd_image.specs.Decoders.{format_of};
+ghost use Rattle.vd_image.specs.CrashImages.{base_at};
+ghost use Rattle.vd_crash.specs.CrashSafe.{IsCrashSafe};
+ghost use Rattle.vd_reading.specs.Background.{zero_sector};
+ghost use Rattle.vd_core.specs.Start.{IsStart, WasSafe};
 ghost use Rattle.vd_passes.specs.Passes.{has_region};
 ghost use Rattle.vd_core.specs.Moves.{IsStanding};
 ghost use Rattle.vd_passes.specs.Steps.{IsAt};
@@ -53,7 +58,7 @@ impl<S: Store, B: Base> Model for Core<S, B> {
     ghost Value = { View S B };
 
     ghost use Rattle.vd_core.specs.Start.{opening_at};
-    ghost use Rattle.vd_core.specs.Kept.{IsKept, IsTold, IsLogged, IsAccounted, IsRecorded};
+    ghost use Rattle.vd_core.specs.Kept.{IsKept, IsTold, IsLogged, IsAccounted, IsRecorded, IsSafelyKept};
 
     ghost view = { λ c. record {
       store = c.store;
@@ -78,7 +83,8 @@ impl<S: Store, B: Base> Model for Core<S, B> {
         × (S.tells c.store → B.tells c.base → IsTold c.shape c.state.header c.state.table c.state.fresh.bits c.passes.items c.history (S.disk c.store) (S.last c.store) (B.content c.base) (B.sectors c.base))
         × IsAccounted c.shape c.state.map c.state.table c.passes.items c.history.log.entries (S.last c.store) c.store_faults (S.faults c.store) (B.last c.base) c.base_faults (B.faults c.base)
         × (S.tells c.store → IsLogged c.passes.items c.history (S.disk c.store))
-        × IsRecorded c.shape c.state c.passes.items c.flusher c.keeper };
+        × IsRecorded c.shape c.state c.passes.items c.flusher c.keeper
+        × (S.tells c.store → B.tells c.base → IsSafelyKept c.state.header c.state.map c.state.table c.state.fresh.bits c.keeper c.flusher c.passes.items c.history (S.disk c.store) (B.content c.base) (S.sectors c.store)) };
 }
 
 impl<S: Store, B: Base> Core<S, B> {
@@ -101,6 +107,8 @@ impl<S: Store, B: Base> Core<S, B> {
         ensures base_faults { AreCaused OfBase self.now.history.log.entries self.now.base_faults (B.faults self.now.base) }
         ensures traced { S.tells self.now.store → AreTraced (S.disk self.now.store).log self.now.history.log.entries self.now.history.numbers }
         ensures full { AreFullsCaused self.now.shape self.now.entries (length self.now.table.chunks) self.now.table.storage self.now.history.log.entries }
+        ensures safe { S.tells self.now.store → B.tells self.now.base → (start : List Sector) → IsStart self.now.opening (B.content self.now.base) self.now.header start → WasSafe self.now.opening self.now.header
+            → IsCrashSafe (format_of self.now.header) (layout_of self.now.header) (base_at zero_sector (B.content self.now.base)) zero_sector (S.disk self.now.store).start (S.disk self.now.store).log start self.now.history }
     {
         &self.history
     }

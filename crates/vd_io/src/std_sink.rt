@@ -1,6 +1,7 @@
 //! A sink over a writer of std.
 
-ghost use Rattle.std.specs.Prelude.{◌≡◌};
+ghost use Rattle.std.specs.Prelude.{◌≡◌, ◌≤◌, OnErr};
+ghost use Rattle.vd_io.specs.Streams.{Rose};
 
 use crate::Failed;
 use crate::sink::Sink;
@@ -29,6 +30,28 @@ impl<W> StdSink<W> {
     {
         StdSink { inner, faults: 0 }
     }
+
+    /// Counts one more failure.
+    fn fail(&mut self) -> Failed
+        ensures calm { self.old ≤ self.new }
+        ensures cause { Rose self.old self.new }
+    {
+        self.faults = self.faults.saturating_add(1);
+        Failed
+    }
+}
+
+impl<W: Write> StdSink<W> {
+    /// Hands on what the writer still keeps, as one with a buffer does. After Failed some of it may not be written.
+    pub fn flush(&mut self) -> Result<(), Failed>
+        ensures calm { self.old ≤ self.new }
+        ensures cause { OnErr result (Rose self.old self.new) }
+    {
+        match self.inner.flush() {
+            Ok(()) => Ok(()),
+            Err(_) => Err(self.fail()),
+        }
+    }
 }
 
 impl<W: Write> Sink for StdSink<W> {
@@ -43,10 +66,7 @@ impl<W: Write> Sink for StdSink<W> {
     fn write(&mut self, bytes: &[u8]) -> Result<(), Failed> {
         match self.inner.write_all(bytes) {
             Ok(()) => Ok(()),
-            Err(_) => {
-                self.faults = self.faults.saturating_add(1);
-                Err(Failed)
-            }
+            Err(_) => Err(self.fail()),
         }
     }
 

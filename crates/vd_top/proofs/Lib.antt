@@ -10,6 +10,8 @@ pub mod WritingLaws
 pub mod LocalLaws
 pub mod ReopeningLaws
 pub mod StartLaws
+pub mod SafeLaws
+pub mod LaterLaws
 pub mod RunningLaws
 pub mod ServedLaws
 pub mod RunCauses

@@ -10,12 +10,19 @@ use Rattle.vd_law.specs.Entries as law
 use Rattle.vd_law.specs.Entries.{Asked, Entry, call_of}
 use Rattle.vd_law.specs.Histories.{Numbered}
 use Rattle.vd_law.specs.Rules.{IsRegular, IsLegal}
-use Rattle.vd_device.specs.Disks.{Disk, IsHonest, IsRunning}
+use Rattle.vd_device.specs.Disks.{Disk, IsHonest, IsRunning, IsClean}
 use Rattle.vd_format.specs.declared.header.Header.{Header}
 use Rattle.vd_format.specs.declared.map.Entry.{Entry as MapEntry}
 use Rattle.vd_format.specs.Headers.{IsValid}
 use Rattle.vd_format.specs.Layouts.{blocks_of, chunks_of}
+use Rattle.vd_reading.specs.Background.{zero_sector as read_zero}
 use Rattle.vd_reading.specs.Quiet.{AddsNoWrite, OnlyReadsBase}
+use Rattle.vd_image.specs.Image.{HasNoLater}
+use Rattle.vd_image.specs.Layouts.{layout_of}
+use Rattle.vd_image.specs.Decoders.{format_of}
+use Rattle.vd_image.specs.CrashImages.{base_at}
+use Rattle.vd_image.specs.Made.{zero_sector}
+use Rattle.vd_crash.specs.CrashSafe.{IsCrashSafe}
 use Rattle.vd_replay.specs.Images.{image_of}
 use Rattle.vd_replay.specs.States.{IsSized, IsEntryOf, Says as StateSays}
 use Rattle.vd_replay.specs.declared.state.State.{State}
@@ -28,16 +35,19 @@ use Rattle.vd_passes.specs.Causes.{Device, OfStore, OfBase, AreCaused}
 use Rattle.vd_passes.specs.Tracing.{AreTraced, IsTicketOf, FailsBetween}
 use Rattle.vd_core.specs.View.{View}
 use Rattle.vd_core.specs.Asking.{Suffices}
-use Rattle.vd_core.specs.Start.{Opening, opening_at, IsStart}
+use Rattle.vd_core.specs.Start.{Opening, opening_at, IsStart, WasSafe}
 use Rattle.vd_core.specs.Storing.{AreFullsCaused}
 use Rattle.vd_core.specs.Leaving.{LeavesStore, LeavesBase}
-use Rattle.vd_core.specs.Opening.{shape_of, IsOpened, AreReplied}
+use Rattle.vd_core.specs.Opening.{shape_of, IsOpened, AreReplied, IsNumberedIn}
 use Rattle.vd_serve.specs.Serving.{IsResting, IsUnused, IsServed, Closes}
 use Rattle.vd_serve.specs.Driving.{IsSameDisk, with_flush}
 use Rattle.vd_report.specs.declared.line.Line.{Line}
 use Rattle.vd_top.specs.Leaving.{Leaves}
-use Rattle.vd_top.specs.Running.{IsDisk, IsRun, closing_line}
-use Rattle.vd_top.proofs.StartLaws.{start_is, clean_later}
+use Rattle.vd_top.specs.Orders.{IsInOrder, IsReadSince}
+use Rattle.vd_top.specs.Running.{IsDisk, IsRun, IsNumbered, closing_line}
+use Rattle.vd_top.proofs.StartLaws.{same_zeros, start_is, clean_later}
+use Rattle.vd_top.proofs.SafeLaws.{flush_reads, was_safe}
+use Rattle.vd_top.proofs.LaterLaws.{safe_later}
 
 -- a valid disk is whole blocks
 pub whole_disk : (h : Header) → IsValid h → h.block * blocks_of h ≡ h.size
@@ -80,14 +90,17 @@ same_twice x y = record {
 }
 
 -- What a core leaves that has served the trace and is closed.
-pub record Finishes {S B : Type 0} (told base_told : Type 0) (log : List Entry) (core : View S B) (content : List Sector) (faults base_faults : ℕ) (history : Numbered) : Type 0 where
+pub record Finishes {S B : Type 0} (told base_told : Type 0) (disk' : Disk) (core : View S B) (content : List Sector) (faults base_faults : ℕ) (history : Numbered) : Type 0 where
   pub history_is : history ≡ core.history
   pub regular : IsRegular (core.shape.block * core.shape.blocks) history.log.entries
   pub legal : told → base_told → (start : List Sector) → IsStart core.opening content core.header start → IsLegal start history.log.entries
+  pub safe : told → base_told → (start : List Sector) → IsStart core.opening content core.header start → WasSafe core.opening core.header
+      → IsCrashSafe (format_of core.header) (layout_of core.header) (base_at read_zero content) read_zero disk'.start disk'.log start history
+  pub numbers : told → base_told → (start : List Sector) → IsStart core.opening content core.header start → WasSafe core.opening core.header → IsNumberedIn disk'.log history
   pub replied : AreReplied history.log.entries
   pub store_caused : AreCaused OfStore history.log.entries core.store_faults faults
   pub base_caused : AreCaused OfBase history.log.entries core.base_faults base_faults
-  pub traced : told → AreTraced log history.log.entries history.numbers
+  pub traced : told → AreTraced disk'.log history.log.entries history.numbers
   pub full : AreFullsCaused core.shape core.entries (length core.table.chunks) core.table.storage history.log.entries
 
 fulls_same : (shape shape' : Shape) (had had' : List MapEntry) (chunks chunks' storage storage' : ℕ) (entries : List Entry) → shape' ≡ shape → had' ≡ had → chunks' ≡ chunks → storage' ≡ storage → AreFullsCaused shape' had' chunks' storage' entries → AreFullsCaused shape had chunks storage entries
@@ -99,38 +112,66 @@ start_moved : (o o' : Opening) (base base' : List Sector) (h h' : Header) (start
 start_moved o o' base base' h h' start same also header is =
     subst (λ (x : Header). IsStart o' base' x start) (sym header) (subst (λ (x : List Sector). IsStart o' x h start) (sym also) (subst (λ (x : Opening). IsStart x base h start) (sym same) is))
 
--- the core as it was opened, after it has served the trace, and after its closing
-pub served_run : {S B : Type 0} {told base_told : Type 0} {disk : Disk} {log : List Entry} {s : State} {room : Room} {store : S} {base : B} {base_sectors events faults faults' base_faults base_faults' : ℕ} (core core' core'' : View S B) (content content' : List Sector) (trace : Script)
+was_safe_moved : (o o' : Opening) (h h' : Header) → o' ≡ o → h' ≡ h → WasSafe o h → WasSafe o' h'
+was_safe_moved o o' h h' same header safe = subst (λ (x : Header). WasSafe o' x) (sym header) (subst (λ (x : Opening). WasSafe x h) (sym same) safe)
+
+safe_moved : (h h' : Header) (base base' : List Sector) (disk : Disk) (start : List Sector) (history : Numbered) → h' ≡ h → base' ≡ base
+    → IsCrashSafe (format_of h') (layout_of h') (base_at read_zero base') read_zero disk.start disk.log start history → IsCrashSafe (format_of h) (layout_of h) (base_at zero_sector base) zero_sector disk.start disk.log start history
+safe_moved h h' base base' disk start history header also safe =
+    subst (λ (z : Sector). IsCrashSafe (format_of h) (layout_of h) (base_at z base) z disk.start disk.log start history) same_zeros
+    (subst (λ (xs : List Sector). IsCrashSafe (format_of h) (layout_of h) (base_at read_zero xs) read_zero disk.start disk.log start history) also
+    (subst (λ (x : Header). IsCrashSafe (format_of x) (layout_of x) (base_at read_zero base') read_zero disk.start disk.log start history) header safe))
+
+-- The core as it was opened, after it has served the trace, and after its closing; and the store as it was handed in, opened, and in
+-- the end.
+pub served_run : {S B : Type 0} {told base_told : Type 0} {disk disk' : Disk} {s : State} {room : Room} {store : S} {base : B} {base_sectors events faults faults' base_faults base_faults' : ℕ} (core core' core'' : View S B) (content content' : List Sector) (trace : Script)
     (answer : Answer) (history : Numbered) → IsSized s → s.header.version ≡ 2 → (told → StateSays disk.held s) → (told → IsRunning events disk) → (told → IsHonest disk) → IsOpened s 2 room store base base_sectors events faults base_faults disk core
     → IsServed (script trace 1) core'.passes core'.history.log.entries → IsSameDisk core core' → Closes answer core'.history.log.entries core''.history.log.entries → IsSameDisk core' core'' → (told → core''.opening ≡ core.opening) → (base_told → content' ≡ content)
-    → Finishes told base_told log core'' content' faults' base_faults' history → IsRun trace s.header base_sectors told base_told disk log content faults faults' base_faults base_faults' history (closing_line answer)
-served_run {told = told} {disk = disk} {s = s} {base_sectors = base_sectors} {events = events} {faults' = faults'} {base_faults' = base_faults'} core core' core'' content content' trace answer history sized two says runs honest opened served first closed second opening same_content ends = record {
-  served = core'.history.log.entries;
-  asked = served.asked;
-  alone = served.alone;
-  answer = answer;
-  closed = subst (λ (n : Numbered). Closes answer core'.history.log.entries n.log.entries) (sym ends.history_is) closed;
-  closing_is = refl;
-  replied = ends.replied;
-  regular = subst (λ (n : ℕ). IsRegular n history.log.entries) (ap (λ (x : Shape). x.block * x.blocks) shaped ∙ whole_disk s.header sized.valid) ends.regular;
-  legal = λ t b clean start is. ends.legal t b start (
-      start_moved (opening_at events disk) core''.opening content content' s.header core''.header start (opening t ∙ opened.opening_is) (same_content b) (disk_same.header ∙ opened.header_is)
-      (start_is disk events s.header s content start (runs t) (honest t) clean ((says t).current two) is)
-      );
-  store_caused = subst (λ (n : ℕ). AreCaused OfStore history.log.entries n faults') (disk_same.store_faults ∙ opened.store_faults_are) ends.store_caused;
-  base_caused = subst (λ (n : ℕ). AreCaused OfBase history.log.entries n base_faults') (disk_same.base_faults ∙ opened.base_faults_are) ends.base_caused;
-  traced = ends.traced;
-  had = s.map;
-  had_is = λ t chunk within. (let state = (says t).current two in state.entries chunk within);
-  full = fulls_same (shape_of s.header base_sectors) core''.shape s.map core''.entries (chunks_of s.header) (length core''.table.chunks) s.header.storage core''.table.storage history.log.entries shaped (disk_same.entries ∙ opened.entries_are)
-      (disk_same.chunks ∙ ap (λ (t : Given). length t.chunks) opened.table_is ∙ sized.table) (disk_same.storage ∙ ap (λ (t : Given). t.storage) opened.table_is ∙ sized.storage) ends.full;
-}
+    → Finishes told base_told disk' core'' content' faults' base_faults' history → (old : Disk) → (told → IsReadSince old disk)
+    → IsRun trace s.header base_sectors told base_told old disk' content faults faults' base_faults base_faults' history (closing_line answer) × IsNumbered s.header told base_told old disk' content history
+served_run {told = told} {base_told = base_told} {disk = disk} {disk' = disk'} {s = s} {base_sectors = base_sectors} {events = events} {faults' = faults'} {base_faults' = base_faults'} core core' core'' content content' trace answer history sized two says runs honest opened served first closed second opening same_content ends old since = (
+  record {
+    served = core'.history.log.entries;
+    asked = served.asked;
+    alone = served.alone;
+    answer = answer;
+    closed = subst (λ (n : Numbered). Closes answer core'.history.log.entries n.log.entries) (sym ends.history_is) closed;
+    closing_is = refl;
+    replied = ends.replied;
+    regular = subst (λ (n : ℕ). IsRegular n history.log.entries) (ap (λ (x : Shape). x.block * x.blocks) shaped ∙ whole_disk s.header sized.valid) ends.regular;
+    legal = λ t b clean start is. ends.legal t b start (begins t b clean start is);
+    safe = λ t b clean order no_later start is.
+        safe_moved s.header core''.header content content' disk' start history header_same (same_content b) (ends.safe t b start (begins t b clean start is) (safely t clean order no_later));
+    store_caused = subst (λ (n : ℕ). AreCaused OfStore history.log.entries n faults') (disk_same.store_faults ∙ opened.store_faults_are) ends.store_caused;
+    base_caused = subst (λ (n : ℕ). AreCaused OfBase history.log.entries n base_faults') (disk_same.base_faults ∙ opened.base_faults_are) ends.base_caused;
+    traced = ends.traced;
+    had = s.map;
+    had_is = λ t chunk within. (let state = (says t).current two in subst (λ (xs : List Sector). IsEntryOf s.header (image_of xs) s.map chunk) (since t).held (state.entries chunk within));
+    full = fulls_same (shape_of s.header base_sectors) core''.shape s.map core''.entries (chunks_of s.header) (length core''.table.chunks) s.header.storage core''.table.storage history.log.entries shaped (disk_same.entries ∙ opened.entries_are)
+        (disk_same.chunks ∙ ap (λ (t : Given). length t.chunks) opened.table_is ∙ sized.table) (disk_same.storage ∙ ap (λ (t : Given). t.storage) opened.table_is ∙ sized.storage) ends.full;
+  },
+  λ t b clean order no_later start is. ends.numbers t b start (begins t b clean start is) (safely t clean order no_later),
+)
   where
     disk_same : IsSameDisk core core''
     disk_same = same_twice first second
 
     shaped : core''.shape ≡ shape_of s.header base_sectors
     shaped = disk_same.shape ∙ opened.shape_is
+
+    header_same : core''.header ≡ s.header
+    header_same = disk_same.header ∙ opened.header_is
+
+    begins : told → base_told → IsClean old → (start : List Sector) → IsDisk s.header old.held content start → IsStart core''.opening content' core''.header start
+    begins t b clean start is =
+        start_moved (opening_at events disk) core''.opening content content' s.header core''.header start (opening t ∙ opened.opening_is) (same_content b) header_same
+        (start_is disk events s.header s content start (runs t) (honest t) (clean_later old disk (flush_reads old disk (since t).flushed) clean) ((says t).current two)
+        (subst (λ (xs : List Sector). IsDisk s.header xs content start) (sym (since t).held) is))
+
+    safely : told → IsClean old → IsInOrder old → HasNoLater (format_of s.header) (layout_of s.header) (image_of old.held) s.header.generation → WasSafe core''.opening core''.header
+    safely t clean order no_later =
+        let state = (says t).current two in
+        was_safe_moved (opening_at events disk) core''.opening s.header core''.header (opening t ∙ opened.opening_is) header_same (was_safe old disk events s.header (since t) (runs t) (honest t) clean order state.opens no_later)
 
 -- What it leaves of the devices.
 
@@ -193,11 +234,11 @@ traced_later {log = log} {history = history} {numbers = numbers} more traced to 
 traced_on : {history : List Entry} {numbers : List ℕ} (old new : Disk) → AddsNoWrite old new → AreTraced old.log history numbers → AreTraced new.log history numbers
 traced_on {history = history} {numbers = numbers} old new adds traced = subst (λ (l : List Entry). AreTraced l history numbers) (sym adds.log) (traced_later adds.more traced)
 
--- a run from when the store was handed in until it is handed out, which before and behind the serving is only read
-pub run_wider : {trace : Script} {h : Header} {base_sectors f0 f1 f2 f3 base_faults base_faults' base_faults'' : ℕ} {t1 t2 t3 base_told base_told' : Type 0} {d0 d1 d2 d3 : Disk} {base : List Sector} {history : Numbered} {closing : Line} → f0 ≤ f1 → f2 ≤ f3 → base_faults' ≤ base_faults'' → (t3 → t2) → (t2 → t1) → (base_told' → base_told)
-    → (t1 → AddsNoWrite d0 d1) → (t1 → d1.held ≡ d0.held) → (t3 → AddsNoWrite d2 d3) → IsRun trace h base_sectors t2 base_told d1 d2.log base f1 f2 base_faults base_faults' history closing
-    → IsRun trace h base_sectors t3 base_told' d0 d3.log base f0 f3 base_faults base_faults'' history closing
-run_wider {h = h} {d0 = d0} {d1 = d1} {d2 = d2} {d3 = d3} {base = base} before behind base_behind told earlier base_earlier reads same reads_on run = record {
+-- A run until the store is handed out, which behind the serving is only read, and in which the opening is counted too.
+pub run_wider : {trace : Script} {h : Header} {base_sectors f0 f1 f2 f3 base_faults base_faults' base_faults'' : ℕ} {t2 t3 base_told base_told' : Type 0} {d0 d2 d3 : Disk} {base : List Sector} {history : Numbered} {closing : Line} → f0 ≤ f1 → f2 ≤ f3 → base_faults' ≤ base_faults'' → (t3 → t2) → (base_told' → base_told)
+    → (t3 → AddsNoWrite d2 d3) → IsRun trace h base_sectors t2 base_told d0 d2 base f1 f2 base_faults base_faults' history closing → IsNumbered h t2 base_told d0 d2 base history
+    → IsRun trace h base_sectors t3 base_told' d0 d3 base f0 f3 base_faults base_faults'' history closing
+run_wider {h = h} {d0 = d0} {d2 = d2} {d3 = d3} {base = base} {history = history} before behind base_behind told base_earlier reads_on run numbers = record {
   served = run.served;
   asked = run.asked;
   alone = run.alone;
@@ -206,12 +247,13 @@ run_wider {h = h} {d0 = d0} {d1 = d1} {d2 = d2} {d3 = d3} {base = base} before b
   closing_is = run.closing_is;
   replied = run.replied;
   regular = run.regular;
-  legal = λ t b clean start is. (let at = earlier (told t) in
-      run.legal (told t) (base_earlier b) (clean_later d0 d1 (reads at) clean) start (subst (λ (x : List Sector). IsDisk h x base start) (sym (same at)) is));
+  legal = λ t b. run.legal (told t) (base_earlier b);
+  safe = λ t b clean order no_later start is.
+      safe_later (format_of h) (layout_of h) (base_at zero_sector base) zero_sector d2 d3 start history (reads_on t) (numbers (told t) (base_earlier b) clean order no_later start is) (run.safe (told t) (base_earlier b) clean order no_later start is);
   store_caused = caused_wider before behind run.store_caused;
   base_caused = caused_wider (omega arith) base_behind run.base_caused;
   traced = λ t. traced_on d2 d3 (reads_on t) (run.traced (told t));
   had = run.had;
-  had_is = λ t chunk within. (let at = earlier (told t) in subst (λ (x : List Sector). IsEntryOf h (image_of x) run.had chunk) (same at) (run.had_is (told t) chunk within));
+  had_is = λ t. run.had_is (told t);
   full = run.full;
 }

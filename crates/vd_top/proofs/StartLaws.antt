@@ -186,7 +186,7 @@ module _ (sectors : ℕ) (held image : Image) (h : Header) (s : State) (is : IsS
       ];
     }
 
-same_zeros : read_zero ≡ zero_sector
+pub same_zeros : read_zero ≡ zero_sector
 unfolding read_zero
 same_zeros = refl
 

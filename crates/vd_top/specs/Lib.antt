@@ -4,6 +4,7 @@ pub mod Showing
 pub mod Making
 pub mod Writing
 pub mod Reopening
+pub mod Orders
 pub mod Running
 pub mod Commands
 pub mod Tasks

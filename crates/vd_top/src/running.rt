@@ -1,10 +1,10 @@
 //! The command `run`: one guest's requests, and the report of their history.
 
 ghost use Rattle.std.specs.Prelude.{◌≡◌, ℕ, ◌≤◌, ◌<◌, [], None, Some, length, IfOk, IfErr};
-ghost use Rattle.vd_device.specs.Disks.{IsHonest, IsRunning};
+ghost use Rattle.vd_device.specs.Disks.{Disk, IsHonest, IsRunning};
 ghost use Rattle.vd_format.specs.Headers.{IsValid};
 ghost use Rattle.vd_format.specs.Layouts.{need_of};
-ghost use Rattle.vd_reading.specs.Quiet.{OnlyReads, OnlyReadsBase, IsFault};
+ghost use Rattle.vd_reading.specs.Quiet.{OnlyReads, OnlyReadsBase, AddsFlush, IsFault};
 ghost use Rattle.vd_replay.specs.States.{IsSized, IsWhole, Says};
 ghost use Rattle.vd_trace.specs.Scripts.{need_of as trace_need};
 ghost use Rattle.vd_serve.specs.Driving.{with_flush};
@@ -15,7 +15,8 @@ ghost use Rattle.vd_report.specs.Replies.{HasText};
 ghost use Rattle.std.specs.List.{All};
 ghost use Rattle.vd_top.specs.Ending.{Ends};
 ghost use Rattle.vd_top.specs.Leaving.{Leaves};
-ghost use Rattle.vd_top.specs.Running.{trace_line, closing_line, past, ReadsScript, IsReadLine, OpensFor, IsOpenLine, IsRun, RunEnds};
+ghost use Rattle.vd_top.specs.Running.{trace_line, closing_line, past, ReadsScript, IsReadLine, OpensFor, IsOpenLine, IsRun, IsNumbered, RunEnds};
+ghost use Rattle.vd_top.specs.Orders.{IsReadSince};
 
 use crate::ending::End;
 use crate::printing::say;
@@ -64,7 +65,9 @@ fn look<S: Store>(store: &S)
     ensures running { S.tells store.now → IsRunning (S.events store.now) (S.disk store.now) }
     ensures honest { S.tells store.now → IsHonest (S.disk store.now) }
     ensures recorded { S.tells store.now → S.records store.now }
+    ensures size { S.tells store.now → length (S.disk store.now).held ≡ length (S.disk store.now).start }
 {
+    let _sectors = store.sectors();
     let _events = store.events();
     let _flying = store.in_flight();
 }
@@ -76,6 +79,7 @@ fn open_for<S: Store>(alloc: Global, store: &mut S, trace: &Trace) -> Result<Sta
     ensures quiet { OnlyReads (S.flies store.new []) (S.sectors store.old) (S.sectors store.new) (S.depth store.old) (S.depth store.new) (S.faults store.old) (S.faults store.new) (S.tells store.old) (S.tells store.new) (S.records store.old) (S.records store.new) (S.disk store.old) (S.disk store.new) }
     ensures opened { IfOk result (λ state. OpensFor trace.now (S.tells store.new) (S.disk store.old).held state.header) }
     ensures whole { IfOk result IsWhole }
+    ensures flushed { IfOk result (λ state. S.tells store.new → AddsFlush (S.disk store.old) (S.disk store.new)) }
     ensures says { IfOk result (λ state. S.tells store.new → Says (S.disk store.new).held state) }
     ensures large { IfOk result (λ state. need_of state.header ≤ S.sectors store.new) }
     ensures recorded { IfOk result (λ state. S.tells store.new → S.records store.new) }
@@ -130,12 +134,16 @@ fn serve_trace<S: Store, B: Base>(
     requires base_idle { B.flies base [] }
     requires opened { OpensFor trace.now (S.tells store) (S.disk store).held state.header }
     requires whole { IsWhole state }
+    requires flushed { S.tells store → (old : Disk) × AddsFlush old (S.disk store) }
     requires says { S.tells store → Says (S.disk store).held state }
     requires large { need_of state.header ≤ S.sectors store }
     requires guests { trace.now.guests ≡ 1 }
     requires content { length content.old ≡ MOST }
     requires seen { length seen.old ≡ MOST }
-    ensures run { IfOk result (λ served. IsRun trace.now state.header (B.sectors base) (S.tells served.store) (B.tells served.base) (S.disk store) (S.disk served.store).log (B.content base) (S.faults store) (S.faults served.store) (B.faults base) (B.faults served.base) served.history (closing_line served.closing)) }
+    // of a store that told `old` as it was handed in
+    ensures run { IfOk result (λ served. (old : Disk) → (S.tells store → IsReadSince old (S.disk store))
+        → IsRun trace.now state.header (B.sectors base) (S.tells served.store) (B.tells served.base) old (S.disk served.store) (B.content base) (S.faults store) (S.faults served.store) (B.faults base) (B.faults served.base) served.history (closing_line served.closing)
+        × IsNumbered state.header (S.tells served.store) (B.tells served.base) old (S.disk served.store) (B.content base) served.history) }
     ensures state { IfOk result (λ served. IsSized served.state × (served.state.header ≡ state.header)) }
     ensures store { IfOk result (λ served. Leaves (S.flies served.store []) (S.sectors store) (S.sectors served.store) (S.depth store) (S.depth served.store) (S.faults store) (S.faults served.store) (S.tells store) (S.tells served.store) (S.records store) (S.records served.store)) }
     ensures base { IfOk result (λ served. OnlyReadsBase (B.flies served.base []) (B.sectors base) (B.sectors served.base) (B.faults base) (B.faults served.base) (B.tells base) (B.tells served.base) (B.content base) (B.content served.base)) }
@@ -261,6 +269,7 @@ pub fn run<S: Store, B: Base, I: Source, O: Sink>(
     ensures calm { O.faults out.old ≤ O.faults out.new }
 {
     let mut store = store;
+    look(&store);
     let trace = match read_trace(alloc, source) {
         Ok(trace) => trace,
         Err(line) => return unserved(say(out, line), store, base),

@@ -25,4 +25,5 @@ returns g c =
           extends-part part q.piece filled c.add.ensures.extends,
         ),
       );
+      running = c.add.ensures.running;
     }

@@ -41,8 +41,15 @@ returns-clause-store g c = rw (c.unserved-in-Err-serve_trace.ensures, c.in-Err-s
 pub returns-clause-base : goal.returns-clause-base
 returns-clause-base g c = rw (c.unserved-in-Err-serve_trace.ensures, c.in-Err-serve_trace.ensures.back.1) (base_left c.requires.base_idle)
 
+pub serve_trace-requires-clause-flushed : goal.serve_trace-requires-clause-flushed
+serve_trace-requires-clause-flushed g c = λ told. (g.S.Store.disk c.args.store, c.in-Ok-open_for.ensures.flushed told)
+
 pub leave-requires-clause-text : goal.leave-requires-clause-text
-leave-requires-clause-text g c = regular_text c.in-Ok-serve_trace.served.history.log.entries c.in-Ok-serve_trace.ensures.run.regular
+leave-requires-clause-text g c =
+    let opening = c.open_for.ensures.quiet in
+    let first = c.look.ensures in
+    let run = c.in-Ok-serve_trace.ensures.run (g.S.Store.disk c.args.store) (λ t. record { flushed = c.in-Ok-open_for.ensures.flushed t; held = opening.held t; honest = first.honest (opening.told_before t); size = first.size (opening.told_before t) }) in
+    regular_text c.in-Ok-serve_trace.served.history.log.entries run.0.regular
 
 pub returns-in-Ok-serve_trace-clause-store : goal.returns-in-Ok-serve_trace-clause-store
 returns-in-Ok-serve_trace-clause-store g c = leaves_twice (leaves_twice (reads_leave c.open_for.ensures.quiet) c.in-Ok-serve_trace.ensures.store) (reads_leave c.leave.ensures.store)
@@ -57,12 +64,13 @@ returns-in-Ok-serve_trace-clause-ran g c =
     let serving = c.in-Ok-serve_trace.ensures in
     let leaving = c.leave.ensures in
     let reopened = leaving.reported in
+    let first = c.look.ensures in
+    let run = serving.run (g.S.Store.disk c.args.store) (λ t. record { flushed = c.in-Ok-open_for.ensures.flushed t; held = opening.held t; honest = first.honest (opening.told_before t); size = first.size (opening.told_before t) }) in
     rw leaving.history (
       Reported 1 served.history.log.entries (closing_line served.closing) reopened.0,
       Has_run c.in-Ok.trace c.in-Ok-open_for.state.header served.history (closing_line served.closing) reopened.0 c.in-Ok.ensures.read
           (opens_told (λ t. serving.store.told_before (leaving.store.told_before t)) (λ t. refl) c.in-Ok-open_for.ensures.opened)
-          (run_wider opening.calm leaving.store.calm leaving.base.calm leaving.store.told_before serving.store.told_before leaving.base.told_before
-          (λ t. opening.recorded (c.in-Ok-open_for.ensures.recorded t)) opening.held (λ t. leaving.store.recorded (leaving.recorded t)) serving.run)
+          (run_wider opening.calm leaving.store.calm leaving.base.calm leaving.store.told_before leaving.base.told_before (λ t. leaving.store.recorded (leaving.recorded t)) run.0 run.1)
           (reopens_wider serving.state.1 (λ t. serving.base.content_same (leaving.base.told_before t)) (λ ticket fault. fault_earlier (earlier opening.calm serving.store.calm) fault)
           (λ r. rose-earlier _ _ _ (earlier opening.calm serving.store.calm) r) (λ r. rose-earlier _ _ _ serving.base.calm r) reopened.1),
       reopened.2,

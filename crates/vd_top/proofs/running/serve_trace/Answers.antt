@@ -22,8 +22,9 @@ returns-in-Ok-clause-run g c =
     let told = λ (t : g.S.Store.tells c.finish-store.result.store.inner). rw store_same at (serving.store.told_before (served_told t)) in
     let closed_base = λ (t : g.B.Base.tells c.finish-store.result.base.inner). rw f.base at t in
     rw (c.into_inner-in-Ok.ensures, c.into_inner-in-Ok-2.ensures)
-    (served_run c.in-Ok.core c.serve.new.core c.close-closing.new.core (g.B.Base.content c.args.base) (g.B.Base.content c.finish-store.result.base.inner) c.args.trace.now c.close-closing.result c.finish-store.result.history c.requires.whole.sized c.requires.opened.version
+    (λ old since. served_run c.in-Ok.core c.serve.new.core c.close-closing.new.core (g.B.Base.content c.args.base) (g.B.Base.content c.finish-store.result.base.inner) c.args.trace.now c.close-closing.result c.finish-store.result.history c.requires.whole.sized c.requires.opened.version
     (λ t. c.requires.says (told t)) (λ t. c.look.ensures.running (told t)) (λ t. c.look.ensures.honest (told t)) opened serving.served serving.disk closing.closed closing.disk
     (λ t. closing.opening (closed_told t) ∙ serving.opening (served_told t))
     (λ t. ap (λ p. g.B.Base.content p.inner) f.base ∙ closing.base.content_same (closed_base t) ∙ serving.base.content_same (closing.base.told_before (closed_base t)) ∙ ap g.B.Base.content base_same)
-    (record { history_is = f.history; regular = f.regular; legal = f.legal; replied = f.replied; store_caused = f.store_faults; base_caused = f.base_faults; traced = f.traced; full = f.full }))
+    (record { history_is = f.history; regular = f.regular; legal = f.legal; safe = f.safe; numbers = f.numbers; replied = f.replied; store_caused = f.store_faults; base_caused = f.base_faults; traced = f.traced; full = f.full })
+    old (λ t. since (told t)))

@@ -1,5 +1,6 @@
 use Rattle.std.proofs.Common.{sym}
 use Rattle.vd_core.proofs.Keeping.FlushingReady.{idle-rest, chunk-same, blocks-same, adopt-recorded}
+use Rattle.vd_core.proofs.Securing.Flushing.{adopt-safely}
 use Rattle.vd_core.proofs.state.Core.adopt.Goals as goal
 
 pub adopt-requires-clause-rest : goal.adopt-requires-clause-rest
@@ -13,4 +14,11 @@ adopt-requires-clause-blocks g c = blocks-same c.self.invariant.0 c.self.invaria
 
 pub invariant_of-self : goal.invariant_of-self
 invariant_of-self g c =
-    (c.self.invariant.0, c.self.invariant.1, c.self.invariant.2, c.self.invariant.3, adopt-recorded c.self.invariant.4 (blocks-same c.self.invariant.0 c.self.invariant.4) c.adopt.ensures)
+    let idle = rw (sym c.self.view_is) at c.requires.idle in (
+      c.self.invariant.0,
+      c.self.invariant.1,
+      c.self.invariant.2,
+      c.self.invariant.3,
+      adopt-recorded c.self.invariant.4 (blocks-same c.self.invariant.0 c.self.invariant.4) c.adopt.ensures,
+      adopt-safely c.self.invariant.4 c.self.invariant.5 idle c.adopt.ensures,
+    )

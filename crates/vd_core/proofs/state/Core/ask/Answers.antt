@@ -5,6 +5,7 @@ use Rattle.vd_core.proofs.Keeping.Following.{ask-followed, ask-opened}
 use Rattle.vd_core.proofs.Keeping.Asking.{can-ask, ask-kept, ask-told}
 use Rattle.vd_core.proofs.Keeping.Recording.{ask-recorded}
 use Rattle.vd_core.proofs.Keeping.Telling.{logged-here}
+use Rattle.vd_core.proofs.Securing.Asking.{ask-safely}
 use Rattle.vd_core.proofs.state.Core.ask.Goals as goal
 
 pub ask_in_room-requires : goal.ask_in_room-requires
@@ -23,4 +24,5 @@ invariant_of-self g c =
       ask-accounted kept.coherent (can-ask (asked_of c.args.request) c.args.pass kept at c.requires.size inside) done.ends c.self.invariant.2,
       λ told. let was = c.self.invariant.3 told in logged-here was (ask-opened done.ends) (ask-followed was.followed at done.ends (done.running told)),
       ask-recorded c.self.invariant.4 at done.ends,
+      ask-safely c.self.invariant.0 c.self.invariant.4 c.self.invariant.1 c.self.invariant.5 c.args.pass at done.ends done.running,
     )

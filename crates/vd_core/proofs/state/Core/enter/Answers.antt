@@ -4,6 +4,7 @@ use Rattle.vd_core.proofs.Keeping.Following.{enter-followed}
 use Rattle.vd_core.proofs.Keeping.Entering.{can-enter, holds-nothing, enter-kept, enter-told, enters-mapped}
 use Rattle.vd_core.proofs.Keeping.Recording.{enter-recorded}
 use Rattle.vd_core.proofs.Keeping.Telling.{logged-here}
+use Rattle.vd_core.proofs.Securing.Entering.{enter-safely}
 use Rattle.vd_core.proofs.state.Core.enter.Goals as goal
 
 pub enter_block-requires-clause-can : goal.enter_block-requires-clause-can
@@ -21,6 +22,7 @@ invariant_of-self g c =
       λ told. let was = c.self.invariant.3 told in
           logged-here was refl (enter-followed c.self.inside.shape c.self.inside.state.table.chunks c.self.inside.regions c.enter_block.new.regions was.followed c.args.pass (at.0, at.1, at.2.0) c.enter_block.result done.busy done.enters),
       enter-recorded c.self.invariant.4 c.args.pass c.self.inside.state.table.chunks c.self.inside.regions c.enter_block.new.regions (at.0, at.1, at.2.0) c.enter_block.result done.busy done.enters,
+      enter-safely c.self.invariant.0 c.self.invariant.4 c.self.invariant.1 c.self.invariant.5 c.args.pass c.self.inside.state.table.chunks c.self.inside.regions c.enter_block.new.regions (at.0, at.1, at.2.0) c.enter_block.result done.busy done.enters,
     )
 
 pub returns-clause-enters : goal.returns-clause-enters

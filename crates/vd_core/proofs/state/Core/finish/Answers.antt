@@ -5,6 +5,7 @@ use Rattle.vd_passes.proofs.Tracing.{followed-traced}
 use Rattle.vd_core.proofs.Storing.{stored-fulls}
 use Rattle.vd_core.proofs.Keeping.Ending.{calm, base-calm}
 use Rattle.vd_core.proofs.Keeping.Telling.{told-legal}
+use Rattle.vd_core.proofs.Securing.Words.{safely-words, safely-again, safely-numbered}
 use Rattle.vd_core.proofs.state.Core.finish.Goals as goal
 
 pub returns-clause-calm : goal.returns-clause-calm
@@ -30,3 +31,12 @@ returns-clause-full g c = rw (sym c.self.view_is) (stored-fulls c.self.invariant
 
 pub returns-clause-legal : goal.returns-clause-legal
 returns-clause-legal g c = rw (sym c.self.view_is) (λ told base_told. told-legal c.self.invariant.0.coherent.regular (c.self.invariant.1 told base_told))
+
+pub returns-clause-safe : goal.returns-clause-safe
+returns-clause-safe g c = rw (sym c.self.view_is) (λ told base_told start is safe. safely-words (c.self.invariant.5 told base_told) start is safe)
+
+pub returns-clause-reopens : goal.returns-clause-reopens
+returns-clause-reopens g c = rw (sym c.self.view_is) (λ told base_told start is safe image left. safely-again c.self.invariant.0 c.self.invariant.4 (c.self.invariant.5 told base_told) start is safe image left)
+
+pub returns-clause-numbers : goal.returns-clause-numbers
+returns-clause-numbers g c = rw (sym c.self.view_is) (λ told base_told start is safe. record { opened = (c.self.invariant.3 told).since; below = safely-numbered (c.self.invariant.5 told base_told) start is safe })

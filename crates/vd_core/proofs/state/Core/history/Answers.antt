@@ -2,6 +2,7 @@ use Rattle.std.proofs.Common.{sym}
 use Rattle.vd_passes.proofs.Blaming.{blamed-caused}
 use Rattle.vd_passes.proofs.Tracing.{followed-traced}
 use Rattle.vd_core.proofs.Storing.{stored-fulls}
+use Rattle.vd_core.proofs.Securing.Words.{safely-words}
 use Rattle.vd_core.proofs.state.Core.history.Goals as goal
 
 pub returns-clause-store_faults : goal.returns-clause-store_faults
@@ -15,3 +16,6 @@ returns-clause-traced g c = rw (sym c.self.view_is) (λ told. followed-traced (c
 
 pub returns-clause-full : goal.returns-clause-full
 returns-clause-full g c = rw (sym c.self.view_is) (stored-fulls c.self.invariant.2.stored)
+
+pub returns-clause-safe : goal.returns-clause-safe
+returns-clause-safe g c = rw (sym c.self.view_is) (λ told base_told start is safe. safely-words (c.self.invariant.5 told base_told) start is safe)

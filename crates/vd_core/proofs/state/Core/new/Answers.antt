@@ -1,10 +1,11 @@
 use Rattle.std.proofs.Common.{◌∙◌, ℕ, ◌<◌, ◌≤◌, ◌≡◌, ◌^◌, sym, ap, subst, arith}
 use Rattle.vd_passes.specs.declared.shape.Shape.{Shape}
 use Rattle.vd_replay.proofs.Starting.{whole-given}
-use Rattle.vd_core.specs.Opening.{AreNew}
+use Rattle.vd_core.specs.Opening.{AreNew, shape_of, empty_history}
 use Rattle.vd_core.proofs.Keeping.Accounting.{opened-accounted}
 use Rattle.vd_core.proofs.Keeping.Opening.{opened-kept}
 use Rattle.vd_core.proofs.Keeping.OpeningTold.{opened-logged, opened-told, opened-recorded}
+use Rattle.vd_core.proofs.Securing.Opening.{opened-safely, opened-parts}
 use Rattle.vd_core.proofs.state.Core.new.Goals as goal
 
 bounded-by : (n sectors : ℕ) → n ≡ sectors → n < 2 ^ 64 → sectors < 2 ^ 64
@@ -17,7 +18,10 @@ pub invariant_of-result : goal.invariant_of-result
 invariant_of-result g c =
     let s = c.args.state in let parts = c.in-Ok.ensures in let whole = c.requires.whole in
     let new = subst (λ (block : ℕ). AreNew c.args.passes block c.in-Ok-new_passes.passes.items) (ap (λ (shape : Shape). shape.block) c.shape_of-shape.ensures) c.in-Ok-new_passes.ensures in
-    rw (c.room_of-spare.ensures.room, parts.keeper, parts.regions, parts.history, c.shape_of-shape.ensures, c.sectors-2.ensures.value, c.events.ensures.value) (
+    opened-parts s c.in-Ok-new_passes.passes.items c.args.passes c.args.room (g.S.Store.sectors c.args.store) (g.S.Store.depth c.args.store) (g.S.Store.events c.args.store) (g.B.Base.sectors c.args.base) (g.B.Base.depth c.args.base)
+    (g.S.Store.flies c.args.store) (g.B.Base.flies c.args.base) (g.S.Store.tells c.args.store) (g.B.Base.tells c.args.base) (g.S.Store.disk c.args.store) (g.S.Store.last c.args.store) (g.B.Base.content c.args.base)
+    (g.B.Base.last c.args.base) c.faults-store_faults.result (g.S.Store.faults c.args.store) c.faults-base_faults.result (g.B.Base.faults c.args.base)
+    (c.shape_of-shape.ensures ∙ ap (λ (n : ℕ). shape_of s.header n) c.sectors-2.ensures.value) parts.keeper parts.regions (parts.history ∙ ap (λ (n : ℕ). empty_history c.args.room n) c.events.ensures.value) c.room_of-spare.ensures.room (
       opened-kept s whole c.in-Ok-new_passes.passes.items c.args.passes (g.S.Store.sectors c.args.store) (g.S.Store.depth c.args.store) (g.S.Store.events c.args.store) (g.B.Base.sectors c.args.base) (g.B.Base.depth c.args.base) c.args.room
           (g.S.Store.flies c.args.store) (g.B.Base.flies c.args.base) c.requires.fits (bounded-by _ _ c.sectors.ensures.value c.sectors.type_inv) (deep-by _ _ c.depth.ensures.value c.depth.ensures.enough) (deep-by _ _ c.depth-2.ensures.value c.depth-2.ensures.enough)
           c.requires.idle c.requires.base_idle c.requires.most new c.room_of-spare.ensures.bounded,
@@ -26,4 +30,7 @@ invariant_of-result g c =
       opened-accounted s.map s.table new (λ n e. whole-given s n e whole) (whole.sized.map ∙ sym whole.sized.table) c.faults-store_faults.ensures c.faults-base_faults.ensures,
       (λ told. opened-logged c.args.room (g.S.Store.disk c.args.store) new (sym c.events.ensures.value ∙ c.events.ensures.running told)),
       opened-recorded s whole c.requires.version (g.B.Base.sectors c.args.base) new,
+      (λ told base_told. opened-safely s whole c.requires.version c.args.room (g.S.Store.disk c.args.store) (g.B.Base.content c.args.base) new
+          (sym c.events.ensures.value ∙ c.events.ensures.running told) (c.in_flight.ensures.honest told) (c.requires.says told)
+          (c.sectors.ensures.start (c.in_flight.ensures.recorded told) ∙ c.sectors.ensures.value) (c.sectors.ensures.held told ∙ c.sectors.ensures.value) (c.requires.flushed told)),
     )

@@ -2,6 +2,7 @@ use Rattle.std.proofs.Common.{sym, refl}
 use Rattle.vd_core.proofs.Keeping.FlushingReady.{between-calls, between-due, between-free, kept-storage, put-recorded}
 use Rattle.vd_core.proofs.Keeping.Flushing.{stays-by, submit-kept, submit-told, submit-accounted, submit-logged, submit-opening}
 use Rattle.vd_core.proofs.Keeping.Telling.{same-opening}
+use Rattle.vd_core.proofs.Securing.Flushing.{put-safely}
 use Rattle.vd_core.proofs.state.Core.put.Goals as goal
 
 pub put-requires-clause-under_way : goal.put-requires-clause-under_way
@@ -27,6 +28,7 @@ invariant_of-self g c =
       submit-accounted c.self.invariant.2 step done.number done.calm.0,
       submit-logged step c.self.invariant.3,
       put-recorded c.self.invariant.4 stage puts,
+      put-safely c.self.invariant.0 c.self.invariant.4 c.self.invariant.1 c.self.invariant.3 c.self.invariant.5 c.args.pass stage puts (stays-by done.stays),
     )
 
 pub returns-clause-puts : goal.returns-clause-puts

@@ -4,6 +4,7 @@ use Rattle.vd_core.proofs.Keeping.Accounting.{reply-accounted}
 use Rattle.vd_core.proofs.Keeping.Replying.{can-reply, reply-ok, reply-kept, reply-told}
 use Rattle.vd_core.proofs.Keeping.Recording.{reply-recorded}
 use Rattle.vd_core.proofs.Keeping.Telling.{logged-here}
+use Rattle.vd_core.proofs.Securing.Asking.{reply-safely}
 use Rattle.vd_core.proofs.state.Core.reply.Goals as goal
 
 pub reply_in_room-requires : goal.reply_in_room-requires
@@ -19,6 +20,7 @@ invariant_of-self g c =
       reply-accounted c.self.invariant.2 c.args.pass at done.replies,
       λ told. let was = c.self.invariant.3 told in logged-here was done.extends.opened (replies-followed was.followed at done.replies done.extends.numbers (done.running told)),
       reply-recorded c.self.invariant.4 c.args.pass at done.replies,
+      reply-safely c.self.invariant.0 c.self.invariant.4 c.self.invariant.1 c.self.invariant.5 c.args.pass at done.replies done.extends done.running,
     )
 
 pub returns-clause-ok : goal.returns-clause-ok

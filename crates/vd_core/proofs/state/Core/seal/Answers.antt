@@ -1,6 +1,7 @@
 use Rattle.std.proofs.Common.{sym}
 use Rattle.vd_core.proofs.Keeping.FlushingReady.{between-calls, seal-recorded}
 use Rattle.vd_core.proofs.Keeping.Flushing.{end-kept, end-told, end-accounted, end-logged}
+use Rattle.vd_core.proofs.Securing.Flushing.{seal-safely}
 use Rattle.vd_core.proofs.state.Core.seal.Goals as goal
 
 pub seal-requires-clause-under_way : goal.seal-requires-clause-under_way
@@ -14,4 +15,5 @@ invariant_of-self g c =
       end-accounted c.self.invariant.2 step.ends,
       (λ told. end-logged step.ends (c.self.invariant.3 told)),
       seal-recorded c.self.invariant.4 stage step,
+      seal-safely c.self.invariant.0 c.self.invariant.4 c.self.invariant.1 c.self.invariant.3 c.self.invariant.5 c.args.pass stage step,
     )

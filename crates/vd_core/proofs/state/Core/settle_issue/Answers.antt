@@ -9,6 +9,7 @@ use Rattle.vd_core.proofs.Starting.{settle-goes-on}
 use Rattle.vd_core.proofs.Keeping.FlushingReady.{blocks-same}
 use Rattle.vd_core.proofs.Keeping.Recording.{settle_issue-recorded}
 use Rattle.vd_core.proofs.Keeping.Telling.{logged-on, same-opening}
+use Rattle.vd_core.proofs.Securing.Issuing.{settle_issue-safely}
 use Rattle.vd_core.proofs.state.Core.settle_issue.Goals as goal
 
 pub settle_write-outcome-requires-clause-waiting : goal.settle_write-outcome-requires-clause-waiting
@@ -35,6 +36,7 @@ invariant_of-self g c =
       λ told. let was = c.self.invariant.3 (settled.2.told_before told) in
           logged-on was (settle-goes-on (settled.2.told told)) settled.3.opened (write_settled-followed c.self.invariant.0.coherent (g.S.Store.events c.settle_write-outcome.new.store) was.followed at settled.2 settled.3.numbers (settled.2.told told)),
       settle_issue-recorded c.self.invariant.4 c.args.pass at c.settle_write-outcome.new.fresh done.chunk settled.2 (settled-block c.self.invariant.0 c.args.pass at settled.2.pass settled.2.there) settled.5,
+      settle_issue-safely c.self.invariant.0 c.self.invariant.4 c.self.invariant.1 c.self.invariant.3 c.self.invariant.5 c.args.pass at settled.2 settled.3 settled.5 done.running done.stays,
     )
 
 pub returns-clause-stays : goal.returns-clause-stays

@@ -8,6 +8,7 @@ use Rattle.vd_core.proofs.Keeping.Seeing.{waiting-for-look, settle_look-kept, se
 use Rattle.vd_core.proofs.Starting.{settle-goes-on}
 use Rattle.vd_core.proofs.Keeping.Recording.{settle_look-recorded}
 use Rattle.vd_core.proofs.Keeping.Telling.{logged-on, same-opening}
+use Rattle.vd_core.proofs.Securing.Looking.{settle_look-safely}
 use Rattle.vd_core.proofs.state.Core.settle_store.Goals as goal
 
 pub settle_store_look-outcome-requires-clause-waiting : goal.settle_store_look-outcome-requires-clause-waiting
@@ -31,6 +32,7 @@ invariant_of-self g c =
           logged-on was (settle-goes-on (done.settled.2.told told)) done.settled.3.2.opened
           (look_settled-followed c.self.invariant.0.coherent (g.S.Store.events c.settle_store_look-outcome.new.store) was.followed (at.0, at.1, at.2.0) done.settled.2 done.settled.3.2.numbers (done.settled.2.told told)),
       settle_look-recorded c.self.invariant.4 c.args.pass (at.0, at.1, at.2.0) done.settled.2,
+      settle_look-safely c.self.invariant.0 c.self.invariant.4 c.self.invariant.1 c.self.invariant.3 c.self.invariant.5 c.args.pass (at.0, at.1, at.2.0) done.settled.2 done.settled.3.2 done.running done.stays,
     )
 
 pub returns-clause-opening : goal.returns-clause-opening

@@ -2,6 +2,7 @@ use Rattle.std.proofs.Common.{sym, refl}
 use Rattle.vd_core.proofs.Keeping.FlushingReady.{between-calls, flush-place, sync-recorded}
 use Rattle.vd_core.proofs.Keeping.Flushing.{stays-by, submit-kept, submit-told, submit-accounted, submit-logged, submit-opening}
 use Rattle.vd_core.proofs.Keeping.Telling.{same-opening}
+use Rattle.vd_core.proofs.Securing.Flushing.{sync-safely}
 use Rattle.vd_core.proofs.state.Core.sync.Goals as goal
 
 pub sync-requires-clause-under_way : goal.sync-requires-clause-under_way
@@ -19,6 +20,7 @@ invariant_of-self g c =
       submit-accounted c.self.invariant.2 step done.number done.calm.0,
       submit-logged step c.self.invariant.3,
       sync-recorded c.self.invariant.4 stage syncs,
+      sync-safely c.self.invariant.0 c.self.invariant.4 c.self.invariant.1 c.self.invariant.3 c.self.invariant.5 c.args.pass stage syncs (stays-by done.stays),
     )
 
 pub returns-clause-syncs : goal.returns-clause-syncs

@@ -1,0 +1,9 @@
+pub mod Asking
+pub mod Carrying
+pub mod Clean
+pub mod Entering
+pub mod Flushing
+pub mod Issuing
+pub mod Looking
+pub mod Opening
+pub mod Words

@@ -1,0 +1,96 @@
+-- What is kept so that every image is safe goes on with the core, while the opening stays as it was.
+use Rattle.std.proofs.Common.{◌≡◌, ℕ, zero, suc, ◌-◌, ◌<◌, ◌≤◌, inl, inr, Bool, List, [], ◌∷◌, ◌++◌, length, refl, sym, ◌∙◌, ap, subst, arith, Option, Some, slice_get}
+use Rattle.std.proofs.lemmas.Bool.{cases_lt}
+use Rattle.vd_law.specs.declared.entry.Sector.{Sector}
+use Rattle.vd_law.specs.declared.entry.Room.{Room}
+use Rattle.vd_law.specs.Entries.{Entry}
+use Rattle.vd_law.specs.Histories.{Numbered}
+use Rattle.vd_device.specs.declared.ticket.Ticket.{Ticket}
+use Rattle.vd_device.specs.Disks.{Disk}
+use Rattle.vd_format.specs.declared.header.Header.{Header}
+use Rattle.vd_format.specs.declared.map.Entry.{Entry as MapEntry}
+use Rattle.vd_image.specs.Log.{Writes}
+use Rattle.vd_regions.specs.declared.regions.Region.{Region}
+use Rattle.vd_table.specs.Tables.{Given}
+use Rattle.vd_replay.specs.declared.state.State.{State}
+use Rattle.vd_meta.specs.Keeping.{Keeping}
+use Rattle.vd_passes.specs.declared.shape.Shape.{Shape}
+use Rattle.vd_passes.specs.declared.pass.Pass.{Pass}
+use Rattle.vd_safety.specs.Mirrors.{opening_for, IsSecured}
+use Rattle.vd_safety.proofs.Surroundings.{Surroundings, surroundings-of}
+use Rattle.vd_core.specs.Start.{Opening, opening_at, IsStart, WasSafe}
+use Rattle.vd_core.specs.Kept.{IsKept, IsTold, IsLogged, IsRecorded, IsSafelyKept}
+use Rattle.vd_core.proofs.Starting.{GoesOn}
+use Rattle.vd_core.proofs.Keeping.Telling.{same-opening}
+
+at-appended : {A : Type 0} (xs ys : List A) (i : ℕ) (x : A) → length xs ≤ i → slice_get (xs ++ ys) i ≡ Some x → slice_get ys (i - length xs) ≡ Some x
+at-appended [] ys i x past at = let same : i - 0 ≡ i = omega arith in ap (slice_get ys) same ∙ at
+at-appended (y ∷ xs) ys zero x past at = absurd (omega (arith, past))
+at-appended (y ∷ xs) ys (suc j) x past at =
+    let same : suc j - length (y ∷ xs) ≡ j - length xs = omega arith in ap (slice_get ys) same ∙ at-appended xs ys j x (omega (arith, past)) at
+
+pub at-before : {A : Type 0} (xs ys : List A) (i : ℕ) (x : A) → i < length xs → slice_get (xs ++ ys) i ≡ Some x → slice_get xs i ≡ Some x
+at-before [] ys i x within at = absurd (omega (arith, within))
+at-before (y ∷ xs) ys zero x within at = at
+at-before (y ∷ xs) ys (suc j) x within at = at-before xs ys j x (omega (arith, within)) at
+
+-- each write of the longer log lies in the store where those of the log and of what was added do
+writes-inside : (log more : List Entry) (opened sectors : ℕ) → ((i a : ℕ) (v : Sector) → opened ≤ i → Writes log i a v → a < sectors) → ((j a : ℕ) (v : Sector) → Writes more j a v → a < sectors)
+    → (i a : ℕ) (v : Sector) → opened ≤ i → Writes (log ++ more) i a v → a < sectors
+writes-inside log more opened sectors before added i a v since w = elim (cases_lt i (length log)) [
+  | inl within ↦ before i a v since (record { event = w.event; stands = at-before log more i w.event within w.stands; covers = w.covers })
+  | inr past ↦ added (i - length log) a v (record { event = w.event; stands = at-appended log more i w.event past w.stands; covers = w.covers })
+]
+
+module _ {h : Header} {entries : List MapEntry} {table table' : Given} {fresh fresh' : List Bool} {k k' : Keeping} {flusher flusher' : Option ℕ} {passes passes' : List Pass} {history history' : Numbered} {disk : Disk} {base : List Sector} {sectors : ℕ}
+    (was : IsSafelyKept h entries table fresh k flusher passes history disk base sectors) where
+  next-secured : (disk' : Disk) (base' : List Sector) → opening_at history'.opened disk' ≡ opening_at history.opened disk → history'.opened ≡ history.opened → base' ≡ base
+      → ((start : List Sector) (held : ℕ → Sector) → IsStart (opening_at history.opened disk) base h start
+      → IsSecured (opening_for h entries disk.start held base start history.opened) table fresh k flusher passes history disk.log
+      → IsSecured (opening_for h entries disk.start held base start history.opened) table' fresh' k' flusher' passes' history' disk'.log)
+      → (start : List Sector) → IsStart (opening_at history'.opened disk') base' h start → WasSafe (opening_at history'.opened disk') h
+      → (held : ℕ → Sector) × IsSecured (opening_for h entries disk'.start held base' start history'.opened) table' fresh' k' flusher' passes' history' disk'.log
+  next-secured disk' base' same opened content next start is safe =
+      let is_before : IsStart (opening_at history.opened disk) base h start = subst (λ (o : Opening). IsStart o base h start) same (subst (λ (b : List Sector). IsStart (opening_at history'.opened disk') b h start) content is) in
+      let secured = was.secured start is_before (subst (λ (o : Opening). WasSafe o h) same safe) in
+      let now = next start secured.0 is_before secured.1 in
+      let begun : disk'.start ≡ disk.start = ap (λ (o : Opening). o.start) same in (
+        secured.0,
+        subst (λ (n : ℕ). IsSecured (opening_for h entries disk'.start secured.0 base' start n) table' fresh' k' flusher' passes' history' disk'.log) (sym opened)
+            (subst (λ (b : List Sector). IsSecured (opening_for h entries disk'.start secured.0 b start history.opened) table' fresh' k' flusher' passes' history' disk'.log) (sym content)
+            (subst (λ (b : List Sector). IsSecured (opening_for h entries b secured.0 base start history.opened) table' fresh' k' flusher' passes' history' disk'.log) (sym begun) now)),
+      )
+
+  -- the store is as it was
+  pub safely-here : {base' : List Sector} → history'.opened ≡ history.opened → base' ≡ base
+      → ((start : List Sector) (held : ℕ → Sector) → IsStart (opening_at history.opened disk) base h start
+      → IsSecured (opening_for h entries disk.start held base start history.opened) table fresh k flusher passes history disk.log
+      → IsSecured (opening_for h entries disk.start held base start history.opened) table' fresh' k' flusher' passes' history' disk.log)
+      → IsSafelyKept h entries table' fresh' k' flusher' passes' history' disk base' sectors
+  safely-here {base'} opened content next = record {
+    size = was.size;
+    inside = λ i a v since. was.inside i a v (subst (λ (n : ℕ). n ≤ i) opened since);
+    secured = next-secured disk base' (ap (λ (n : ℕ). opening_at n disk) opened) opened content next;
+  }
+
+  -- the store has gone on, by entries that write to its sectors alone
+  pub safely-on : {disk' : Disk} {sectors' : ℕ} → IsLogged passes history disk → (on : GoesOn disk disk') → ((j a : ℕ) (v : Sector) → Writes on.0 j a v → a < sectors) → sectors' ≡ sectors → history'.opened ≡ history.opened
+      → ((start : List Sector) (held : ℕ → Sector) → IsStart (opening_at history.opened disk) base h start
+      → IsSecured (opening_for h entries disk.start held base start history.opened) table fresh k flusher passes history disk.log
+      → IsSecured (opening_for h entries disk.start held base start history.opened) table' fresh' k' flusher' passes' history' disk'.log)
+      → IsSafelyKept h entries table' fresh' k' flusher' passes' history' disk' base sectors'
+  safely-on {disk'} {sectors'} logged on added same_size opened next = record {
+    size = ap length on.1.start ∙ was.size ∙ sym same_size;
+    inside = λ i a v since w.
+        let earlier : history.opened ≤ i = subst (λ (n : ℕ). n ≤ i) opened since in
+        subst (λ (n : ℕ). a < n) (sym same_size) (writes-inside disk.log on.0 history.opened sectors was.inside added i a v earlier (subst (λ (l : List Entry). Writes l i a v) on.1.log w));
+    secured = next-secured disk' base (same-opening logged on opened) opened refl next;
+  }
+
+-- What else is known of the core, of what its type keeps.
+module _ {shape : Shape} {state : State} {regions : List (Option Region)} {passes : List Pass} {history : Numbered} {spare : Room} {sectors depth events base_sectors base_depth : ℕ} {flies base_flies : List Ticket → Type 0} {flusher : Option ℕ} {k : Keeping} {disk : Disk} {last : ℕ} {base : List Sector}
+    (kept : IsKept shape state.table state.fresh.bits regions passes history spare sectors depth events base_sectors base_depth flies base_flies) (recorded : IsRecorded shape state passes flusher k)
+    (told : IsTold shape state.header state.table state.fresh.bits passes history disk last base base_sectors)
+    (start : List Sector) (held : ℕ → Sector) (is : IsStart (opening_at history.opened disk) base state.header start) where
+  pub around : Surroundings state.header (opening_for state.header state.map disk.start held base start history.opened) shape state.table state.fresh.bits k flusher passes history.log.entries base last
+  around = surroundings-of (record { format = refl; layout = refl; zeros = refl; same = recorded.same }) (λ s. refl) recorded.attended kept.coherent (told.faithful start is)

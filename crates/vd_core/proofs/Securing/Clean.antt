@@ -1,0 +1,55 @@
+-- Where the store was clean, and a flush has succeeded since, the opening was safe.
+use Rattle.std.proofs.Common.{◌≡◌, ℕ, ◌<◌, ◌≤◌, List, length, sym, ◌∙◌, ap, subst, arith, Contains, ◌++◌}
+use Rattle.std.specs.Prelude.{Ok}
+use Rattle.vd_law.specs.declared.entry.Sector.{Sector}
+use Rattle.vd_law.specs.Entries.{Entry}
+use Rattle.vd_law.specs.Contents.{may}
+use Rattle.vd_device.specs.Disks.{Disk, IsHonest, IsClean}
+use Rattle.vd_device.specs.Now.{flush_entries}
+use Rattle.vd_format.specs.declared.header.Header.{Header}
+use Rattle.vd_format.specs.Headers.{IsValid}
+use Rattle.vd_format.specs.Layouts.{need_of}
+use Rattle.vd_image.specs.Log.{Writes}
+use Rattle.vd_image.specs.Image.{HasNoLater}
+use Rattle.vd_image.specs.Layouts.{layout_of}
+use Rattle.vd_image.specs.Decoders.{format_of}
+use Rattle.vd_image.specs.CrashImages.{sectors_or}
+use Rattle.vd_image.specs.Made.{zero_sector as made_zero}
+use Rattle.vd_image.proofs.CrashImages.{at_inside}
+use Rattle.vd_image.proofs.Exact.{may_is_exact}
+use Rattle.vd_image.proofs.Layouts.{parts_inside}
+use Rattle.vd_reading.specs.Quiet.{AddsFlush}
+use Rattle.vd_replay.specs.Images.{image_of}
+use Rattle.vd_safety.proofs.Clean.{WasClean as IsCleanSince, AreLeft, AreInside, clean-left}
+use Rattle.vd_core.specs.Start.{opening_at, WasClean, WasSafe, image_at}
+use Rattle.vd_core.proofs.Starting.{all-told, clean-held}
+use Rattle.vd_core.proofs.Securing.Opening.{flush-stands}
+
+pub clean-since : (old new : Disk) → IsClean old → AddsFlush old new → IsCleanSince old new
+clean-since old new clean adds = record {
+  clean = clean;
+  start = adds.start;
+  more = flush_entries adds.number (Ok tt) ++ adds.more;
+  none = (tt, (tt, adds.none));
+  log = adds.log;
+  flush = length old.log;
+  flushes = flush-stands old new adds;
+  after = omega arith;
+}
+
+-- What each sector holds may be left by a crash, each write lies in the store, and no record that is held is of a later generation.
+pub was-safe : (h : Header) (old disk : Disk) (opened : ℕ) → IsValid h → need_of h ≤ length disk.held → opened ≡ length disk.log → IsHonest disk → WasClean (opening_at opened disk) → IsClean old → AddsFlush old disk
+    → length disk.held ≡ length disk.start → AreLeft disk → AreInside disk → HasNoLater (format_of h) (layout_of h) (image_of disk.held) h.generation → WasSafe (opening_at opened disk) h
+was-safe h old disk opened valid room all honest settled clean adds size held inside no_later = record {
+  inside = subst (λ (l : List Entry). (i a : ℕ) (v : Sector) → Writes l i a v → a < length disk.start) (sym (all-told disk opened all)) inside;
+  durable = λ a v within may_be.
+      let left = subst (λ (l : List Entry). Contains (may disk.start l a) v) (all-told disk opened all) may_be in
+      clean-left old disk (clean-since old disk clean adds) held size inside a v ((may_is_exact disk.start (sectors_or made_zero disk.start) disk.log a v (at_inside made_zero disk.start a within)).0 left)
+      ∙ sym (same a (omega (arith, within, size)));
+  no_later = λ k r within reads.
+      let slot = (parts_inside h valid).slots k within in
+      no_later k r within (ap (format_of h).record_of (sym (same ((layout_of h).slot_at k) (omega (arith, slot, room)))) ∙ reads);
+}
+  where
+    same : (a : ℕ) → a < length disk.held → image_at (opening_at opened disk) a ≡ image_of disk.held a
+    same a there = clean-held disk opened a made_zero all honest settled there

@@ -1,0 +1,123 @@
+-- The steps of a flush keep a core so that every image is safe.
+use Rattle.std.proofs.Common.{◌≡◌, ℕ, ◌+◌, ◌<◌, ◌≤◌, ◌⊎◌, List, [], ◌∷◌, length, refl, sym, ◌∙◌, subst, inl, inr, arith, Option, Some, None, slice_get}
+use Rattle.vd_law.specs.declared.entry.Sector.{Sector}
+use Rattle.vd_law.specs.declared.entry.Room.{Room}
+use Rattle.vd_law.specs.Histories.{Numbered}
+use Rattle.vd_device.specs.declared.ticket.Ticket.{Ticket}
+use Rattle.vd_device.specs.declared.ticket.Kind.{Kind}
+use Rattle.vd_device.specs.declared.ticket.Kind.TheVariants.{Read, Write, Flush}
+use Rattle.vd_device.specs.declared.settled.Settled.{Settled}
+use Rattle.vd_device.specs.declared.settled.Settled.TheVariants as settled
+use Rattle.vd_device.specs.Disks.{Disk}
+use Rattle.vd_device.specs.Calls.{asked_read, asked_flush}
+use Rattle.vd_image.specs.Log.{Writes}
+use Rattle.vd_regions.specs.declared.regions.Region.{Region}
+use Rattle.vd_replay.specs.declared.state.State.{State}
+use Rattle.vd_meta.specs.declared.stage.Stage.TheVariants.{Puts, Syncs, Seals}
+use Rattle.vd_meta.specs.declared.stage.Route.{Route}
+use Rattle.vd_meta.specs.declared.stage.Route.TheVariants.{Recycle}
+use Rattle.vd_meta.specs.Keeping.{Keeping}
+use Rattle.vd_meta.specs.Moves.{adopting}
+use Rattle.vd_passes.specs.declared.shape.Shape.{Shape}
+use Rattle.vd_passes.specs.declared.pass.Pass.{Pass}
+use Rattle.vd_passes.specs.declared.pass.Phase.TheVariants.{Idle}
+use Rattle.vd_passes.specs.Steps.{SubmitsMeta, meta_entry}
+use Rattle.vd_metadata.specs.Flushing.{BeginsFlush, IsWornOut, PutsNext, SyncsPuts, SettlesMeta, SealsFlush}
+use Rattle.vd_safety.proofs.Begins.{begin-secured, worn-secured}
+use Rattle.vd_safety.proofs.Puts.{put-secured}
+use Rattle.vd_safety.proofs.Syncs.{sync-secured}
+use Rattle.vd_safety.proofs.Settles.{settle_meta-secured}
+use Rattle.vd_safety.proofs.Settles as settles
+use Rattle.vd_safety.proofs.Seals.{seal-secured}
+use Rattle.vd_safety.proofs.Adopts.{adopt-secured}
+use Rattle.vd_safety.proofs.Supplied.{flushing-of, flush-asked}
+use Rattle.vd_core.specs.Devices.{Stays}
+use Rattle.vd_core.specs.Flushing.{flusher_after}
+use Rattle.vd_core.specs.Kept.{IsKept, IsTold, IsLogged, IsRecorded, IsSafelyKept}
+use Rattle.vd_core.proofs.Securing.Carrying.{safely-on, safely-here, around}
+use Rattle.vd_core.proofs.Securing.Issuing.{range-inside, none-written, settled-inside}
+
+-- what a call of a flush writes lies below the storage
+meta-inside : (kind : Kind) (t : Ticket) (content : List Sector) (low sectors : ℕ) → (kind ≡ Flush) ⊎ ((kind ≡ Write) × (t.first + length content ≤ low)) → low ≤ sectors → (j a : ℕ) (v : Sector) → Writes (meta_entry kind t content ∷ []) j a v → a < sectors
+meta-inside Read t content low sectors is fits j a v w = absurd (none-written (asked_read t) (λ b u covers. covers) j a v w)
+meta-inside Flush t content low sectors is fits j a v w = absurd (none-written (asked_flush t) (λ b u covers. covers) j a v w)
+meta-inside Write t content low sectors (inl flush) fits j a v w = absurd cc
+meta-inside Write t content low sectors (inr write) fits j a v w = range-inside t content sectors (let within = write.1 in omega (arith, within, fits)) j a v w
+
+same-after : (answer : Settled) (flusher : Option ℕ) → settles.flusher_after answer flusher ≡ flusher_after answer flusher
+same-after settled.Done flusher = refl
+same-after (settled.NotYet same) flusher = refl
+same-after (settled.Failed number) flusher = refl
+
+module _ {shape : Shape} {state : State} {regions : List (Option Region)} {passes : List Pass} {history : Numbered} {spare : Room} {sectors depth events base_sectors base_depth : ℕ} {flies base_flies : List Ticket → Type 0} {flusher : Option ℕ} {k : Keeping}
+    {tells base_tells : Type 0} {disk : Disk} {last : ℕ} {base : List Sector}
+    (kept : IsKept shape state.table state.fresh.bits regions passes history spare sectors depth events base_sectors base_depth flies base_flies) (recorded : IsRecorded shape state passes flusher k)
+    (told : tells → base_tells → IsTold shape state.header state.table state.fresh.bits passes history disk last base base_sectors) (logged : tells → IsLogged passes history disk)
+    (was : tells → base_tells → IsSafelyKept state.header state.map state.table state.fresh.bits k flusher passes history disk base sectors) (i : ℕ) where
+  -- what a submitted call writes lies in the store
+  submit-inside : {content : List Sector} {passes' : List Pass} {last' : ℕ} {flies' : List Ticket → Type 0} {tells' : Type 0} {disk' : Disk} (step : SubmitsMeta content shape i passes passes' flies flies' tells tells' disk disk' last last')
+      → (j a : ℕ) (v : Sector) → Writes (meta_entry step.ticket.kind step.ticket content ∷ []) j a v → a < sectors
+  submit-inside {content} step = meta-inside step.ticket.kind step.ticket content shape.storage_at sectors
+      (elim step.is_meta [ inl flush ↦ inl flush | inr write ↦ inr (write.0, (let within = write.1 in let count = step.count write.0 in omega (arith, within, count))) ])
+      (let inside = kept.storage.inside in omega (arith, inside))
+
+  -- A flush is begun.
+  pub begin-safely : {route : Route} {k' : Keeping} {passes' : List Pass} {last' sectors' depth' events' : ℕ} {flies' : List Ticket → Type 0} {tells' : Type 0} {disk' : Disk}
+      → flusher ≡ None → ((t : ℕ) → route ≡ Recycle t → t ≡ k.header.tracked) → BeginsFlush route shape i k k' passes passes' flies flies' tells tells' disk disk' last last'
+      → Stays sectors sectors' depth depth' events events' → tells' → base_tells → IsSafelyKept state.header state.map state.table state.fresh.bits k' (Some i) passes' history disk' base sectors'
+  begin-safely none tracked step stays now base_now =
+      let before = step.sends.told_before now in
+      safely-on (was before base_now) (logged before) (_, (step.sends.told now).0) (submit-inside step.sends) stays.sectors_same refl
+      (λ start held is secured. let near = around kept recorded (told before base_now) start held is in
+      begin-secured (flushing-of near secured) step none tracked
+      (λ p there asked flush. flush-asked history.log.entries i p (kept.coherent.each i p there) asked flush) now secured)
+
+  -- Or it isn't, at the last generation.
+  pub worn-safely : {route : Route} {passes' : List Pass} → flusher ≡ None → IsWornOut route i k passes passes' → tells → base_tells → IsSafelyKept state.header state.map state.table state.fresh.bits k flusher passes' history disk base sectors
+  worn-safely none step now base_now = safely-here (was now base_now) refl refl (λ start held is secured. worn-secured step none secured)
+
+  -- The next record, sector of the map or header is put.
+  pub put-safely : {k' : Keeping} {passes' : List Pass} {last' sectors' depth' events' : ℕ} {flies' : List Ticket → Type 0} {tells' : Type 0} {disk' : Disk}
+      → k.stage ≡ Puts → PutsNext state.table shape i k k' passes passes' flies flies' tells tells' disk disk' last last' → Stays sectors sectors' depth depth' events events'
+      → tells' → base_tells → IsSafelyKept state.header state.map state.table state.fresh.bits k' flusher passes' history disk' base sectors'
+  put-safely stage step stays now base_now =
+      let before = step.sends.told_before now in
+      safely-on (was before base_now) (logged before) (_, (step.sends.told now).0) (submit-inside step.sends) stays.sectors_same refl
+      (λ start held is secured. put-secured (flushing-of (around kept recorded (told before base_now) start held is) secured) step stage now secured)
+
+  -- What was put is flushed.
+  pub sync-safely : {passes' : List Pass} {last' sectors' depth' events' : ℕ} {flies' : List Ticket → Type 0} {tells' : Type 0} {disk' : Disk}
+      → k.stage ≡ Syncs → SyncsPuts shape i passes passes' flies flies' tells tells' disk disk' last last' → Stays sectors sectors' depth depth' events events'
+      → tells' → base_tells → IsSafelyKept state.header state.map state.table state.fresh.bits k flusher passes' history disk' base sectors'
+  sync-safely stage step stays now base_now =
+      let before = step.sends.told_before now in
+      safely-on (was before base_now) (logged before) (_, (step.sends.told now).0) (submit-inside step.sends) stays.sectors_same refl
+      (λ start held is secured. sync-secured (flushing-of (around kept recorded (told before base_now) start held is) secured) step stage now secured)
+
+  -- A call of it is settled.
+  pub settle_meta-safely : {answer : Settled} {k' : Keeping} {passes' : List Pass} {last' sectors' depth' events' : ℕ} {flies' : List Ticket → Type 0} {tells' : Type 0} {disk' : Disk}
+      → SettlesMeta answer i k k' passes passes' flies flies' tells tells' disk disk' last last' → Stays sectors sectors' depth depth' events events'
+      → tells' → base_tells → IsSafelyKept state.header state.map state.table state.fresh.bits k' (flusher_after answer flusher) passes' history disk' base sectors'
+  settle_meta-safely {answer} {k'} {passes'} {last'} {sectors'} {depth'} {events'} {flies'} {tells'} {disk'} step stays now base_now =
+      let before = step.settles.told_before now in
+      subst (λ (f : Option ℕ). IsSafelyKept state.header state.map state.table state.fresh.bits k' f passes' history disk' base sectors') (same-after answer flusher)
+      (safely-on (was before base_now) (logged before) (_, (step.settles.told now).grows) (settled-inside answer step.settles.ticket _ sectors) stays.sectors_same refl
+      (λ start held is secured. settle_meta-secured (flushing-of (around kept recorded (told before base_now) start held is) secured) step now secured))
+
+  -- It is over.
+  pub seal-safely : {k' : Keeping} {passes' : List Pass} → k.stage ≡ Seals → SealsFlush i k k' passes passes' → tells → base_tells → IsSafelyKept state.header state.map state.table state.fresh.bits k' None passes' history disk base sectors
+  seal-safely stage step now base_now =
+      safely-here (was now base_now) refl refl (λ start held is secured. seal-secured (flushing-of (around kept recorded (told now base_now) start held is) secured) step stage secured)
+
+module _ {shape : Shape} {state : State} {passes : List Pass} {history : Numbered} {sectors : ℕ} {flusher : Option ℕ} {k : Keeping} {tells base_tells : Type 0} {disk : Disk} {base : List Sector}
+    (recorded : IsRecorded shape state passes flusher k) (was : tells → base_tells → IsSafelyKept state.header state.map state.table state.fresh.bits k flusher passes history disk base sectors) where
+  -- where all passes are idle no flush is under way
+  idle-flusher : ((i : ℕ) (p : Pass) → slice_get passes i ≡ Some p → p.phase ≡ Idle) → (f : Option ℕ) → flusher ≡ f → flusher ≡ None
+  idle-flusher idle None none = none
+  idle-flusher idle (Some i) mine = absurd (let w = recorded.attended.working i mine in let flushing = (recorded.attended.flushing i w.0 w.1).1 mine in let e = sym (idle i w.0 w.1) ∙ flushing in cc)
+
+  -- All local blocks are owed that not every image has.
+  pub adopt-safely : {k' : Keeping} → ((i : ℕ) (p : Pass) → slice_get passes i ≡ Some p → p.phase ≡ Idle) → k' ≡ adopting state.fresh.bits k → tells → base_tells → IsSafelyKept state.header state.map state.table state.fresh.bits k' flusher passes history disk base sectors
+  adopt-safely {k'} idle after now base_now =
+      subst (λ (x : Keeping). IsSafelyKept state.header state.map state.table state.fresh.bits x flusher passes history disk base sectors) (sym after)
+      (safely-here (was now base_now) refl refl (λ start held is secured. adopt-secured (idle-flusher idle flusher refl) secured))
