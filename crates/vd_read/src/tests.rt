@@ -1,6 +1,6 @@
 //! Small runs of a core over devices in memory: what is written is read, and the neighbours come from the base.
 
-ghost use Rattle.std.specs.Prelude.{◌≡◌, ℕ, ◌+◌, ◌*◌, ◌<◌, ◌≤◌, IfOk, length};
+ghost use Rattle.std.specs.Prelude.{◌≡◌, ℕ, ◌+◌, ◌*◌, ◌<◌, ◌≤◌, IfOk, true, length};
 ghost use Rattle.vd_passes.specs.declared.pass.Phase.TheVariants.{Idle};
 ghost use Rattle.vd_passes.specs.Steps.{IsAt};
 
@@ -53,6 +53,13 @@ fn image(rt: &impl Abort, alloc: Global) -> Result<Vec<Sector>, Fail> {
     Ok(content)
 }
 
+/// Whether the disk is of 128 sectors, in blocks of 8.
+fn is_small(header: &Header) -> bool
+    ensures { result ≡ true → (header.now.block ≡ 8) × (header.now.size ≡ 128) }
+{
+    header.block == 8 && header.size == 128
+}
+
 /// A core with so many passes over a new image and its base, which fail by these rules, with so much room in the history. Opening
 /// the image takes four tickets of the store.
 fn opened(
@@ -76,7 +83,9 @@ fn opened(
         Ok(state) => state,
         Err(_) => panic!(rt; "no image"),
     };
-    assert!(rt; state.header == SMALL);
+    if !is_small(&state.header) {
+        panic!(rt; "another disk");
+    }
     match Core::new(alloc, store, base, state, passes, room) {
         Ok(core) => Ok(core),
         Err(Unopened { store: _, base: _ }) => Err(NoMemory.into()),
