@@ -169,7 +169,14 @@ fn without_flushes(alloc: Global, store: &MemStore) -> Result<Option<MemStore>, 
             content,
         } = store.log().event(at)
         {
-            if other.in_flight() == 0 && first + content.len() as u64 <= 104 && content.len() > 0 {
+            let count = content.len() as u64;
+            let sectors = other.sectors();
+            if count > 0
+                && count <= 2048
+                && first < sectors
+                && count <= sectors - first
+                && other.in_flight() == 0
+            {
                 let _ = write_now(&mut other, first, content);
             }
         }
