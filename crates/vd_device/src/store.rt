@@ -5,6 +5,7 @@ ghost use Rattle.vd_device.specs.declared.ticket.Ticket.{Ticket as AnyTicket};
 ghost use Rattle.vd_device.specs.declared.ticket.Kind.TheVariants.{Read, Write, Flush};
 ghost use Rattle.vd_device.specs.Tickets.{IsRange, HasPlace, IsFree, IsInFlight, Puts, IsTicket, reads};
 ghost use Rattle.vd_device.specs.Disks.{Disk, Adds, AreWrites, IsHonest, IsRunning, Records};
+ghost use Rattle.vd_device.specs.Orders.{IsInOrder};
 ghost use Rattle.vd_device.specs.Calls.{IsCalm, Settles, Tells, IsCaused, next_number, asked_read, asked_flush, issued, settled_of, settle_entries};
 
 use crate::settled::{Settled, Waited};
@@ -69,6 +70,8 @@ pub trait Store {
         ensures writes { tells self.now → (tickets : List AnyTicket) → flies self.now tickets → AreWrites tickets (disk self.now) }
         // what reads give could stand there by the log
         ensures honest { tells self.now → IsHonest (disk self.now) }
+        // each write was begun inside it where none was open, and each read was given what could be there
+        ensures order { tells self.now → IsInOrder (disk self.now) }
         ensures recorded { tells self.now → records self.now };
 
     fn events(&self) -> u64

@@ -17,6 +17,7 @@ sound-first m same none first grounded = record {
   told = λ runs. record {
     numbers = omega (arith, first);
     honest = λ s v at. rw none (there s v (ap (λ (h : List Sector). slice_get h s) (sym same) ∙ at));
+    order = rw none (record { alone = tt; inside = tt; shown = tt });
   };
   flight = (
     [],

@@ -15,6 +15,7 @@ use Rattle.vd_device.specs.declared.settled.Settled.TheVariants.{Done, Failed}
 use Rattle.vd_device.specs.Tickets.{HasAmong, Takes, ticket_id}
 use Rattle.vd_device.specs.Calls.{next_number, done_entry, failed_entry, Tells, Settles, IsCaused}
 use Rattle.vd_device.specs.Disks.{Disk, IsHonest, AreWrites, GrowsBy}
+use Rattle.vd_device.specs.Orders.{IsInOrder}
 use Rattle.vd_mem.specs.declared.rule.Keep.{Keep}
 use Rattle.vd_mem.specs.declared.rule.Keep.TheVariants.{Old, New}
 use Rattle.vd_mem.specs.Tapes.{added, content_at, events_of}
@@ -27,6 +28,7 @@ use Rattle.vd_mem.proofs.Flights.{all-take, put-length}
 use Rattle.vd_mem.proofs.Sectors.{range-held}
 use Rattle.vd_mem.proofs.Opens.{IsOff}
 use Rattle.vd_mem.proofs.Flying.{grown, writes-answered, writes-ended, calls-take}
+use Rattle.vd_mem.proofs.Orders.{order-push, last-follows}
 use Rattle.vd_mem.proofs.Honest.{kept-grows, broke-more, reply-more, seen-grows, broke-written-grows, done-grows}
 
 -- The last entries of a ticket of this kind.
@@ -174,6 +176,9 @@ module _ (m : Memory) (t : Ticket) (failure : Option Keep) (sound : IsSound m) w
           (λ can now. omega (arith, (sound.told now).numbers, length-append m.log.entries (e ∷ [])))
           (λ full now. stopped-over m.over now) runs;
       honest = (end-grows others all among flies runs).1.honest;
+      order = choose (λ (m' : Memory). Runs m' → IsInOrder (disk_of m')) (can_add m e) in_log stopped
+          (λ can now. order-push (disk_of m) e in_log.held (sound.told now).order (last-follows failure (disk_of m) t (sound.told now).honest))
+          (λ full now. stopped-over m.over now) runs;
     };
     flight = (others, end-takes others all among flies);
   }

@@ -9,7 +9,7 @@ pub fused-sound : (m : Memory) (fuse : Option ℕ) → IsSound m → IsSound (re
 fused-sound m fuse sound = record {
   size = sound.size;
   short = sound.short;
-  told = λ runs. record { numbers = (sound.told runs).numbers; honest = (sound.told runs).honest };
+  told = λ runs. record { numbers = (sound.told runs).numbers; honest = (sound.told runs).honest; order = (sound.told runs).order };
   flight = (sound.flight.0, record { many = sound.flight.1.many; within = sound.flight.1.within; calls = sound.flight.1.calls });
 }
 

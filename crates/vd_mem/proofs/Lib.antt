@@ -3,6 +3,7 @@ pub mod Sectors
 pub mod Opens
 pub mod Flying
 pub mod Honest
+pub mod Orders
 pub mod Choosing
 pub mod Submits
 pub mod Ending

@@ -19,6 +19,7 @@ use Rattle.vd_device.specs.declared.ticket.Kind.TheVariants.{Read, Write, Flush}
 use Rattle.vd_device.specs.Tickets.{IsFree, HasAmong, Puts, ticket_id}
 use Rattle.vd_device.specs.Calls.{next_number, issued, asked_read, asked_flush}
 use Rattle.vd_device.specs.Disks.{IsHonest, AreWrites, GrowsBy, Adds}
+use Rattle.vd_device.specs.Orders.{IsInOrder}
 use Rattle.vd_device.proofs.Flights.{at_front}
 use Rattle.vd_mem.specs.Tapes.{added}
 use Rattle.vd_mem.specs.Memory.{Memory, Runs, disk_of, can_add, submitted}
@@ -30,6 +31,7 @@ use Rattle.vd_mem.proofs.Sectors.{cases-sector, sector-range, get-push}
 use Rattle.vd_mem.proofs.Opens.{IsOff}
 use Rattle.vd_mem.proofs.Flying.{grown, IsOffOthers, writes-asked, writes-issued, free-closed, calls-put}
 use Rattle.vd_mem.proofs.Honest.{kept-grows, ask-more, issue-more}
+use Rattle.vd_mem.proofs.Orders.{Follows, order-push}
 
 -- the first entry of a call of this kind
 abbrev pub Begins : Kind → Memory → Ticket → Entry → Type 0
@@ -115,6 +117,14 @@ stands Flush m t e runs mark is =
           ∙ ap past (sym (take_at log (e ∷ []) t.mark (sym mark)));
     }
 
+-- a write begins inside the store where none is open
+follows : (k : Kind) (m : Memory) (t : Ticket) (e : Entry) → Runs m → IsWithin (length m.start) t → Begins k m t e → Follows (disk_of m) e
+follows Read m t e runs within is = subst (Follows (disk_of m)) (sym is) (record { alone = tt; inside = tt; shown = tt })
+follows Write m t e runs within is =
+    subst (Follows (disk_of m)) (sym is.2)
+    (record { alone = λ s from to. closed m t.first t.count runs is.3 s from (omega (arith, to, is.1)); inside = omega (arith, within.0, is.1); shown = tt })
+follows Flush m t e runs within is = subst (Follows (disk_of m)) (sym is) (record { alone = tt; inside = tt; shown = tt })
+
 module _ (m : Memory) (t : Ticket) (e : Entry) (submit : IsSubmit m t e) (sound : IsSound m) where
   abbrev in_log : Memory
   in_log = record m { log = added e m.log; last = next_number m.last; flying = m.flying + 1 }
@@ -161,6 +171,9 @@ module _ (m : Memory) (t : Ticket) (e : Entry) (submit : IsSubmit m t e) (sound 
           (λ can now. omega (arith, (sound.told now).numbers, length-append m.log.entries (e ∷ [])))
           (λ full now. stopped-over m.over now) runs;
       honest = (submit-adds runs).honest;
+      order = choose (λ (m' : Memory). Runs m' → IsInOrder (disk_of m')) (can_add m e) in_log stopped
+          (λ can now. order-push (disk_of m) e m.held (sound.told now).order (follows t.kind m t e now submit.within submit.begins))
+          (λ full now. stopped-over m.over now) runs;
     };
     flight = (t ∷ sound.flight.0, submit-puts sound.flight.0 (t ∷ sound.flight.0) (at_front t sound.flight.0) sound.flight.1);
   }

@@ -2,6 +2,7 @@
 use Rattle.std.specs.Prelude.{◌≡◌, ◌^◌, ◌<◌, ◌≤◌, List, length}
 use Rattle.vd_device.specs.declared.ticket.Ticket.{Ticket}
 use Rattle.vd_device.specs.Disks.{IsHonest}
+use Rattle.vd_device.specs.Orders.{IsInOrder}
 use Rattle.vd_mem.specs.Memory.{Memory, Runs, disk_of}
 use Rattle.vd_mem.specs.Flying.{Flies}
 
@@ -9,6 +10,7 @@ pub record IsTold (m : Memory) : Type 0 where
   -- each ticket has its first entry in the log
   pub numbers : m.last ≤ length m.log.entries
   pub honest : IsHonest (disk_of m)
+  pub order : IsInOrder (disk_of m)
 
 pub record IsSound (m : Memory) : Type 0 where
   pub size : length m.held ≡ length m.start

@@ -20,9 +20,10 @@ use Rattle.vd_reading.specs.Quiet.{AddsNoWrite, OnlyReadsBase}
 use Rattle.vd_image.specs.Image.{HasNoLater}
 use Rattle.vd_image.specs.Layouts.{layout_of}
 use Rattle.vd_image.specs.Decoders.{format_of}
-use Rattle.vd_image.specs.CrashImages.{base_at}
+use Rattle.vd_image.specs.CrashImages.{base_at, IsCrashImage}
 use Rattle.vd_image.specs.Made.{zero_sector}
 use Rattle.vd_crash.specs.CrashSafe.{IsCrashSafe}
+use Rattle.vd_safety.specs.Held.{IsOpenAgain}
 use Rattle.vd_replay.specs.Images.{image_of}
 use Rattle.vd_replay.specs.States.{IsSized, IsEntryOf, Says as StateSays}
 use Rattle.vd_replay.specs.declared.state.State.{State}
@@ -43,8 +44,8 @@ use Rattle.vd_serve.specs.Serving.{IsResting, IsUnused, IsServed, Closes}
 use Rattle.vd_serve.specs.Driving.{IsSameDisk, with_flush}
 use Rattle.vd_report.specs.declared.line.Line.{Line}
 use Rattle.vd_top.specs.Leaving.{Leaves}
-use Rattle.vd_top.specs.Orders.{IsInOrder, IsReadSince}
-use Rattle.vd_top.specs.Running.{IsDisk, IsRun, IsNumbered, closing_line}
+use Rattle.vd_top.specs.Orders.{IsReadSince}
+use Rattle.vd_top.specs.Running.{IsDisk, IsRun, IsNumbered, IsReopenable, closing_line}
 use Rattle.vd_top.proofs.StartLaws.{same_zeros, start_is, clean_later}
 use Rattle.vd_top.proofs.SafeLaws.{flush_reads, was_safe}
 use Rattle.vd_top.proofs.LaterLaws.{safe_later}
@@ -97,6 +98,8 @@ pub record Finishes {S B : Type 0} (told base_told : Type 0) (disk' : Disk) (cor
   pub safe : told → base_told → (start : List Sector) → IsStart core.opening content core.header start → WasSafe core.opening core.header
       → IsCrashSafe (format_of core.header) (layout_of core.header) (base_at read_zero content) read_zero disk'.start disk'.log start history
   pub numbers : told → base_told → (start : List Sector) → IsStart core.opening content core.header start → WasSafe core.opening core.header → IsNumberedIn disk'.log history
+  pub reopens : told → base_told → (start : List Sector) → IsStart core.opening content core.header start → WasSafe core.opening core.header → (image : List Sector) → IsCrashImage disk'.start disk'.log image → IsOpenAgain core.header content start history.log.entries image
+  pub left : told → IsCrashImage disk'.start disk'.log disk'.held
   pub replied : AreReplied history.log.entries
   pub store_caused : AreCaused OfStore history.log.entries core.store_faults faults
   pub base_caused : AreCaused OfBase history.log.entries core.base_faults base_faults
@@ -122,13 +125,17 @@ safe_moved h h' base base' disk start history header also safe =
     (subst (λ (xs : List Sector). IsCrashSafe (format_of h) (layout_of h) (base_at read_zero xs) read_zero disk.start disk.log start history) also
     (subst (λ (x : Header). IsCrashSafe (format_of x) (layout_of x) (base_at read_zero base') read_zero disk.start disk.log start history) header safe))
 
+again_moved : (h h' : Header) (base base' start : List Sector) (entries : List Entry) (held : List Sector) → h' ≡ h → base' ≡ base → IsOpenAgain h' base' start entries held → IsOpenAgain h base start entries held
+again_moved h h' base base' start entries held header also again =
+    subst (λ (xs : List Sector). IsOpenAgain h xs start entries held) also (subst (λ (x : Header). IsOpenAgain x base' start entries held) header again)
+
 -- The core as it was opened, after it has served the trace, and after its closing; and the store as it was handed in, opened, and in
 -- the end.
 pub served_run : {S B : Type 0} {told base_told : Type 0} {disk disk' : Disk} {s : State} {room : Room} {store : S} {base : B} {base_sectors events faults faults' base_faults base_faults' : ℕ} (core core' core'' : View S B) (content content' : List Sector) (trace : Script)
     (answer : Answer) (history : Numbered) → IsSized s → s.header.version ≡ 2 → (told → StateSays disk.held s) → (told → IsRunning events disk) → (told → IsHonest disk) → IsOpened s 2 room store base base_sectors events faults base_faults disk core
     → IsServed (script trace 1) core'.passes core'.history.log.entries → IsSameDisk core core' → Closes answer core'.history.log.entries core''.history.log.entries → IsSameDisk core' core'' → (told → core''.opening ≡ core.opening) → (base_told → content' ≡ content)
     → Finishes told base_told disk' core'' content' faults' base_faults' history → (old : Disk) → (told → IsReadSince old disk)
-    → IsRun trace s.header base_sectors told base_told old disk' content faults faults' base_faults base_faults' history (closing_line answer) × IsNumbered s.header told base_told old disk' content history
+    → IsRun trace s.header base_sectors told base_told old disk' content faults faults' base_faults base_faults' history (closing_line answer) × IsNumbered s.header told base_told old disk' content history × IsReopenable s.header told base_told old disk' content history
 served_run {told = told} {base_told = base_told} {disk = disk} {disk' = disk'} {s = s} {base_sectors = base_sectors} {events = events} {faults' = faults'} {base_faults' = base_faults'} core core' core'' content content' trace answer history sized two says runs honest opened served first closed second opening same_content ends old since = (
   record {
     served = core'.history.log.entries;
@@ -140,8 +147,8 @@ served_run {told = told} {base_told = base_told} {disk = disk} {disk' = disk'} {
     replied = ends.replied;
     regular = subst (λ (n : ℕ). IsRegular n history.log.entries) (ap (λ (x : Shape). x.block * x.blocks) shaped ∙ whole_disk s.header sized.valid) ends.regular;
     legal = λ t b clean start is. ends.legal t b start (begins t b clean start is);
-    safe = λ t b clean order no_later start is.
-        safe_moved s.header core''.header content content' disk' start history header_same (same_content b) (ends.safe t b start (begins t b clean start is) (safely t clean order no_later));
+    safe = λ t b clean no_later start is.
+        safe_moved s.header core''.header content content' disk' start history header_same (same_content b) (ends.safe t b start (begins t b clean start is) (safely t clean no_later));
     store_caused = subst (λ (n : ℕ). AreCaused OfStore history.log.entries n faults') (disk_same.store_faults ∙ opened.store_faults_are) ends.store_caused;
     base_caused = subst (λ (n : ℕ). AreCaused OfBase history.log.entries n base_faults') (disk_same.base_faults ∙ opened.base_faults_are) ends.base_caused;
     traced = ends.traced;
@@ -150,7 +157,9 @@ served_run {told = told} {base_told = base_told} {disk = disk} {disk' = disk'} {
     full = fulls_same (shape_of s.header base_sectors) core''.shape s.map core''.entries (chunks_of s.header) (length core''.table.chunks) s.header.storage core''.table.storage history.log.entries shaped (disk_same.entries ∙ opened.entries_are)
         (disk_same.chunks ∙ ap (λ (t : Given). length t.chunks) opened.table_is ∙ sized.table) (disk_same.storage ∙ ap (λ (t : Given). t.storage) opened.table_is ∙ sized.storage) ends.full;
   },
-  λ t b clean order no_later start is. ends.numbers t b start (begins t b clean start is) (safely t clean order no_later),
+  λ t b clean no_later start is. ends.numbers t b start (begins t b clean start is) (safely t clean no_later),
+  λ t b clean no_later start is.
+      again_moved s.header core''.header content content' start history.log.entries disk'.held header_same (same_content b) (ends.reopens t b start (begins t b clean start is) (safely t clean no_later) disk'.held (ends.left t)),
 )
   where
     disk_same : IsSameDisk core core''
@@ -168,10 +177,10 @@ served_run {told = told} {base_told = base_told} {disk = disk} {disk' = disk'} {
         (start_is disk events s.header s content start (runs t) (honest t) (clean_later old disk (flush_reads old disk (since t).flushed) clean) ((says t).current two)
         (subst (λ (xs : List Sector). IsDisk s.header xs content start) (sym (since t).held) is))
 
-    safely : told → IsClean old → IsInOrder old → HasNoLater (format_of s.header) (layout_of s.header) (image_of old.held) s.header.generation → WasSafe core''.opening core''.header
-    safely t clean order no_later =
+    safely : told → IsClean old → HasNoLater (format_of s.header) (layout_of s.header) (image_of old.held) s.header.generation → WasSafe core''.opening core''.header
+    safely t clean no_later =
         let state = (says t).current two in
-        was_safe_moved (opening_at events disk) core''.opening s.header core''.header (opening t ∙ opened.opening_is) header_same (was_safe old disk events s.header (since t) (runs t) (honest t) clean order state.opens no_later)
+        was_safe_moved (opening_at events disk) core''.opening s.header core''.header (opening t ∙ opened.opening_is) header_same (was_safe old disk events s.header (since t) (runs t) (honest t) clean state.opens no_later)
 
 -- What it leaves of the devices.
 
@@ -248,8 +257,8 @@ run_wider {h = h} {d0 = d0} {d2 = d2} {d3 = d3} {base = base} {history = history
   replied = run.replied;
   regular = run.regular;
   legal = λ t b. run.legal (told t) (base_earlier b);
-  safe = λ t b clean order no_later start is.
-      safe_later (format_of h) (layout_of h) (base_at zero_sector base) zero_sector d2 d3 start history (reads_on t) (numbers (told t) (base_earlier b) clean order no_later start is) (run.safe (told t) (base_earlier b) clean order no_later start is);
+  safe = λ t b clean no_later start is.
+      safe_later (format_of h) (layout_of h) (base_at zero_sector base) zero_sector d2 d3 start history (reads_on t) (numbers (told t) (base_earlier b) clean no_later start is) (run.safe (told t) (base_earlier b) clean no_later start is);
   store_caused = caused_wider before behind run.store_caused;
   base_caused = caused_wider (omega arith) base_behind run.base_caused;
   traced = λ t. traced_on d2 d3 (reads_on t) (run.traced (told t));

@@ -21,6 +21,7 @@ use Rattle.vd_image.specs.Openings.{Opens}
 use Rattle.vd_image.specs.CrashImages.{base_at}
 use Rattle.vd_image.specs.Made.{zero_sector}
 use Rattle.vd_crash.specs.CrashSafe.{IsCrashSafe}
+use Rattle.vd_safety.specs.Held.{IsOpenAgain}
 use Rattle.vd_replay.specs.Images.{image_of}
 use Rattle.vd_replay.specs.States.{IsEntryOf}
 use Rattle.vd_replay.specs.Refusals.{Refused}
@@ -42,8 +43,7 @@ use Rattle.vd_report.specs.declared.line.Line.{Line}
 use Rattle.vd_report.specs.declared.line.Line.TheVariants as lines_of
 use Rattle.vd_top.specs.Showing.{show_line, IsJudged}
 use Rattle.vd_top.specs.Outcomes.{Reopened, Outcome, Says, Reported}
-use Rattle.vd_top.specs.Reopening.{Reopens}
-use Rattle.vd_top.specs.Orders.{IsInOrder}
+use Rattle.vd_top.specs.Reopening.{Reopens, IsAllowed}
 
 -- the words ask for a run of one guest without workers, that copies nothing; all other runs are not built yet
 abbrev pub AsksRun : List (List ℕ) → Type 0
@@ -105,8 +105,8 @@ pub record IsDisk (h : Header) (held base start : List Sector) : Type 0 where
 -- The history of a run on an image with this header, on a store that told `disk` as it was handed in and tells `disk'` in the end.
 -- Guest 1 asked the trace's requests, each once and in order; then pass 0 asked one flush, of whose reply the report's line of the
 -- closing tells; nobody else asked, and each call has its reply. It keeps the rules that hold whatever the devices tell, and where
--- they tell and the store was clean it is a legal history of the disk that the image stood for. Where its log was in order too, and no
--- slot had a record of a later generation, the run is crash safe. Each fault names a ticket of its own that failed, and each Full
+-- they tell and the store was clean it is a legal history of the disk that the image stood for. Where no slot had a record of a later
+-- generation, the run is crash safe. Each fault names a ticket of its own that failed, and each Full
 -- what was lacking and what was free.
 pub record IsRun (trace : Script) (h : Header) (base_sectors : ℕ) (told base_told : Type 0) (disk disk' : Disk) (base : List Sector) (faults faults' base_faults base_faults' : ℕ) (history : Numbered) (closing : Line) : Type 0 where
   -- the entries before the closing
@@ -120,7 +120,7 @@ pub record IsRun (trace : Script) (h : Header) (base_sectors : ℕ) (told base_t
   pub regular : IsRegular h.size history.log.entries
   pub legal : told → base_told → IsClean disk → (start : List Sector) → IsDisk h disk.held base start → IsLegal start history.log.entries
   -- at every moment of the run each image that a crash may leave opens with contents that are allowed
-  pub safe : told → base_told → IsClean disk → IsInOrder disk → HasNoLater (format_of h) (layout_of h) (image_of disk.held) h.generation → (start : List Sector) → IsDisk h disk.held base start
+  pub safe : told → base_told → IsClean disk → HasNoLater (format_of h) (layout_of h) (image_of disk.held) h.generation → (start : List Sector) → IsDisk h disk.held base start
       → IsCrashSafe (format_of h) (layout_of h) (base_at zero_sector base) zero_sector disk'.start disk'.log start history
   pub store_caused : AreCaused OfStore history.log.entries faults faults'
   pub base_caused : AreCaused OfBase history.log.entries base_faults base_faults'
@@ -133,7 +133,17 @@ pub record IsRun (trace : Script) (h : Header) (base_sectors : ℕ) (told base_t
 -- Where a run is crash safe, its history is numbered by the log that `disk'` tells.
 abbrev pub IsNumbered : (h : Header) (told base_told : Type 0) (disk disk' : Disk) (base : List Sector) → Numbered → Type 0
 IsNumbered h told base_told disk disk' base history =
-    told → base_told → IsClean disk → IsInOrder disk → HasNoLater (format_of h) (layout_of h) (image_of disk.held) h.generation → (start : List Sector) → IsDisk h disk.held base start → IsNumberedIn disk'.log history
+    told → base_told → IsClean disk → HasNoLater (format_of h) (layout_of h) (image_of disk.held) h.generation → (start : List Sector) → IsDisk h disk.held base start → IsNumberedIn disk'.log history
+
+-- Where a run is crash safe, what the store holds that `disk'` tells opens again.
+abbrev pub IsReopenable : (h : Header) (told base_told : Type 0) (disk disk' : Disk) (base : List Sector) → Numbered → Type 0
+IsReopenable h told base_told disk disk' base history =
+    told → base_told → IsClean disk → HasNoLater (format_of h) (layout_of h) (image_of disk.held) h.generation → (start : List Sector) → IsDisk h disk.held base start → IsOpenAgain h base start history.log.entries disk'.held
+
+-- Where a run is crash safe, the image that it leaves is refused for nothing, and what is shown of it is allowed.
+abbrev pub IsAllowedAgain : (h : Header) (told base_told : Type 0) → Disk → (base : List Sector) → Numbered → Reopened → Type 0
+IsAllowedAgain h told base_told disk base history reopened =
+    told → base_told → IsClean disk → HasNoLater (format_of h) (layout_of h) (image_of disk.held) h.generation → (start : List Sector) → IsDisk h disk.held base start → IsAllowed start history.log.entries reopened
 
 -- What becomes of a run, with its history where a guest was served.
 pub data RunEnds (source_told : Type 0) (bytes : List ℕ) (SourceFailed told base_told : Type 0) (disk disk' : Disk) (base : List Sector) (base_sectors : ℕ) (StoreFault : ℕ → Type 0)
@@ -146,4 +156,5 @@ pub data RunEnds (source_told : Type 0) (bytes : List ℕ) (SourceFailed told ba
   Has_run : (trace : Script) (h : Header) (history : Numbered) (closing : Line) (reopened : Reopened) → ReadsScript source_told bytes trace → OpensFor trace told disk.held h
       → IsRun trace h base_sectors told base_told disk disk' base faults faults' base_faults base_faults' history closing
       → Reopens h trace.shows told base_told disk'.held base StoreFault (Rose faults faults') (Rose base_faults base_faults') reopened
+      → IsAllowedAgain h told base_told disk base history reopened
       → RunEnds source_told bytes SourceFailed told base_told disk disk' base base_sectors StoreFault faults faults' base_faults base_faults' (Some history) (Reported 1 history.log.entries closing reopened)

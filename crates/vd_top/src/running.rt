@@ -2,6 +2,7 @@
 
 ghost use Rattle.std.specs.Prelude.{◌≡◌, ℕ, ◌≤◌, ◌<◌, [], None, Some, length, IfOk, IfErr};
 ghost use Rattle.vd_device.specs.Disks.{Disk, IsHonest, IsRunning};
+ghost use Rattle.vd_device.specs.Orders.{IsInOrder};
 ghost use Rattle.vd_format.specs.Headers.{IsValid};
 ghost use Rattle.vd_format.specs.Layouts.{need_of};
 ghost use Rattle.vd_reading.specs.Quiet.{OnlyReads, OnlyReadsBase, AddsFlush, IsFault};
@@ -15,7 +16,7 @@ ghost use Rattle.vd_report.specs.Replies.{HasText};
 ghost use Rattle.std.specs.List.{All};
 ghost use Rattle.vd_top.specs.Ending.{Ends};
 ghost use Rattle.vd_top.specs.Leaving.{Leaves};
-ghost use Rattle.vd_top.specs.Running.{trace_line, closing_line, past, ReadsScript, IsReadLine, OpensFor, IsOpenLine, IsRun, IsNumbered, RunEnds};
+ghost use Rattle.vd_top.specs.Running.{trace_line, closing_line, past, ReadsScript, IsReadLine, OpensFor, IsOpenLine, IsRun, IsNumbered, IsReopenable, RunEnds};
 ghost use Rattle.vd_top.specs.Orders.{IsReadSince};
 
 use crate::ending::End;
@@ -64,6 +65,7 @@ fn read_trace<I: Source>(alloc: Global, source: &mut I) -> Result<Trace, Line>
 fn look<S: Store>(store: &S)
     ensures running { S.tells store.now → IsRunning (S.events store.now) (S.disk store.now) }
     ensures honest { S.tells store.now → IsHonest (S.disk store.now) }
+    ensures order { S.tells store.now → IsInOrder (S.disk store.now) }
     ensures recorded { S.tells store.now → S.records store.now }
     ensures size { S.tells store.now → length (S.disk store.now).held ≡ length (S.disk store.now).start }
 {
@@ -143,7 +145,8 @@ fn serve_trace<S: Store, B: Base>(
     // of a store that told `old` as it was handed in
     ensures run { IfOk result (λ served. (old : Disk) → (S.tells store → IsReadSince old (S.disk store))
         → IsRun trace.now state.header (B.sectors base) (S.tells served.store) (B.tells served.base) old (S.disk served.store) (B.content base) (S.faults store) (S.faults served.store) (B.faults base) (B.faults served.base) served.history (closing_line served.closing)
-        × IsNumbered state.header (S.tells served.store) (B.tells served.base) old (S.disk served.store) (B.content base) served.history) }
+        × IsNumbered state.header (S.tells served.store) (B.tells served.base) old (S.disk served.store) (B.content base) served.history
+        × IsReopenable state.header (S.tells served.store) (B.tells served.base) old (S.disk served.store) (B.content base) served.history) }
     ensures state { IfOk result (λ served. IsSized served.state × (served.state.header ≡ state.header)) }
     ensures store { IfOk result (λ served. Leaves (S.flies served.store []) (S.sectors store) (S.sectors served.store) (S.depth store) (S.depth served.store) (S.faults store) (S.faults served.store) (S.tells store) (S.tells served.store) (S.records store) (S.records served.store)) }
     ensures base { IfOk result (λ served. OnlyReadsBase (B.flies served.base []) (B.sectors base) (B.sectors served.base) (B.faults base) (B.faults served.base) (B.tells base) (B.tells served.base) (B.content base) (B.content served.base)) }
@@ -175,8 +178,10 @@ fn serve_trace<S: Store, B: Base>(
                 history,
                 state,
             } = core.finish();
+            let store = store.into_inner();
+            look(&store);
             Ok(Served {
-                store: store.into_inner(),
+                store,
                 base: base.into_inner(),
                 history,
                 state,

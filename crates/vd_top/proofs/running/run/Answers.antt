@@ -1,4 +1,6 @@
-use Rattle.std.proofs.Common.{ℕ, ◌≤◌, refl, arith}
+use Rattle.std.proofs.Common.{ℕ, ◌≤◌, List, refl, sym, subst, arith}
+use Rattle.vd_law.specs.declared.entry.Sector.{Sector}
+use Rattle.vd_safety.specs.Held.{IsOpenAgain}
 use Rattle.vd_io.proofs.Composing.{rose-earlier}
 use Rattle.vd_replay.proofs.DiskLaws.{base_twice}
 use Rattle.vd_report.specs.declared.line.Line.TheVariants.{NoMemory}
@@ -8,6 +10,7 @@ use Rattle.vd_top.proofs.LeavingLaws.{leaves_twice, reads_leave, base_left, faul
 use Rattle.vd_top.proofs.ReopeningLaws.{reopens_wider}
 use Rattle.vd_top.proofs.RunningLaws.{regular_text, opens_told}
 use Rattle.vd_top.proofs.ServedLaws.{run_wider}
+use Rattle.vd_top.proofs.AgainLaws.{allowed_again}
 use Rattle.vd_top.proofs.running.run.Goals as goal
 
 earlier : {a b c : ℕ} → a ≤ b → b ≤ c → a ≤ c
@@ -48,7 +51,7 @@ pub leave-requires-clause-text : goal.leave-requires-clause-text
 leave-requires-clause-text g c =
     let opening = c.open_for.ensures.quiet in
     let first = c.look.ensures in
-    let run = c.in-Ok-serve_trace.ensures.run (g.S.Store.disk c.args.store) (λ t. record { flushed = c.in-Ok-open_for.ensures.flushed t; held = opening.held t; honest = first.honest (opening.told_before t); size = first.size (opening.told_before t) }) in
+    let run = c.in-Ok-serve_trace.ensures.run (g.S.Store.disk c.args.store) (λ t. record { flushed = c.in-Ok-open_for.ensures.flushed t; held = opening.held t; honest = first.honest (opening.told_before t); order = first.order (opening.told_before t); size = first.size (opening.told_before t) }) in
     regular_text c.in-Ok-serve_trace.served.history.log.entries run.0.regular
 
 pub returns-in-Ok-serve_trace-clause-store : goal.returns-in-Ok-serve_trace-clause-store
@@ -64,14 +67,19 @@ returns-in-Ok-serve_trace-clause-ran g c =
     let serving = c.in-Ok-serve_trace.ensures in
     let leaving = c.leave.ensures in
     let reopened = leaving.reported in
+    let header = c.in-Ok-open_for.state.header in
+    let base = g.B.Base.content c.args.base in
     let first = c.look.ensures in
-    let run = serving.run (g.S.Store.disk c.args.store) (λ t. record { flushed = c.in-Ok-open_for.ensures.flushed t; held = opening.held t; honest = first.honest (opening.told_before t); size = first.size (opening.told_before t) }) in
+    let run = serving.run (g.S.Store.disk c.args.store) (λ t. record { flushed = c.in-Ok-open_for.ensures.flushed t; held = opening.held t; honest = first.honest (opening.told_before t); order = first.order (opening.told_before t); size = first.size (opening.told_before t) }) in
+    let again = reopens_wider serving.state.1 (λ t. serving.base.content_same (leaving.base.told_before t)) (λ ticket fault. fault_earlier (earlier opening.calm serving.store.calm) fault)
+    (λ r. rose-earlier _ _ _ (earlier opening.calm serving.store.calm) r) (λ r. rose-earlier _ _ _ serving.base.calm r) reopened.1 in
     rw leaving.history (
       Reported 1 served.history.log.entries (closing_line served.closing) reopened.0,
-      Has_run c.in-Ok.trace c.in-Ok-open_for.state.header served.history (closing_line served.closing) reopened.0 c.in-Ok.ensures.read
+      Has_run c.in-Ok.trace header served.history (closing_line served.closing) reopened.0 c.in-Ok.ensures.read
           (opens_told (λ t. serving.store.told_before (leaving.store.told_before t)) (λ t. refl) c.in-Ok-open_for.ensures.opened)
           (run_wider opening.calm leaving.store.calm leaving.base.calm leaving.store.told_before leaving.base.told_before (λ t. leaving.store.recorded (leaving.recorded t)) run.0 run.1)
-          (reopens_wider serving.state.1 (λ t. serving.base.content_same (leaving.base.told_before t)) (λ ticket fault. fault_earlier (earlier opening.calm serving.store.calm) fault)
-          (λ r. rose-earlier _ _ _ (earlier opening.calm serving.store.calm) r) (λ r. rose-earlier _ _ _ serving.base.calm r) reopened.1),
+          again
+          (λ t b clean no_later start is. allowed_again c.in-Ok.trace reopened.0 c.in-Ok-open_for.ensures.opened.inside again t b
+          (subst (λ (held : List Sector). IsOpenAgain header base start served.history.log.entries held) (sym (leaving.store.held t)) (run.2 (leaving.store.told_before t) (leaving.base.told_before b) clean no_later start is))),
       reopened.2,
     )

@@ -4,6 +4,8 @@ use Rattle.vd_mem.specs.Versions.{counts_in}
 use Rattle.vd_mem.specs.Memory.{disk_of}
 use Rattle.vd_mem.specs.StoreFields.{memory_of}
 use Rattle.vd_mem.proofs.Choice.{asked-same, counted-fit, counts-same, target, after-target, image-chosen, chosen-each, chosen-allowed}
+use Rattle.vd_mem.proofs.Beginning.{sound-first}
+use Rattle.vd_mem.proofs.Tracing.{traced-nothing}
 use Rattle.vd_mem.proofs.mem_store.MemStore.crash.Goals as goal
 
 pub choose_all-requires : goal.choose_all-requires
@@ -31,3 +33,11 @@ returns-clause-asked g c =
 
 pub returns-clause-allowed : goal.returns-clause-allowed
 returns-clause-allowed g c = chosen-allowed g.C.Chooser.choice c.args.chooser.now (disk_of c.args.self) c.lay_all.new.image.items (returns-clause-image g c)
+
+pub invariant_of-result : goal.invariant_of-result
+invariant_of-result g c = record {
+  sound = sound-first (memory_of (record { start = c.lay_all.new.image; held = c.copy.new.to; tape = c.clear.new.self; tickets = c.clear-2.new.self; versions = c.lay_all.new.all }))
+      c.copy.ensures (ap (λ t. t.log.entries) c.clear.ensures) (ap (λ t. t.last) c.clear-2.ensures) (ap (λ t. t.flying) c.clear-2.ensures);
+  traced = traced-nothing (length c.lay_all.new.image.items) c.clear.new.self (ap (λ t. t.log.entries) c.clear.ensures) (ap (λ t. t.origins) c.clear.ensures) (ap (λ t. t.sealed) c.clear.ensures);
+  scratch = c.lay_all.ensures.size ∙ c.choose_all.ensures.size ∙ c.count.ensures.size ∙ c.self.invariant.scratch ∙ sym c.lay_all.ensures.image_size;
+}
