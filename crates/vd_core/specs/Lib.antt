@@ -12,5 +12,6 @@ pub mod Opening
 pub mod Moves
 pub mod Storing
 pub mod Leaving
+pub mod Agreeing
 pub mod Start
 pub mod Flushing

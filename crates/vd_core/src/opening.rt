@@ -18,6 +18,7 @@ ghost use Rattle.vd_image.specs.Decoders.{format_of};
 ghost use Rattle.vd_image.specs.CrashImages.{base_at, IsCrashImage};
 ghost use Rattle.vd_crash.specs.CrashSafe.{IsCrashSafe};
 ghost use Rattle.vd_safety.specs.Held.{IsOpenAgain};
+ghost use Rattle.vd_core.specs.Agreeing.{AgreesWith};
 ghost use Rattle.vd_reading.specs.Background.{zero_sector};
 ghost use Rattle.vd_reading.specs.Quiet.{AddsFlush};
 ghost use Rattle.vd_core.specs.Start.{IsStart, WasSafe};
@@ -279,6 +280,8 @@ impl<S: Store, B: Base> Core<S, B> {
             → (image : List Sector) → IsCrashImage (S.disk result.store).start (S.disk result.store).log image → IsOpenAgain self.header (B.content result.base) start result.history.log.entries image }
         ensures numbers { S.tells result.store → B.tells result.base → (start : List Sector) → IsStart self.opening (B.content result.base) self.header start → WasSafe self.opening self.header
             → IsNumberedIn (S.disk result.store).log result.history }
+        ensures agrees { S.tells result.store → B.tells result.base → (start : List Sector) → IsStart self.opening (B.content result.base) self.header start
+            → AgreesWith self.shape self.table self.fresh start (B.content result.base) result.history.log.entries (S.disk result.store) }
     {
         let Core {
             store,

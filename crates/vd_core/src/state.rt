@@ -12,6 +12,8 @@ ghost use Rattle.vd_image.specs.CrashImages.{base_at};
 ghost use Rattle.vd_crash.specs.CrashSafe.{IsCrashSafe};
 ghost use Rattle.vd_reading.specs.Background.{zero_sector};
 ghost use Rattle.vd_core.specs.Start.{IsStart, WasSafe};
+ghost use Rattle.vd_core.specs.Agreeing.{AgreesWith};
+ghost use Rattle.vd_passes.specs.Places.{ArePlaces, place_of};
 ghost use Rattle.vd_passes.specs.Passes.{has_region};
 ghost use Rattle.vd_core.specs.Moves.{IsStanding};
 ghost use Rattle.vd_passes.specs.Steps.{IsAt};
@@ -109,6 +111,10 @@ impl<S: Store, B: Base> Core<S, B> {
         ensures full { AreFullsCaused self.now.shape self.now.entries (length self.now.table.chunks) self.now.table.storage self.now.history.log.entries }
         ensures safe { S.tells self.now.store → B.tells self.now.base → (start : List Sector) → IsStart self.now.opening (B.content self.now.base) self.now.header start → WasSafe self.now.opening self.now.header
             → IsCrashSafe (format_of self.now.header) (layout_of self.now.header) (base_at zero_sector (B.content self.now.base)) zero_sector (S.disk self.now.store).start (S.disk self.now.store).log start self.now.history }
+        ensures agrees { S.tells self.now.store → B.tells self.now.base → (start : List Sector) → IsStart self.now.opening (B.content self.now.base) self.now.header start
+            → AgreesWith self.now.shape self.now.table self.now.fresh start (B.content self.now.base) self.now.history.log.entries (S.disk self.now.store) }
+        // no two blocks have a sector of the store in common
+        ensures apart { ArePlaces self.now.shape.block self.now.shape.storage_at (S.sectors self.now.store) (place_of self.now.shape self.now.table.chunks) }
     {
         &self.history
     }

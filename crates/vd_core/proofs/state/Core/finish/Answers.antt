@@ -5,6 +5,7 @@ use Rattle.vd_passes.proofs.Tracing.{followed-traced}
 use Rattle.vd_core.proofs.Storing.{stored-fulls}
 use Rattle.vd_core.proofs.Keeping.Ending.{calm, base-calm}
 use Rattle.vd_core.proofs.Keeping.Telling.{told-legal}
+use Rattle.vd_core.proofs.Agreeing.{told-agrees}
 use Rattle.vd_core.proofs.Securing.Words.{safely-words, safely-again, safely-numbered}
 use Rattle.vd_core.proofs.state.Core.finish.Goals as goal
 
@@ -40,3 +41,6 @@ returns-clause-reopens g c = rw (sym c.self.view_is) (λ told base_told start is
 
 pub returns-clause-numbers : goal.returns-clause-numbers
 returns-clause-numbers g c = rw (sym c.self.view_is) (λ told base_told start is safe. record { opened = (c.self.invariant.3 told).since; below = safely-numbered (c.self.invariant.5 told base_told) start is safe })
+
+pub returns-clause-agrees : goal.returns-clause-agrees
+returns-clause-agrees g c = rw (sym c.self.view_is) (λ told base_told. told-agrees c.self.invariant.0.coherent (c.self.invariant.1 told base_told))

@@ -3,6 +3,7 @@ use Rattle.vd_passes.proofs.Blaming.{blamed-caused}
 use Rattle.vd_passes.proofs.Tracing.{followed-traced}
 use Rattle.vd_core.proofs.Storing.{stored-fulls}
 use Rattle.vd_core.proofs.Securing.Words.{safely-words}
+use Rattle.vd_core.proofs.Agreeing.{told-agrees}
 use Rattle.vd_core.proofs.state.Core.history.Goals as goal
 
 pub returns-clause-store_faults : goal.returns-clause-store_faults
@@ -19,3 +20,9 @@ returns-clause-full g c = rw (sym c.self.view_is) (stored-fulls c.self.invariant
 
 pub returns-clause-safe : goal.returns-clause-safe
 returns-clause-safe g c = rw (sym c.self.view_is) (λ told base_told start is safe. safely-words (c.self.invariant.5 told base_told) start is safe)
+
+pub returns-clause-agrees : goal.returns-clause-agrees
+returns-clause-agrees g c = rw (sym c.self.view_is) (λ told base_told. told-agrees c.self.invariant.0.coherent (c.self.invariant.1 told base_told))
+
+pub returns-clause-apart : goal.returns-clause-apart
+returns-clause-apart g c = rw (sym c.self.view_is) c.self.invariant.0.coherent.placed
