@@ -28,6 +28,7 @@ use Rattle.vd_top.specs.Showing.{IsJudged, ShowsDisk}
 use Rattle.vd_top.specs.Reopening.{IsShownBy, Is_read, Store_failed, Base_failed, AreShownBy, IsAllowedLine, IsAllowed, Device_failed, Shows_allowed, Reopens, Reopening_failed, Is_refused_again, Opens_again}
 use Rattle.vd_top.specs.Running.{past as range_past}
 use Rattle.vd_top.proofs.RunningLaws.{line_within}
+use Rattle.vd_top.proofs.ClosingLaws.{closed_ok}
 use Rattle.vd_top.proofs.SafeLaws.{orderly_past}
 
 -- what an honest store holds whose log is in order may be left by a crash

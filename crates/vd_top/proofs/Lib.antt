@@ -13,6 +13,7 @@ pub mod StartLaws
 pub mod SafeLaws
 pub mod LaterLaws
 pub mod RunningLaws
+pub mod ClosingLaws
 pub mod AgainLaws
 pub mod ServedLaws
 pub mod RunCauses
