@@ -1,9 +1,8 @@
 -- What the store holds agrees with the history.
-use Rattle.std.proofs.Common.{ℕ, ◌≡◌, Bool, List, length, sym, subst}
+use Rattle.std.proofs.Common.{ℕ, Bool, List, sym, subst}
 use Rattle.std.specs.List.{Contains}
 use Rattle.vd_law.specs.declared.entry.Sector.{Sector}
 use Rattle.vd_law.specs.Histories.{Numbered}
-use Rattle.vd_law.specs.Contents.{could}
 use Rattle.vd_device.specs.declared.ticket.Ticket.{Ticket}
 use Rattle.vd_device.specs.Disks.{Disk}
 use Rattle.vd_format.specs.declared.header.Header.{Header}

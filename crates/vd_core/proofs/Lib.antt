@@ -6,6 +6,8 @@ pub mod Entered
 pub mod Entries
 pub mod Keeping
 pub mod Leaving
+pub mod Local
+pub mod LocalSteps
 pub mod Moving
 pub mod NewPasses
 pub mod Picked
@@ -16,6 +18,7 @@ pub mod Securing
 pub mod Seen
 pub mod Serving
 pub mod Settled
+pub mod Showing
 pub mod Starting
 pub mod StartingDisk
 pub mod StartingTold

@@ -33,7 +33,7 @@ use Rattle.vd_core.proofs.Starting.{clean-one, clean-held}
 use Rattle.vd_core.proofs.StartingDisk.{disk-over, sector-place}
 
 -- what the base gives as the background is that of the image
-background-same : (content : List Sector) (tracked s : ℕ) → image_background (base_at zero_sector content) zero_sector tracked s ≡ background content tracked s
+pub background-same : (content : List Sector) (tracked s : ℕ) → image_background (base_at zero_sector content) zero_sector tracked s ≡ background content tracked s
 background-same content tracked s = ap (λ (x : Sector). if nat_lt s tracked then x else zero_sector) (sym (unwrap_or-slice_get content s zero_sector))
 
 starts : (start : List Sector) (s : ℕ) (v : Sector) → slice_get start s ≡ Some v → (track start [] s).contents ≡ v ∷ []

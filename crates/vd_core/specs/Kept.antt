@@ -27,6 +27,7 @@ use Rattle.vd_passes.specs.Coherent.{IsCoherent, IsFaithful}
 use Rattle.vd_passes.specs.Following.{IsFollowed}
 use Rattle.vd_passes.specs.Causes.{OfStore, OfBase, IsBlamed, AreOfPasses}
 use Rattle.vd_core.specs.Storing.{IsStoredBy}
+use Rattle.vd_core.specs.Local.{AreLocalBy, HaveMarks}
 use Rattle.vd_safety.specs.Mirrors.{opening_for, IsSecured}
 use Rattle.vd_core.specs.Start.{IsStart, WasSafe, opening_at}
 
@@ -56,12 +57,13 @@ pub record IsKept (shape : Shape) (table : Given) (fresh : List Bool) (regions :
   pub storage : IsStorage shape table sectors
 
 -- Why the answers of a history are as they are: each fault names a ticket of its device, which has failed as often, a Full is due
--- to what writes have taken, and each entry is of one of the passes.
-pub record IsAccounted (shape : Shape) (had : List MapEntry) (table : Given) (passes : List Pass) (history : List Entry)
+-- to what writes have taken, and each entry is of one of the passes. And why the local blocks are those that they are.
+pub record IsAccounted (shape : Shape) (had : List MapEntry) (table : Given) (fresh : List Bool) (passes : List Pass) (history : List Entry)
     (last faults_at_opening faults base_last base_faults_at_opening base_faults : ℕ) : Type 0 where
   pub of_store : IsBlamed OfStore passes history last faults_at_opening faults
   pub of_base : IsBlamed OfBase passes history base_last base_faults_at_opening base_faults
   pub stored : IsStoredBy shape had table history
+  pub local : AreLocalBy shape had fresh history
   pub of_passes : AreOfPasses passes history
 
 -- What is kept where the store tells: what it had told at opening is the first part of its log, and the store faults are traced.
@@ -76,11 +78,13 @@ pub record IsTold (shape : Shape) (h : Header) (table : Given) (fresh : List Boo
   pub faithful : (start : List Sector) → IsStart (opening_at history.opened disk) base h start
       → IsFaithful start (background base shape.tracked) shape fresh (place_of shape table.chunks) passes history.log.entries disk last
 
--- The metadata: the keeper and the pass that flushes are attended to, and the state from which the core was opened can be read again.
+-- The metadata: the keeper and the pass that flushes are attended to, the state from which the core was opened can be read again, and
+-- the blocks that were local then are so in every image.
 pub record IsRecorded (shape : Shape) (state : State) (passes : List Pass) (flusher : Option ℕ) (k : Keeping) : Type 0 where
   pub attended : IsAttended shape state.table state.fresh.bits passes flusher k
   pub sized : IsSized state
   pub same : geometry_of k.header ≡ geometry_of state.header
+  pub stale : HaveMarks shape state.map k.stale
 
 -- What is kept where both devices tell so that each image that a crash may leave is safe, if that was so when the core was made: each
 -- write since then lies in the store; and from whatever the guest's disk was then, the laws of crash safety know the core.

@@ -11,7 +11,9 @@ pub mod Asking
 pub mod Opening
 pub mod Moves
 pub mod Storing
+pub mod Local
 pub mod Leaving
 pub mod Agreeing
+pub mod Showing
 pub mod Start
 pub mod Flushing

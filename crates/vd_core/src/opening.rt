@@ -12,6 +12,7 @@ ghost use Rattle.vd_passes.specs.Passes.{IsNew};
 ghost use Rattle.vd_passes.specs.Causes.{OfStore, OfBase, AreCaused};
 ghost use Rattle.vd_passes.specs.Tracing.{AreTraced};
 ghost use Rattle.vd_core.specs.Storing.{AreFullsCaused};
+ghost use Rattle.vd_core.specs.Local.{AreLocalBy};
 ghost use Rattle.vd_device.specs.Disks.{Disk};
 ghost use Rattle.vd_image.specs.Layouts.{layout_of as places};
 ghost use Rattle.vd_image.specs.Decoders.{format_of};
@@ -19,6 +20,7 @@ ghost use Rattle.vd_image.specs.CrashImages.{base_at, IsCrashImage};
 ghost use Rattle.vd_crash.specs.CrashSafe.{IsCrashSafe};
 ghost use Rattle.vd_safety.specs.Held.{IsOpenAgain};
 ghost use Rattle.vd_core.specs.Agreeing.{AgreesWith};
+ghost use Rattle.vd_core.specs.Showing.{EndsFlushed, MayHold, ShowsCould};
 ghost use Rattle.vd_reading.specs.Background.{zero_sector};
 ghost use Rattle.vd_reading.specs.Quiet.{AddsFlush};
 ghost use Rattle.vd_core.specs.Start.{IsStart, WasSafe};
@@ -274,6 +276,7 @@ impl<S: Store, B: Base> Core<S, B> {
         ensures base_faults { AreCaused OfBase result.history.log.entries self.base_faults (B.faults result.base) }
         ensures traced { S.tells result.store → AreTraced (S.disk result.store).log result.history.log.entries result.history.numbers }
         ensures full { AreFullsCaused self.shape self.entries (length self.table.chunks) self.table.storage result.history.log.entries }
+        ensures local { AreLocalBy self.shape self.entries self.fresh result.history.log.entries }
         ensures safe { S.tells result.store → B.tells result.base → (start : List Sector) → IsStart self.opening (B.content result.base) self.header start → WasSafe self.opening self.header
             → IsCrashSafe (format_of self.header) (places self.header) (base_at zero_sector (B.content result.base)) zero_sector (S.disk result.store).start (S.disk result.store).log start result.history }
         ensures reopens { S.tells result.store → B.tells result.base → (start : List Sector) → IsStart self.opening (B.content result.base) self.header start → WasSafe self.opening self.header
@@ -282,6 +285,8 @@ impl<S: Store, B: Base> Core<S, B> {
             → IsNumberedIn (S.disk result.store).log result.history }
         ensures agrees { S.tells result.store → B.tells result.base → (start : List Sector) → IsStart self.opening (B.content result.base) self.header start
             → AgreesWith self.shape self.table self.fresh start (B.content result.base) result.history.log.entries (S.disk result.store) }
+        ensures settled { S.tells result.store → B.tells result.base → (start : List Sector) → IsStart self.opening (B.content result.base) self.header start → WasSafe self.opening self.header
+            → EndsFlushed result.history.log.entries → (held : List Sector) → MayHold (S.disk result.store) held → ShowsCould self.header (B.content result.base) start result.history.log.entries held }
     {
         let Core {
             store,

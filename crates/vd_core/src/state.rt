@@ -21,6 +21,7 @@ ghost use Rattle.vd_law.specs.Rules.{IsRegular, IsLegal};
 ghost use Rattle.vd_passes.specs.Causes.{OfStore, OfBase, AreCaused};
 ghost use Rattle.vd_passes.specs.Tracing.{AreTraced};
 ghost use Rattle.vd_core.specs.Storing.{AreFullsCaused};
+ghost use Rattle.vd_core.specs.Local.{AreLocalBy};
 ghost use Rattle.vd_passes.specs.declared.pass.Pass.{Pass as AnyPass};
 
 use std::marker::Model;
@@ -83,7 +84,7 @@ impl<S: Store, B: Base> Model for Core<S, B> {
     ghost invariant = { λ c. IsKept c.shape c.state.table c.state.fresh.bits c.regions c.passes.items c.history c.spare
         (S.sectors c.store) (S.depth c.store) (S.events c.store) (B.sectors c.base) (B.depth c.base) (S.flies c.store) (B.flies c.base)
         × (S.tells c.store → B.tells c.base → IsTold c.shape c.state.header c.state.table c.state.fresh.bits c.passes.items c.history (S.disk c.store) (S.last c.store) (B.content c.base) (B.sectors c.base))
-        × IsAccounted c.shape c.state.map c.state.table c.passes.items c.history.log.entries (S.last c.store) c.store_faults (S.faults c.store) (B.last c.base) c.base_faults (B.faults c.base)
+        × IsAccounted c.shape c.state.map c.state.table c.state.fresh.bits c.passes.items c.history.log.entries (S.last c.store) c.store_faults (S.faults c.store) (B.last c.base) c.base_faults (B.faults c.base)
         × (S.tells c.store → IsLogged c.passes.items c.history (S.disk c.store))
         × IsRecorded c.shape c.state c.passes.items c.flusher c.keeper
         × (S.tells c.store → B.tells c.base → IsSafelyKept c.state.header c.state.map c.state.table c.state.fresh.bits c.keeper c.flusher c.passes.items c.history (S.disk c.store) (B.content c.base) (S.sectors c.store)) };
@@ -109,6 +110,7 @@ impl<S: Store, B: Base> Core<S, B> {
         ensures base_faults { AreCaused OfBase self.now.history.log.entries self.now.base_faults (B.faults self.now.base) }
         ensures traced { S.tells self.now.store → AreTraced (S.disk self.now.store).log self.now.history.log.entries self.now.history.numbers }
         ensures full { AreFullsCaused self.now.shape self.now.entries (length self.now.table.chunks) self.now.table.storage self.now.history.log.entries }
+        ensures local { AreLocalBy self.now.shape self.now.entries self.now.fresh self.now.history.log.entries }
         ensures safe { S.tells self.now.store → B.tells self.now.base → (start : List Sector) → IsStart self.now.opening (B.content self.now.base) self.now.header start → WasSafe self.now.opening self.now.header
             → IsCrashSafe (format_of self.now.header) (layout_of self.now.header) (base_at zero_sector (B.content self.now.base)) zero_sector (S.disk self.now.store).start (S.disk self.now.store).log start self.now.history }
         ensures agrees { S.tells self.now.store → B.tells self.now.base → (start : List Sector) → IsStart self.now.opening (B.content self.now.base) self.now.header start

@@ -36,7 +36,7 @@ use Rattle.vd_safety.specs.Held.{IsHeldNow, IsOpenAgain}
 use Rattle.vd_safety.proofs.Opening.{zeros-same}
 use Rattle.vd_safety.proofs.Words.{secured-is-safe, secured-numbers}
 
-held_image : (zeros : Sector) (before : List Sector) (log : List Entry) (now : List Sector) → IsHeldNow before log now → IsImage (sectors_or zeros before) log (sectors_or zeros now)
+pub held_image : (zeros : Sector) (before : List Sector) (log : List Entry) (now : List Sector) → IsHeldNow before log now → IsImage (sectors_or zeros before) log (sectors_or zeros now)
 held_image zeros before log now held s = elim (cases_lt s (length before)) [
   | inl within ↦
       let u = get_some now s (let n = held.size in omega arith) in

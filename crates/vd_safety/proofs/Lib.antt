@@ -12,6 +12,7 @@ pub mod Flying
 pub mod Going
 pub mod Heads
 pub mod Held
+pub mod Found
 pub mod Issuing
 pub mod Knowing
 pub mod Looking

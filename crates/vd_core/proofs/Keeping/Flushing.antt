@@ -95,31 +95,34 @@ module _ {passes passes' : List Pass} {history : Numbered} {i : ℕ} where
   pub end-logged : {why : Option Fault} {disk : Disk} → EndsFlush why i passes passes' → IsLogged passes history disk → IsLogged passes' history disk
   end-logged step was = logged-here was refl (ends_flush-followed was.followed step)
 
-module _ {shape : Shape} {had : List MapEntry} {table : Given} {passes passes' : List Pass} {history : List Entry} {last opened faults base_last base_opened base_faults : ℕ}
-    (was : IsAccounted shape had table passes history last opened faults base_last base_opened base_faults) {i : ℕ} where
+module _ {shape : Shape} {had : List MapEntry} {table : Given} {fresh : List Bool} {passes passes' : List Pass} {history : List Entry} {last opened faults base_last base_opened base_faults : ℕ}
+    (was : IsAccounted shape had table fresh passes history last opened faults base_last base_opened base_faults) {i : ℕ} where
   pub submit-accounted : {content : List Sector} {flies flies' : List Ticket → Type 0} {tells tells' : Type 0} {disk disk' : Disk} {store_last store_last' last' faults' : ℕ}
       → SubmitsMeta content shape i passes passes' flies flies' tells tells' disk disk' store_last store_last' → IsAt passes' i (IsNumbered OfStore last last') → faults ≤ faults'
-      → IsAccounted shape had table passes' history last' opened faults' base_last base_opened base_faults
+      → IsAccounted shape had table fresh passes' history last' opened faults' base_last base_opened base_faults
   submit-accounted step number rise = record {
     of_store = submits_meta-blamed step was.of_store number rise;
     of_base = submits_meta-base_blamed step was.of_base;
     stored = was.stored;
+    local = was.local;
     of_passes = submits_meta-of-passes step was.of_passes;
   }
 
   pub settle_meta-accounted : {answer : Settled} {flies flies' : List Ticket → Type 0} {tells tells' : Type 0} {disk disk' : Disk} {last' faults' : ℕ} (late late' : ℕ)
-      → MetaSettled answer i passes passes' flies flies' tells tells' disk disk' last last' → IsCaused answer faults faults' late late' → IsAccounted shape had table passes' history last' opened faults' base_last base_opened base_faults
+      → MetaSettled answer i passes passes' flies flies' tells tells' disk disk' last last' → IsCaused answer faults faults' late late' → IsAccounted shape had table fresh passes' history last' opened faults' base_last base_opened base_faults
   settle_meta-accounted late late' step cause = record {
     of_store = meta_settled-blamed step was.of_store late late' cause;
     of_base = meta_settled-base_blamed step was.of_base;
     stored = was.stored;
+    local = was.local;
     of_passes = meta_settled-of-passes step was.of_passes;
   }
 
-  pub end-accounted : {why : Option Fault} → EndsFlush why i passes passes' → IsAccounted shape had table passes' history last opened faults base_last base_opened base_faults
+  pub end-accounted : {why : Option Fault} → EndsFlush why i passes passes' → IsAccounted shape had table fresh passes' history last opened faults base_last base_opened base_faults
   end-accounted step = record {
     of_store = ends_flush-blamed step was.of_store;
     of_base = ends_flush-blamed step was.of_base;
     stored = was.stored;
+    local = was.local;
     of_passes = ends_flush-of-passes step was.of_passes;
   }

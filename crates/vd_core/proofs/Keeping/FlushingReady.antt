@@ -40,6 +40,7 @@ use Rattle.vd_metadata.proofs.Others.{adopting-attended}
 use Rattle.vd_metadata.proofs.Stored.{attended-storage}
 use Rattle.vd_core.specs.Flushing.{HasAskedFlush, IsBetween, IsAway, still_flushing, flusher_after}
 use Rattle.vd_core.specs.Kept.{IsKept, IsRecorded}
+use Rattle.vd_core.proofs.Local.{same-marks, more-marks}
 
 -- a stage in which a call is in flight is one that is settled
 settling-at : (s : Stage) (k : Keeping) (p : Pass) (t : Ticket) → p.ticket ≡ Some t → IsAtStage s k p → is_settling s ≡ true
@@ -126,6 +127,11 @@ put-header k k' put (Next_record sector way bytes) = refl
 put-header k k' put (Next_page page sector way lowest bytes) = refl
 put-header k k' put (Next_header sector way none bytes) = refl
 
+put-stale : {table : Given} (k k' : Keeping) (put : Put) → Puts_next table k put k' → k'.stale ≡ k.stale
+put-stale k k' put (Next_record sector way bytes) = refl
+put-stale k k' put (Next_page page sector way lowest bytes) = refl
+put-stale k k' put (Next_header sector way none bytes) = refl
+
 module _ {shape : Shape} {state : State} {passes passes' : List Pass} {flusher : Option ℕ} {k k' : Keeping} {i : ℕ} where
   module _ {flies flies' : List Ticket → Type 0} {tells tells' : Type 0} {disk disk' : Disk} {last last' : ℕ} where
     pub begin-recorded : {route : Route} → IsRecorded shape state passes flusher k → flusher ≡ None → ((t : ℕ) → route ≡ Recycle t → t ≡ k.header.tracked)
@@ -134,6 +140,7 @@ module _ {shape : Shape} {state : State} {passes passes' : List Pass} {flusher :
       attended = begin-attended (subst (λ (o : Option ℕ). IsAttended shape state.table state.fresh.bits passes o k) none was.attended) tracked step;
       sized = was.sized;
       same = ap (λ (x : Keeping). geometry_of x.header) step.after ∙ was.same;
+      stale = same-marks shape state.map (ap (λ (x : Keeping). x.stale) step.after) was.stale;
     }
 
     pub put-recorded : IsRecorded shape state passes flusher k → k.stage ≡ Puts → PutsNext state.table shape i k k' passes passes' flies flies' tells tells' disk disk' last last' → IsRecorded shape state passes' flusher k'
@@ -141,6 +148,7 @@ module _ {shape : Shape} {state : State} {passes passes' : List Pass} {flusher :
       attended = put-attended was.attended stage step;
       sized = was.sized;
       same = ap (λ (h : Header). geometry_of h) (put-header k k' step.put step.next) ∙ was.same;
+      stale = same-marks shape state.map (put-stale k k' step.put step.next) was.stale;
     }
 
     pub settle_meta-recorded : (answer : Settled) → IsRecorded shape state passes flusher k → SettlesMeta answer i k k' passes passes' flies flies' tells tells' disk disk' last last' → IsRecorded shape state passes' (flusher_after answer flusher) k'
@@ -148,15 +156,17 @@ module _ {shape : Shape} {state : State} {passes passes' : List Pass} {flusher :
       attended = done-attended was.attended step;
       sized = was.sized;
       same = ap (λ (x : Keeping). geometry_of x.header) step.after ∙ ap (λ (h : Header). geometry_of h) (gone-left k k.stage).header ∙ was.same;
+      stale = same-marks shape state.map (ap (λ (x : Keeping). x.stale) step.after ∙ (gone-left k k.stage).stale) was.stale;
     }
-    settle_meta-recorded (settled.NotYet same) was step = record { attended = late-attended was.attended step; sized = was.sized; same = ap (λ (x : Keeping). geometry_of x.header) step.after ∙ was.same }
-    settle_meta-recorded (settled.Failed number) was step = record { attended = failed-attended was.attended step; sized = was.sized; same = ap (λ (x : Keeping). geometry_of x.header) step.after ∙ was.same }
+    settle_meta-recorded (settled.NotYet same) was step = record { attended = late-attended was.attended step; sized = was.sized; same = ap (λ (x : Keeping). geometry_of x.header) step.after ∙ was.same; stale = same-marks shape state.map (ap (λ (x : Keeping). x.stale) step.after) was.stale }
+    settle_meta-recorded (settled.Failed number) was step = record { attended = failed-attended was.attended step; sized = was.sized; same = ap (λ (x : Keeping). geometry_of x.header) step.after ∙ was.same; stale = same-marks shape state.map (ap (λ (x : Keeping). x.stale) step.after) was.stale }
 
   pub seal-recorded : IsRecorded shape state passes flusher k → k.stage ≡ Seals → SealsFlush i k k' passes passes' → IsRecorded shape state passes' None k'
   seal-recorded was stage step = record {
     attended = seal-attended was.attended stage step;
     sized = was.sized;
     same = ap (λ (x : Keeping). geometry_of x.header) step.after ∙ next-same k.way k.header ∙ was.same;
+    stale = same-marks shape state.map (ap (λ (x : Keeping). x.stale) step.after) (more-marks shape state.map k.stale k.snapshot was.stale);
   }
 
 pub still-after : (answer : Settled) (flusher : Option ℕ) → still_flushing (outcome_of answer) flusher ≡ flusher_after answer flusher
@@ -167,11 +177,11 @@ still-after (settled.Failed number) flusher = refl
 module _ {shape : Shape} {state : State} {passes passes' : List Pass} {flusher : Option ℕ} {k : Keeping} {i : ℕ} where
   pub sync-recorded : {flies flies' : List Ticket → Type 0} {tells tells' : Type 0} {disk disk' : Disk} {last last' : ℕ} → IsRecorded shape state passes flusher k → k.stage ≡ Syncs
       → SyncsPuts shape i passes passes' flies flies' tells tells' disk disk' last last' → IsRecorded shape state passes' flusher k
-  sync-recorded was stage step = record { attended = sync-attended was.attended stage step; sized = was.sized; same = was.same }
+  sync-recorded was stage step = record { attended = sync-attended was.attended stage step; sized = was.sized; same = was.same; stale = was.stale }
 
   pub worn-recorded : {route : Route} → IsRecorded shape state passes flusher k → IsWornOut route i k passes passes' → IsRecorded shape state passes' flusher k
-  worn-recorded was step = record { attended = worn-attended was.attended step; sized = was.sized; same = was.same }
+  worn-recorded was step = record { attended = worn-attended was.attended step; sized = was.sized; same = was.same; stale = was.stale }
 
 pub adopt-recorded : {shape : Shape} {state : State} {passes : List Pass} {flusher : Option ℕ} {k k' : Keeping} → IsRecorded shape state passes flusher k → length state.fresh.bits ≡ blocks_of k.header → k' ≡ adopting state.fresh.bits k
     → IsRecorded shape state passes flusher k'
-adopt-recorded was size after = record { attended = adopting-attended was.attended size after; sized = was.sized; same = ap (λ (x : Keeping). geometry_of x.header) after ∙ was.same }
+adopt-recorded {shape = shape} {state = state} was size after = record { attended = adopting-attended was.attended size after; sized = was.sized; same = ap (λ (x : Keeping). geometry_of x.header) after ∙ was.same; stale = same-marks shape state.map (ap (λ (x : Keeping). x.stale) after) was.stale }

@@ -10,6 +10,7 @@ use Rattle.vd_passes.specs.Tracks.{track}
 use Rattle.vd_passes.proofs.Tracing.{new-followed}
 use Rattle.vd_metadata.proofs.Others.{new-attended}
 use Rattle.vd_core.specs.Kept.{IsTold, IsLogged, IsRecorded}
+use Rattle.vd_core.proofs.Local.{new-marks}
 use Rattle.vd_core.specs.Opening.{shape_of, AreNew, empty_history, new_keeping}
 use Rattle.vd_core.proofs.Starting.{all-told}
 use Rattle.vd_core.proofs.StartingTold.{stands-at}
@@ -45,4 +46,5 @@ opened-recorded s whole version base_sectors new = record {
       (λ i p there flushing. absurd (let other = sym (new.each i p there).phase ∙ flushing in cc));
   sized = whole.sized;
   same = refl;
+  stale = new-marks s base_sectors whole;
 }

@@ -35,6 +35,7 @@ use Rattle.vd_core.specs.Entering.{IsKeptOut, EntersBlock}
 use Rattle.vd_core.specs.Fetching.{FetchesBlock}
 use Rattle.vd_core.specs.Issuing.{owed_after}
 use Rattle.vd_core.specs.Kept.{IsRecorded}
+use Rattle.vd_core.proofs.Local.{same-marks}
 
 -- No phase of these is that of a flush under way.
 pub phase-of : {phase : Phase} (passes : List Pass) (i : ℕ) → IsAt passes i (λ p. p.phase ≡ phase) → (p : Pass) → slice_get passes i ≡ Some p → p.phase ≡ phase
@@ -83,7 +84,7 @@ fetched-not (settled.Failed number) p ticket block content before = ready-not
 
 module _ {shape : Shape} {state : State} {passes : List Pass} {flusher : Option ℕ} {k : Keeping} (was : IsRecorded shape state passes flusher k) where
   pub recorded-pass : (i : ℕ) {p : Pass} (p' : Pass) {passes' : List Pass} → slice_get passes i ≡ Some p → passes' ≡ slice_set passes i p' → p.phase ≢ Flushing → p'.phase ≢ Flushing → IsRecorded shape state passes' flusher k
-  recorded-pass i {p} p' there after before now = record { attended = pass-attended i p p' was.attended there after before now; sized = was.sized; same = was.same }
+  recorded-pass i {p} p' there after before now = record { attended = pass-attended i p p' was.attended there after before now; sized = was.sized; same = was.same; stale = was.stale }
 
   recorded-same : {passes' : List Pass} → passes' ≡ passes → IsRecorded shape state passes' flusher k
   recorded-same {passes'} same = subst (λ (ps : List Pass). IsRecorded shape state ps flusher k) (sym same) was
@@ -153,7 +154,7 @@ tabled state table' sized chunks storage = record {
 
 with-table : {shape : Shape} {state : State} {passes : List Pass} {flusher : Option ℕ} {k : Keeping} (table' : Given) → length table'.chunks ≡ length state.table.chunks → table'.storage ≡ state.table.storage
     → IsRecorded shape state passes flusher k → IsRecorded shape (record state { table = table' }) passes flusher k
-with-table {shape} {state} table' chunks storage was = record { attended = table-attended was.attended chunks storage; sized = tabled state table' was.sized chunks storage; same = was.same }
+with-table {shape} {state} table' chunks storage was = record { attended = table-attended was.attended chunks storage; sized = tabled state table' was.sized chunks storage; same = was.same; stale = was.stale }
 
 pub ask-recorded : {shape : Shape} {state : State} {passes : List Pass} {flusher : Option ℕ} {k : Keeping} {result : Option Answer} {request : Asked} {i : ℕ} {table' : Given} {passes' : List Pass} {history history' : Numbered} {spare spare' : Room} {events : ℕ}
     → IsRecorded shape state passes flusher k → IsAt passes i (λ p. p.phase ≡ Idle) → AskEnds result request shape i state.table table' passes passes' history history' spare spare' events → IsRecorded shape (record state { table = table' }) passes' flusher k
@@ -179,6 +180,13 @@ marked-sized state fresh' sized chunk many = record {
   slots = sized.slots;
 }
 
+owing-stale : (block : ℕ) (k : Keeping) → (owing block k).stale ≡ k.stale
+owing-stale block k = by (slice_index_or k.stale block false)
+  where
+    by : (stale : Bool) → (if stale then k else record k { owed = slice_set k.owed block true }).stale ≡ k.stale
+    by true = refl
+    by false = refl
+
 owing-header : (block : ℕ) (k : Keeping) → (owing block k).header ≡ k.header
 owing-header block k = by (slice_index_or k.stale block false)
   where
@@ -194,6 +202,7 @@ module _ {shape : Shape} {state : State} {passes : List Pass} {flusher : Option 
     attended = subst (λ (xs : List Bool). IsAttended shape state.table xs passes' flusher k) (sym bits) kept.attended;
     sized = marked-sized state fresh' kept.sized chunk (ap (λ (xs : List Bool). length xs) bits);
     same = kept.same;
+    stale = kept.stale;
   })
 
   ends_write-recorded : (answer : Settled) (p : Pass) (ticket : Ticket) (history history' : List Entry) → slice_get passes i ≡ Some p → p.block < length state.fresh.bits
@@ -204,6 +213,7 @@ module _ {shape : Shape} {state : State} {passes : List Pass} {flusher : Option 
         attended = owing-attended p.block kept.attended inside ends.0 after;
         sized = marked-sized state fresh' kept.sized chunk (ap (λ (xs : List Bool). length xs) ends.0 ∙ length-set' state.fresh.bits p.block true);
         same = ap (λ (x : Keeping). geometry_of x.header) after ∙ ap (λ (h : Header). geometry_of h) (owing-header p.block k) ∙ kept.same;
+        stale = same-marks shape state.map (ap (λ (x : Keeping). x.stale) after ∙ owing-stale p.block k) kept.stale;
       }
   ends_write-recorded (settled.NotYet same) p ticket history history' there inside ends after = still-marked ends.0 after (recorded-same was ends.1)
   ends_write-recorded (settled.Failed number) p ticket history history' there inside ends after =

@@ -125,7 +125,7 @@ module _ (s : State) (passes : List Pass) (count : ℕ) (room : Room) (sectors d
   abbrev pub AllKept : Shape → Keeping → List (Option Region) → Numbered → Room → Type 0
   AllKept shape k regions history spare = IsKept shape s.table s.fresh.bits regions passes history spare sectors depth events base_sectors base_depth flies base_flies
       × (tells → base_tells → IsTold shape s.header s.table s.fresh.bits passes history disk last base base_sectors)
-      × IsAccounted shape s.map s.table passes history.log.entries last opened faults base_last base_opened base_faults
+      × IsAccounted shape s.map s.table s.fresh.bits passes history.log.entries last opened faults base_last base_opened base_faults
       × (tells → IsLogged passes history disk)
       × IsRecorded shape s passes None k
       × (tells → base_tells → IsSafelyKept s.header s.map s.table s.fresh.bits k None passes history disk base sectors)

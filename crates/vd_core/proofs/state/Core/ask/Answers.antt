@@ -26,3 +26,6 @@ invariant_of-self g c =
       ask-recorded c.self.invariant.4 at done.ends,
       ask-safely c.self.invariant.0 c.self.invariant.4 c.self.invariant.1 c.self.invariant.5 c.args.pass at done.ends done.running,
     )
+
+pub returns-clause-ends : goal.returns-clause-ends
+returns-clause-ends g c = rw (sym c.self.view_is) c.ask_in_room.ensures.ends

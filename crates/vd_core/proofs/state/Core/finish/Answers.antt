@@ -6,6 +6,7 @@ use Rattle.vd_core.proofs.Storing.{stored-fulls}
 use Rattle.vd_core.proofs.Keeping.Ending.{calm, base-calm}
 use Rattle.vd_core.proofs.Keeping.Telling.{told-legal}
 use Rattle.vd_core.proofs.Agreeing.{told-agrees}
+use Rattle.vd_core.proofs.Showing.{shows-could}
 use Rattle.vd_core.proofs.Securing.Words.{safely-words, safely-again, safely-numbered}
 use Rattle.vd_core.proofs.state.Core.finish.Goals as goal
 
@@ -30,6 +31,9 @@ returns-clause-traced g c = λ told. followed-traced (c.self.invariant.3 told).f
 pub returns-clause-full : goal.returns-clause-full
 returns-clause-full g c = rw (sym c.self.view_is) (stored-fulls c.self.invariant.2.stored)
 
+pub returns-clause-local : goal.returns-clause-local
+returns-clause-local g c = rw (sym c.self.view_is) c.self.invariant.2.local
+
 pub returns-clause-legal : goal.returns-clause-legal
 returns-clause-legal g c = rw (sym c.self.view_is) (λ told base_told. told-legal c.self.invariant.0.coherent.regular (c.self.invariant.1 told base_told))
 
@@ -44,3 +48,7 @@ returns-clause-numbers g c = rw (sym c.self.view_is) (λ told base_told start is
 
 pub returns-clause-agrees : goal.returns-clause-agrees
 returns-clause-agrees g c = rw (sym c.self.view_is) (λ told base_told. told-agrees c.self.invariant.0.coherent (c.self.invariant.1 told base_told))
+
+pub returns-clause-settled : goal.returns-clause-settled
+returns-clause-settled g c = rw (sym c.self.view_is) (λ told base_told start is safe ends held may.
+    shows-could c.self.invariant.0 (c.self.invariant.1 told base_told) c.self.invariant.2.local c.self.invariant.4 (c.self.invariant.5 told base_told) start is safe ends held may)

@@ -18,6 +18,9 @@ returns-clause-traced g c = rw (sym c.self.view_is) (λ told. followed-traced (c
 pub returns-clause-full : goal.returns-clause-full
 returns-clause-full g c = rw (sym c.self.view_is) (stored-fulls c.self.invariant.2.stored)
 
+pub returns-clause-local : goal.returns-clause-local
+returns-clause-local g c = rw (sym c.self.view_is) c.self.invariant.2.local
+
 pub returns-clause-safe : goal.returns-clause-safe
 returns-clause-safe g c = rw (sym c.self.view_is) (λ told base_told start is safe. safely-words (c.self.invariant.5 told base_told) start is safe)
 

@@ -3,6 +3,7 @@ use Rattle.vd_passes.specs.declared.shape.Shape.{Shape}
 use Rattle.vd_replay.proofs.Starting.{whole-given}
 use Rattle.vd_core.specs.Opening.{AreNew, shape_of, empty_history}
 use Rattle.vd_core.proofs.Keeping.Accounting.{opened-accounted}
+use Rattle.vd_core.proofs.Local.{new-local}
 use Rattle.vd_core.proofs.Keeping.Opening.{opened-kept}
 use Rattle.vd_core.proofs.Keeping.OpeningTold.{opened-logged, opened-told, opened-recorded}
 use Rattle.vd_core.proofs.Securing.Opening.{opened-safely, opened-parts}
@@ -27,7 +28,7 @@ invariant_of-result g c =
           c.requires.idle c.requires.base_idle c.requires.most new c.room_of-spare.ensures.bounded,
       (λ told base_told. opened-told s whole c.requires.version c.args.room (g.S.Store.disk c.args.store) (g.S.Store.last c.args.store) (g.B.Base.content c.args.base) new
           (c.sectors-2.ensures.content base_told ∙ c.sectors-2.ensures.value) (sym c.events.ensures.value ∙ c.events.ensures.running told) (c.in_flight.ensures.honest told) (c.requires.says told)),
-      opened-accounted s.map s.table new (λ n e. whole-given s n e whole) (whole.sized.map ∙ sym whole.sized.table) c.faults-store_faults.ensures c.faults-base_faults.ensures,
+      opened-accounted s.map s.table new (λ n e. whole-given s n e whole) (whole.sized.map ∙ sym whole.sized.table) (new-local s (g.B.Base.sectors c.args.base) whole) c.faults-store_faults.ensures c.faults-base_faults.ensures,
       (λ told. opened-logged c.args.room (g.S.Store.disk c.args.store) new (sym c.events.ensures.value ∙ c.events.ensures.running told)),
       opened-recorded s whole c.requires.version (g.B.Base.sectors c.args.base) new,
       (λ told base_told. opened-safely s whole c.requires.version c.args.room (g.S.Store.disk c.args.store) (g.B.Base.content c.args.base) new

@@ -32,7 +32,7 @@ invariant_of-self g c =
     let regions = c.release.ensures.regions ∙ ap (λ (o : Outcome). released o c.args.pass c.self.inside.regions) done.settled.1 in (
       settle_issue-kept c.self.invariant.0 c.args.pass at settled.2 settled.3 done.stays regions,
       settle_issue-told c.self.invariant.0 c.args.pass at settled.2 settled.3.opened c.self.invariant.3 c.self.invariant.1,
-      settle_issue-accounted c.self.invariant.0.coherent c.self.invariant.2 c.args.pass (g.S.Store.late c.self.inside.store) (g.S.Store.late c.settle_write-outcome.new.store) settled.2 settled.4,
+      settle_issue-accounted c.self.invariant.0.coherent c.self.invariant.2 c.args.pass (g.S.Store.late c.self.inside.store) (g.S.Store.late c.settle_write-outcome.new.store) at settled.2 settled.4,
       λ told. let was = c.self.invariant.3 (settled.2.told_before told) in
           logged-on was (settle-goes-on (settled.2.told told)) settled.3.opened (write_settled-followed c.self.invariant.0.coherent (g.S.Store.events c.settle_write-outcome.new.store) was.followed at settled.2 settled.3.numbers (settled.2.told told)),
       settle_issue-recorded c.self.invariant.4 c.args.pass at c.settle_write-outcome.new.fresh done.chunk settled.2 (settled-block c.self.invariant.0 c.args.pass at settled.2.pass settled.2.there) settled.5,

@@ -1,0 +1,197 @@
+-- Once a flush was the last, each sector of the disk that the store stands for may stand there by the history.
+use Rattle.std.proofs.Common.{◌≡◌, ℕ, ◌+◌, ◌-◌, ◌*◌, ◌/◌, ◌%◌, ◌<◌, ◌≤◌, inl, inr, Bool, true, false, List, length, sym, ◌∙◌, ap, subst, arith, Option, Some, slice_get}
+use Rattle.std.specs.List.{Contains}
+use Rattle.std.proofs.Math.Nat.{mod-lt}
+use Rattle.std.proofs.lemmas.Nat.{div-add-mod'}
+use Rattle.std.proofs.lemmas.Bool.{cases_lt}
+use Rattle.std.proofs.lemmas.Option.{slice_get-get_or, get_or_from_slice_get}
+use Rattle.vd_law.specs.declared.entry.Sector.{Sector}
+use Rattle.vd_law.specs.declared.entry.CallId.{CallId}
+use Rattle.vd_law.specs.declared.entry.Room.{Room}
+use Rattle.vd_law.specs.Entries.{Flush, Entry, Done, nothing, past}
+use Rattle.vd_law.specs.Contents.{could, last_done}
+use Rattle.vd_law.specs.Histories.{Numbered}
+use Rattle.vd_device.specs.declared.ticket.Ticket.{Ticket}
+use Rattle.vd_device.specs.Disks.{Disk}
+use Rattle.vd_format.specs.declared.header.Header.{Header}
+use Rattle.vd_format.specs.Layouts.{blocks_of}
+use Rattle.vd_image.specs.Log.{Writes, Ends, Flushes, NoneSureFrom}
+use Rattle.vd_image.specs.Image.{Geometry, Format, Layout, DiskHas, background as image_background}
+use Rattle.vd_image.specs.Layouts.{layout_of}
+use Rattle.vd_image.specs.Decoders.{format_of}
+use Rattle.vd_image.specs.CrashImages.{base_at}
+use Rattle.vd_image.specs.Made.{zero_sector}
+use Rattle.vd_image.proofs.NthWrites.{list_of, list_of-fold, nth_writes}
+use Rattle.vd_image.proofs.OpenWrites.{done_is}
+use Rattle.vd_image.proofs.Layouts.{parts_apart}
+use Rattle.vd_image.proofs.Openings.{same_format, same_layout}
+use Rattle.vd_regions.specs.declared.regions.Region.{Region}
+use Rattle.vd_reading.specs.Background.{background}
+use Rattle.vd_replay.specs.declared.state.State.{State}
+use Rattle.vd_replay.specs.Images.{image_of}
+use Rattle.vd_replay.proofs.ListLaws.{get_some}
+use Rattle.vd_meta.specs.Keeping.{Keeping}
+use Rattle.vd_passes.specs.declared.shape.Shape.{Shape}
+use Rattle.vd_passes.specs.declared.pass.Pass.{Pass}
+use Rattle.vd_passes.specs.Places.{IsIn}
+use Rattle.vd_passes.proofs.PlacesGiven.{place-some}
+use Rattle.vd_safety.specs.Mirrors.{bit_of, storage_of, opening_for}
+use Rattle.vd_safety.specs.Held.{IsFound}
+use Rattle.vd_safety.proofs.Calls.{one-ask}
+use Rattle.vd_safety.proofs.Opening.{zeros-same}
+use Rattle.vd_safety.proofs.Found.{held-found, unstale-unsure}
+use Rattle.vd_safety.proofs.Stated.{up_there, stored_has}
+use Rattle.vd_core.specs.Agreeing.{AgreesWith}
+use Rattle.vd_core.specs.Kept.{IsKept, IsTold, IsRecorded, IsSafelyKept}
+use Rattle.vd_core.specs.Local.{IsWrittenIn, AreLocalBy}
+use Rattle.vd_core.specs.Showing.{EndsFlushed, MayHold, ShowsCould}
+use Rattle.vd_core.specs.Start.{opening_at, IsStart, WasSafe}
+use Rattle.vd_core.proofs.Agreeing.{told-agrees}
+use Rattle.vd_core.proofs.Securing.Words.{all-inside}
+use Rattle.vd_core.proofs.StartingDisk.{sector-place}
+use Rattle.vd_core.proofs.StartingTold.{background-same}
+
+listed : (log : List Entry) → list_of (past log) ≡ log
+listed log = list_of-fold log nothing
+
+-- a block in which a write is done has a write that such a flush made sure
+pub sure-write : (log : List Entry) (a : ℕ) → Flushes log a → ((m : ℕ) (id : CallId) → a ≤ m → slice_get log m ≡ Some (Done id) → ⊥) → (s : ℕ) → 0 < last_done (past log) s → NoneSureFrom log 0 s → ⊥
+sure-write log a flushes none_done s some none = elim (done_is (past log) s) [
+  | inl never ↦ omega (arith, never, some)
+  | inr done ↦
+      let writes : Writes log done.0 s done.2 = subst (λ (l : List Entry). Writes l done.0 s done.2) (listed log) (nth_writes (past log) s (last_done (past log) s) done.0 done.2 done.3) in
+      let ends : Ends log done.0 done.1 = subst (λ (l : List Entry). Ends l done.0 done.1) (listed log) done.4 in
+      elim (cases_lt done.1 a) [
+        | inl before ↦ none done.0 done.2 (omega arith) writes (record { done = done.1; asked = a; ends = ends; before = before; flushes = flushes })
+        | inr after ↦ none_done done.1 ends.id after ends.done
+      ]
+]
+
+module _ {shape : Shape} {state : State} {regions : List (Option Region)} {passes : List Pass} {history : Numbered} {spare : Room} {sectors depth events base_sectors base_depth last : ℕ} {flies base_flies : List Ticket → Type 0} {flusher : Option ℕ} {k : Keeping} {disk : Disk} {base : List Sector}
+    (kept : IsKept shape state.table state.fresh.bits regions passes history spare sectors depth events base_sectors base_depth flies base_flies)
+    (told : IsTold shape state.header state.table state.fresh.bits passes history disk last base base_sectors)
+    (local : AreLocalBy shape state.map state.fresh.bits history.log.entries) (recorded : IsRecorded shape state passes flusher k)
+    (was : IsSafelyKept state.header state.map state.table state.fresh.bits k flusher passes history disk base sectors)
+    (start : List Sector) (is : IsStart (opening_at history.opened disk) base state.header start) (safe : WasSafe (opening_at history.opened disk) state.header)
+    (ends : EndsFlushed history.log.entries) (held : List Sector) (may : MayHold disk held) where
+  abbrev h : Header
+  h = state.header
+
+  abbrev fresh : List Bool
+  fresh = state.fresh.bits
+
+  abbrev chunks : List (Option ℕ)
+  chunks = state.table.chunks
+
+  flushes : Flushes history.log.entries ends.ask
+  flushes = record {
+    id = ends.id;
+    reply = ends.reply;
+    asked = ends.asked;
+    replied = ends.replied;
+    next = λ m request after before at. (let same = one-ask (shape.block * shape.blocks) history.log.entries ends.id ends.ask m Flush request kept.coherent.regular.in_turn ends.asked at in omega (arith, same, after));
+    later = ends.later;
+  }
+
+  agrees : AgreesWith shape state.table fresh start base history.log.entries disk
+  agrees = told-agrees kept.coherent told start is
+
+  found : (s : ℕ) (v : Sector) → s < h.size → DiskHas (format_of h) (layout_of h) (base_at zero_sector base) zero_sector (image_of held) s v → IsFound h base state.table fresh k held s v
+  found = held-found h state.map disk.start (was.secured start is safe).0 base start history.opened state.table fresh k flusher passes history disk.log held (was.secured start is safe).1
+      (record { size = may.left.size; each = may.left.sectors; inside = all-inside was start is safe })
+
+  -- The shape's numbers are the header's.
+
+  block-same : shape.block ≡ h.block
+  block-same = recorded.attended.block ∙ ap (λ (g : Geometry). g.block) recorded.same
+
+  chunk-same : shape.chunk ≡ h.chunk
+  chunk-same = recorded.attended.chunk ∙ ap (λ (g : Geometry). g.chunk) recorded.same
+
+  layout-same : layout_of k.header ≡ layout_of h
+  layout-same = same_layout k.header h recorded.same
+
+  blocks-same : shape.blocks ≡ blocks_of h
+  blocks-same = recorded.attended.blocks ∙ ap (λ (l : Layout). l.blocks) layout-same
+
+  module _ (s : ℕ) (v : Sector) (within : s < h.size) where
+    abbrev b : ℕ
+    b = s / h.block
+
+    some : 0 < h.block
+    some = let n = kept.coherent.shaped.some in let same = block-same in omega arith
+
+    in_block : IsIn shape.block b s
+    in_block = subst (λ (n : ℕ). IsIn n b s) (sym block-same) (let parts = div-add-mod' s h.block in let less = mod-lt s some in (omega (arith, parts), omega (arith, parts, less)))
+
+    in_disk : b < shape.blocks
+    in_disk = let inside = (parts_apart h recorded.sized.valid).blocks s within in let same = blocks-same in omega arith
+
+    in_start : s < length start
+    in_start = let size = is.size in omega arith
+
+    -- the block is local, with this storage: the store may hold the sector in its place
+    stored : (p : ℕ) → storage_of state.table (b / h.chunk) ≡ Some p → bit_of fresh b ≡ true → v ≡ image_of held ((layout_of h).place p s) → Contains (could start history.log.entries s) v
+    stored p given up value =
+        let there : slice_get chunks (b / shape.chunk) ≡ Some (Some p) = ap (λ (n : ℕ). slice_get chunks (b / n)) chunk-same ∙ stored_has state.table (b / h.chunk) p given in
+        let placed = place-some shape chunks b p there in
+        let x : ℕ = shape.storage_at + (p * shape.chunk + b % shape.chunk) * shape.block in
+        let a : ℕ = x + (s - shape.block * b) in
+        let inside = (kept.coherent.placed.inside b x placed).1 in let size = may.left.size in let long = was.size in
+        let reached : a < length held = (let block = in_block in omega (arith, inside, size, long, block)) in
+        let content : v ≡ image_of held a = value ∙ ap (image_of held) (sym (place-is p)) in
+        agrees.held b x s v in_start in_block (up_there fresh b up) placed
+        (subst (λ (w : Sector). Contains (could disk.start disk.log a) w) (sym content) (may.now a (image_of held a) (slice_get-get_or held a zero_sector reached)))
+      where
+        spread : (low p c n m r rest : ℕ) → rest ≡ m * n + r → low + (p * c + m) * n + r ≡ low + (p * (n * c) + rest)
+        spread low p c n m r rest near = omega arith
+
+        place-is : (p : ℕ) → shape.storage_at + (p * shape.chunk + b % shape.chunk) * shape.block + (s - shape.block * b) ≡ (layout_of h).place p s
+        place-is p =
+            spread shape.storage_at p shape.chunk shape.block (b % shape.chunk) (s - shape.block * b) (s % (shape.block * shape.chunk)) (sector-place shape.block shape.chunk b s kept.coherent.shaped.some in_block).1
+            ∙ ap (λ (n : ℕ). shape.storage_at + (p * (n * shape.chunk) + s % (n * shape.chunk))) recorded.attended.block
+            ∙ ap (λ (c : ℕ). shape.storage_at + (p * (k.header.block * c) + s % (k.header.block * c))) recorded.attended.chunk
+            ∙ ap (λ (low : ℕ). low + (p * (k.header.block * k.header.chunk) + s % (k.header.block * k.header.chunk))) recorded.attended.storage_at
+            ∙ ap (λ (l : Layout). l.place p s) layout-same
+
+    -- the block isn't in every image: then no write in it is done, and it isn't local
+    unstale-other : bit_of k.stale b ≡ false → slice_get fresh b ≡ Some false
+    unstale-other unstale =
+        let bit = get_some fresh b (let size = kept.coherent.size in let inside = in_disk in omega arith) in
+        by bit.0 bit.1
+      where
+        unwritten : IsWrittenIn shape history.log.entries b → ⊥
+        unwritten w =
+            let near : w.0 / h.block ≡ b = (sector-place h.block h.chunk b w.0 some (subst (λ (n : ℕ). IsIn n b w.0) block-same w.1)).0 in
+            let secured = was.secured start is safe in
+            sure-write history.log.entries ends.ask flushes ends.none_done w.0 w.2
+            (unstale-unsure (opening_for h state.map disk.start secured.0 base start history.opened) state.table fresh k flusher passes history disk.log secured.1 w.0 (ap (bit_of k.stale) near ∙ unstale))
+
+        by : (bit : Bool) → slice_get fresh b ≡ Some bit → slice_get fresh b ≡ Some false
+        by false at = at
+        by true at = absurd (elim ((local.each b in_disk).0 at) [
+          | inl old ↦ (let marked = get_or_from_slice_get k.stale b true false (recorded.stale b in_disk old) in cc)
+          | inr w ↦ unwritten w
+        ])
+
+    behind : bit_of k.stale b ≡ false → v ≡ image_background (base_at zero_sector base) zero_sector k.header.tracked s → Contains (could start history.log.entries s) v
+    behind unstale value =
+        let same : v ≡ background base shape.tracked s = value
+        ∙ ap (λ (z : Sector). image_background (base_at z base) z k.header.tracked s) zeros-same
+        ∙ background-same base k.header.tracked s
+        ∙ ap (λ (t : ℕ). background base t s) (sym recorded.attended.tracked) in
+        subst (λ (w : Sector). Contains (could start history.log.entries s) w) (sym same) (agrees.behind b s in_start in_block (unstale-other unstale))
+
+    shown : DiskHas (format_of h) (layout_of h) (base_at zero_sector base) zero_sector (image_of held) s v → Contains (could start history.log.entries s) v
+    shown has = elim (found s v within has) [
+      | inl here ↦ stored here.0 here.1 here.2 here.3
+      | inr other ↦ behind other.0 other.1
+    ]
+
+  pub shows-could : ShowsCould h base start history.log.entries held
+  shows-could = record {
+    each = λ g same s v within has.
+        shown s v (let size = ap (λ (z : Geometry). z.size) same in omega arith)
+        (subst (λ (f : Format). DiskHas f (layout_of h) (base_at zero_sector base) zero_sector (image_of held) s v) (same_format g h same)
+        (subst (λ (l : Layout). DiskHas (format_of g) l (base_at zero_sector base) zero_sector (image_of held) s v) (same_layout g h same) has));
+  }
