@@ -1,8 +1,8 @@
 -- The room in the history after a step of one pass.
 use Rattle.std.proofs.Common.{◌≡◌, ℕ, ◌<◌, ◌≤◌, List, [], ◌∷◌, ◌++◌, length, refl, sym, ◌∙◌, ap, subst, inl, inr, arith, append-nil, Some, slice_get, slice_set}
-use Rattle.std.specs.List.{sum_by}
+use Rattle.std.specs.List.{sum_by, AllByRecursion}
 use Rattle.vd_law.specs.declared.entry.Room.{Room}
-use Rattle.vd_law.specs.Histories.{Numbered, last_number}
+use Rattle.vd_law.specs.Histories.{Numbered, IsRising, last_number}
 use Rattle.vd_passes.specs.declared.pass.Pass.{Pass}
 use Rattle.vd_passes.specs.Needs.{HasRoom}
 use Rattle.vd_passes.proofs.Lists.{at-set}
@@ -13,6 +13,15 @@ use Rattle.vd_core.specs.Kept.{IsRoomy}
 pub last_number-append : (from : ℕ) (ns more : List ℕ) → last_number from (ns ++ more) ≡ last_number (last_number from ns) more
 last_number-append from [] more = refl
 last_number-append from (n ∷ ns) more = last_number-append n ns more
+
+last-least : (from : ℕ) (ns : List ℕ) → IsRising from ns → from ≤ last_number from ns
+last-least from [] rising = omega arith
+last-least from (n ∷ ns) rising = let rest = last-least n ns rising.1 in let first = rising.0 in omega (arith, rest, first)
+
+-- no number is above the last one
+pub rising-below : (from : ℕ) (ns : List ℕ) (m : ℕ) → IsRising from ns → last_number from ns ≤ m → AllByRecursion (λ (n : ℕ). n ≤ m) ns
+rising-below from [] m rising below = tt
+rising-below from (n ∷ ns) m rising below = ((let least = last-least n ns rising.1 in omega (arith, least, below)), rising-below n ns m rising.1 below)
 
 -- the last number after a step
 pub last-extended : {more : List ℕ} {sectors : ℕ} {history history' : Numbered} → Extends more sectors history history' → last_number history'.opened history'.numbers ≡ last_number (last_number history.opened history.numbers) more

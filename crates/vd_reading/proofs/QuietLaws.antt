@@ -1,16 +1,18 @@
 -- Calls that write nothing.
-use Rattle.std.proofs.Common.{ℕ, zero, suc, ◌≡◌, ◌+◌, ◌<◌, ◌≤◌, ◌⊎◌, List, [], ◌∷◌, ◌++◌, length, take, Option, Some, None, Result, Ok, Err, inl, inr, refl, ap, sym, ◌∙◌, subst, arith}
-use Rattle.std.specs.Prelude.{slice_get, ⊤, OnOk}
+use Rattle.std.proofs.Common.{ℕ, zero, suc, ◌≡◌, ◌≤◌, length-append, List, [], ◌∷◌, ◌++◌, length, take, Some, None, Result, Ok, Err, inl, inr, refl, ap, sym, ◌∙◌, subst, arith}
+use Rattle.std.specs.Prelude.{slice_get, ⊤, OnOk, OnErr, IfErr}
 use Rattle.std.specs.List.{All, AllByRecursion, fold}
 use Rattle.std.proofs.lemmas.List.Elements.{All-head}
 use Rattle.std.proofs.lemmas.List.{append_assoc, append-nil}
 use Rattle.vd_law.specs.declared.entry.Sector.{Sector}
-use Rattle.vd_law.specs.Entries.{Entry, Ask, Issue, Done, Broke, Seen, Reply, Past, nothing, ◌▸◌, past}
+use Rattle.vd_law.specs.declared.entry.Answer.TheVariants.{StoreFault}
+use Rattle.vd_law.specs.Entries.{Read, Flush, Entry, Ask, Issue, Done, Broke, Seen, Reply, Past, nothing, ◌▸◌, past}
 use Rattle.vd_law.specs.Contents.{Open, open_writes}
 use Rattle.vd_law.proofs.RuleLaws.{past-append}
-use Rattle.vd_device.specs.Disks.{Disk, GrowsBy, RecordsSome, IsRunning, HasStopped, IsOneOf}
-use Rattle.vd_device.specs.Now.{read_entries, flush_entries}
-use Rattle.vd_reading.specs.Quiet.{IsAtRest, IsNoWrite, AddsNoWrite, AddsFlush, IsReady, OnlyReads}
+use Rattle.vd_device.specs.Disks.{Disk, GrowsBy, RecordsSome, IsOneOf}
+use Rattle.vd_device.specs.Calls.{Rose}
+use Rattle.vd_device.specs.Now.{call_number, read_entries, flush_entries}
+use Rattle.vd_reading.specs.Quiet.{IsAtRest, IsNoWrite, AddsNoWrite, AddsFlush, IsReady, OnlyReads, EndsBadly, IsLoggedFault, IsStoreFault, IsFault}
 
 -- two lists are the same where each of their places is
 pub same_list : {X : Type 0} (xs ys : List X) → length xs ≡ length ys → ((i : ℕ) → slice_get xs i ≡ slice_get ys i) → xs ≡ ys
@@ -89,6 +91,7 @@ only_reads es {before = before} {after = after} {old = old} {new = new} only_idl
   told_before = told_before;
   held = λ t. held_after es old new only_idle (told t) (rest (told_before t));
   rest = λ r t. rest_after es old new only_idle (told t).log (r (told_before t));
+  added = λ t. record { start = (told t).start; more = es; none = no_write es only_idle; log = (told t).log };
   recorded_before = recorded_before;
   recorded = λ r. recorded_after es before after old new only_idle (recorded r);
 }
@@ -116,6 +119,7 @@ reads_twice {a = a} {b = b} {c = c} x y = record {
   told_before = λ t. x.told_before (y.told_before t);
   held = λ t. y.held t ∙ x.held (y.told_before t);
   rest = λ r. y.rest (x.rest r);
+  added = λ t. adds_twice a b c (x.added (y.told_before t)) (y.added t);
   recorded_before = λ r. x.recorded_before (y.recorded_before r);
   recorded = λ r. adds_twice a b c (x.recorded (y.recorded_before r)) (y.recorded r);
 }
@@ -130,6 +134,7 @@ reads_nothing idle = record {
   told_before = λ t. t;
   held = λ t. refl;
   rest = λ r. r;
+  added = λ t. record { start = refl; more = []; none = tt; log = sym (append-nil _) };
   recorded_before = λ r. r;
   recorded = λ r. record { start = refl; more = []; none = tt; log = sym (append-nil _) };
 }
@@ -167,3 +172,83 @@ flush_before {old} {mid} {new} flushed adds = record {
   log = adds.log ∙ ap (λ (l : List Entry). l ++ adds.more) flushed.log ∙ append_assoc old.log (flush_entries flushed.number (Ok tt) ++ flushed.more) adds.more
       ∙ ap (λ (l : List Entry). old.log ++ l) (append_assoc (flush_entries flushed.number (Ok tt)) flushed.more adds.more);
 }
+
+-- ---- calls that failed
+
+last_of_two : {X : Type 0} (xs : List X) (a b : X) → slice_get (xs ++ a ∷ b ∷ []) (suc (length xs)) ≡ Some b
+last_of_two [] a b = refl
+last_of_two (x ∷ xs) a b = last_of_two xs a b
+
+get_further : {X : Type 0} (xs ys : List X) (i : ℕ) (x : X) → slice_get xs i ≡ Some x → slice_get (xs ++ ys) i ≡ Some x
+get_further [] ys i x there = absurd cc
+get_further (y ∷ xs) ys zero x there = there
+get_further (y ∷ xs) ys (suc i) x there = get_further xs ys i x there
+
+-- the log has got the two entries of a call that failed
+ended_badly : (ticket : ℕ) (asked : Entry) (old new : List Entry) → new ≡ old ++ asked ∷ Reply (call_number ticket) (StoreFault ticket 0) ∷ [] → EndsBadly ticket (length old) new
+ended_badly ticket asked old new grown = record {
+  at = suc (length old);
+  reply = ap (λ (l : List Entry). slice_get l (suc (length old))) grown ∙ last_of_two old asked (Reply (call_number ticket) (StoreFault ticket 0));
+  after = omega arith;
+}
+
+pub read_failed : (first count last faults faults' : ℕ) {tells' : Type 0} {old new : Disk} (out : List Sector) (result : Result ⊤ ℕ) → IfErr result (λ number. number ≡ last) → OnErr result (Rose faults faults')
+    → (tells' → GrowsBy (read_entries last first count out result) old new) → IfErr result (λ number. IsStoreFault number last faults faults' tells' old new)
+read_failed first count last faults faults' out (Ok done) is rose told = tt
+read_failed first count last faults faults' {old = old} {new = new} out (Err number) is rose told = record {
+  ticket = is;
+  rose = rose;
+  logged = λ t. subst (λ (n : ℕ). EndsBadly n (length old.log) new.log) (sym is) (ended_badly last (Ask (call_number last) (Read first count)) old.log new.log (told t).log);
+}
+
+pub flush_failed : (last faults faults' : ℕ) {tells' : Type 0} {old new : Disk} (result : Result ⊤ ℕ) → IfErr result (λ number. number ≡ last) → OnErr result (Rose faults faults')
+    → (tells' → GrowsBy (flush_entries last result) old new) → IfErr result (λ number. IsStoreFault number last faults faults' tells' old new)
+flush_failed last faults faults' (Ok done) is rose told = tt
+flush_failed last faults faults' {old = old} {new = new} (Err number) is rose told = record {
+  ticket = is;
+  rose = rose;
+  logged = λ t. subst (λ (n : ℕ). EndsBadly n (length old.log) new.log) (sym is) (ended_badly last (Ask (call_number last) Flush) old.log new.log (told t).log);
+}
+
+-- what has ended so goes on to have ended while the log is added to
+pub ends_later : {ticket from : ℕ} {old new : Disk} → AddsNoWrite old new → EndsBadly ticket from old.log → EndsBadly ticket from new.log
+ends_later {old = old} adds ends = record {
+  at = ends.at;
+  reply = ap (λ (l : List Entry). slice_get l ends.at) adds.log ∙ get_further old.log adds.more ends.at _ ends.reply;
+  after = ends.after;
+}
+
+pub ends_earlier : {ticket from from' : ℕ} {log : List Entry} → from ≤ from' → EndsBadly ticket from' log → EndsBadly ticket from log
+ends_earlier less ends = record { at = ends.at; reply = ends.reply; after = (let a = ends.after in omega arith) }
+
+pub log_longer : {old new : Disk} → AddsNoWrite old new → length old.log ≤ length new.log
+log_longer {old = old} adds = let e = ap length adds.log in let n = length-append old.log adds.more in omega arith
+
+-- a failure is one of a longer work, which had only read before
+pub fault_of_longer : {i1 i2 : Type 0} {s0 s1 s2 d0 d1 d2 f0 f1 f2 : ℕ} {t0 t1 t2 r0 r1 r2 : Type 0} {a b c : Disk} {number last : ℕ} → OnlyReads i1 s0 s1 d0 d1 f0 f1 t0 t1 r0 r1 a b → OnlyReads i2 s1 s2 d1 d2 f1 f2 t1 t2 r1 r2 b c
+    → IsStoreFault number last f1 f2 t2 b c → IsStoreFault number last f0 f2 t2 a c
+fault_of_longer before reads fault = record {
+  ticket = fault.ticket;
+  rose = (let r = fault.rose in let p = before.calm in omega arith);
+  logged = λ t. ends_earlier (log_longer (before.added (reads.told_before t))) (fault.logged t);
+}
+
+pub logged_of_longer : {i1 i2 : Type 0} {s0 s1 s2 d0 d1 d2 f0 f1 f2 : ℕ} {t0 t1 t2 r0 r1 r2 : Type 0} {a b c : Disk} {number : ℕ} → OnlyReads i1 s0 s1 d0 d1 f0 f1 t0 t1 r0 r1 a b → OnlyReads i2 s1 s2 d1 d2 f1 f2 t1 t2 r1 r2 b c
+    → IsLoggedFault number f1 f2 t2 b c → IsLoggedFault number f0 f2 t2 a c
+logged_of_longer before reads fault = record {
+  rose = (let r = fault.rose in let p = before.calm in omega arith);
+  logged = λ t. ends_earlier (log_longer (before.added (reads.told_before t))) (fault.logged t);
+}
+
+-- and of one that only reads after it
+pub logged_before_more : {i2 : Type 0} {s1 s2 d1 d2 f0 f1 f2 : ℕ} {t1 t2 r1 r2 : Type 0} {a b c : Disk} {number : ℕ} → OnlyReads i2 s1 s2 d1 d2 f1 f2 t1 t2 r1 r2 b c → IsLoggedFault number f0 f1 t1 a b → IsLoggedFault number f0 f2 t2 a c
+logged_before_more after fault = record {
+  rose = (let r = fault.rose in let p = after.calm in omega arith);
+  logged = λ t. ends_later (after.added t) (fault.logged (after.told_before t));
+}
+
+pub fault_logged : {number last faults faults' : ℕ} {tells' : Type 0} {old new : Disk} → IsStoreFault number last faults faults' tells' old new → IsLoggedFault number faults faults' tells' old new
+fault_logged fault = record { rose = fault.rose; logged = fault.logged }
+
+pub fault_of : {number last faults faults' : ℕ} {tells' : Type 0} {old new : Disk} → IsStoreFault number last faults faults' tells' old new → IsFault number last faults faults'
+fault_of fault = record { ticket = fault.ticket; rose = fault.rose }

@@ -3,7 +3,7 @@
 ghost use Rattle.std.specs.Prelude.{◌≡◌, ◌++◌, [], length, OnOk, IfErr};
 ghost use Rattle.vd_device.specs.Tickets.{IsRange};
 ghost use Rattle.vd_device.specs.Now.{flush_entries};
-ghost use Rattle.vd_reading.specs.Quiet.{sectors_from, IsReady, OnlyReads, IsFault};
+ghost use Rattle.vd_reading.specs.Quiet.{sectors_from, IsReady, OnlyReads, IsStoreFault};
 
 use vd_device::{Store, flush_now, read_now};
 use vd_law::entry::Sector;
@@ -20,21 +20,23 @@ pub fn sectors_at_rest<S: Store>(store: &S) -> u64
     store.sectors()
 }
 
-/// Makes durable what was written before. Nothing that is held changes. The error is the failed ticket's number.
+/// Makes durable what was written before. Nothing that is held changes. The error is the failed ticket's number; where the
+/// store tells, that call ended in its log by a Reply that isn't Ok.
 pub fn flush_only<S: Store>(store: &mut S) -> Result<(), u64>
     requires ready { IsReady (S.flies store.old []) (S.depth store.old) (S.tells store.old) (S.disk store.old) }
-    ensures fault { IfErr result (λ number. IsFault number (S.last store.new) (S.faults store.old) (S.faults store.new)) }
+    ensures fault { IfErr result (λ number. IsStoreFault number (S.last store.new) (S.faults store.old) (S.faults store.new) (S.tells store.new) (S.disk store.old) (S.disk store.new)) }
     ensures quiet { OnlyReads (S.flies store.new []) (S.sectors store.old) (S.sectors store.new) (S.depth store.old) (S.depth store.new) (S.faults store.old) (S.faults store.new) (S.tells store.old) (S.tells store.new) (S.records store.old) (S.records store.new) (S.disk store.old) (S.disk store.new) }
     ensures flushed { S.tells store.new → (S.disk store.new).log ≡ (S.disk store.old).log ++ flush_entries (S.last store.new) result }
 {
     flush_now(store)
 }
 
-/// Reads the sectors from `first` on into `out`, at most 2,048. Nothing that is held changes. The error is the failed ticket's number.
+/// Reads the sectors from `first` on into `out`, at most 2,048. Nothing that is held changes. The error is the failed ticket's
+/// number; where the store tells, that call ended in its log by a Reply that isn't Ok.
 pub fn read_only<S: Store>(store: &mut S, first: u64, out: &mut [Sector]) -> Result<(), u64>
     requires ready { IsReady (S.flies store.old []) (S.depth store.old) (S.tells store.old) (S.disk store.old) }
     requires range { IsRange (S.sectors store.old) first (length out.old) }
-    ensures fault { IfErr result (λ number. IsFault number (S.last store.new) (S.faults store.old) (S.faults store.new)) }
+    ensures fault { IfErr result (λ number. IsStoreFault number (S.last store.new) (S.faults store.old) (S.faults store.new) (S.tells store.new) (S.disk store.old) (S.disk store.new)) }
     ensures quiet { OnlyReads (S.flies store.new []) (S.sectors store.old) (S.sectors store.new) (S.depth store.old) (S.depth store.new) (S.faults store.old) (S.faults store.new) (S.tells store.old) (S.tells store.new) (S.records store.old) (S.records store.new) (S.disk store.old) (S.disk store.new) }
     ensures size { length out.new ≡ length out.old }
     ensures read { OnOk result (S.tells store.new → out.new ≡ sectors_from (S.disk store.new).held first (length out.old)) }

@@ -6,7 +6,7 @@ use Rattle.std.proofs.Math.Bool.{and_assoc}
 use Rattle.std.proofs.lemmas.List.{drop-drop, drop_all}
 use Rattle.vd_law.specs.declared.entry.Sector.{Sector}
 use Rattle.vd_format.specs.Numbers.{are_zeros}
-use Rattle.vd_reading.specs.Quiet.{IsFault, sectors_from}
+use Rattle.vd_reading.specs.Quiet.{sectors_from}
 use Rattle.vd_replay.specs.Fresh.{are_empty}
 use Rattle.vd_replay.specs.Looking.{IsEmptyPiece}
 
@@ -50,9 +50,6 @@ nothing_read held from bytes = record { size = refl; empty_is = refl }
 
 pub piece_held : (held held' : List Sector) (first count bytes : ℕ) (empty : Bool) → held' ≡ held → IsEmptyPiece held first count bytes empty → IsEmptyPiece held' first count bytes empty
 piece_held held held' first count bytes empty same piece = subst (λ (h : List Sector). IsEmptyPiece h first count bytes empty) (sym same) piece
-
-pub fault_earlier : {number last faults faults' faults'' : ℕ} → faults ≤ faults' → IsFault number last faults' faults'' → IsFault number last faults faults''
-fault_earlier calm fault = record { ticket = fault.ticket; rose = (let r = fault.rose in omega arith) }
 
 -- the same, where the piece was read into so many sectors and what is held has stayed
 pub more_read : (held held' : List Sector) (from bytes done some k : ℕ) (empty piece : Bool) → k ≡ some → held' ≡ held → IsEmptyPiece held from done bytes empty → IsEmptyPiece held' (from + done) k (bytes - 512 * done) piece

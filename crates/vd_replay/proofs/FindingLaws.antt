@@ -8,9 +8,22 @@ use Rattle.vd_format.specs.Headers.{IsValid, header_of}
 use Rattle.vd_reading.specs.Quiet.{sectors_from}
 use Rattle.vd_image.specs.Openings.{RefusesOpening, TooSmall, BadHeader, No_sectors, Header_bad, Store_small, need_of}
 use Rattle.vd_replay.specs.Images.{image_of}
-use Rattle.vd_replay.specs.Finding.{Found, Agrees, IsWrong, NotFound, KeepsFields}
+use Rattle.vd_replay.specs.Finding.{Found, Agrees, IsWrong, NotFound, KeepsFields, ForStore}
 use Rattle.vd_replay.specs.declared.error.OpenError.{OpenError}
 use Rattle.vd_replay.specs.declared.error.OpenError.TheVariants as error
+
+-- what holds of the ticket of each store fault, where this does
+pub for_store : {P Q : ℕ → Type 0} (e : OpenError) → ((ticket : ℕ) → P ticket → Q ticket) → ForStore P e → ForStore Q e
+for_store (error.Store ticket) more is = more ticket is
+for_store (error.Header e) more is = tt
+for_store (error.TooSmall need have) more is = tt
+for_store error.OldVersion more is = tt
+for_store (error.BadEntry chunk value) more is = tt
+for_store (error.BadRecord slot) more is = tt
+for_store (error.DoubleChunk a b) more is = tt
+for_store (error.Changed field) more is = tt
+for_store error.NotBuilt more is = tt
+for_store error.NoMemory more is = tt
 
 pub no_sectors : (kept : Option Header) (held : List Sector) → length held ≡ 0 → NotFound kept held (error.TooSmall 1 0)
 no_sectors kept held none = (No_sectors none, λ h some. absurd (omega arith))

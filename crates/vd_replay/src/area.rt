@@ -2,7 +2,7 @@
 
 ghost use Rattle.std.specs.Prelude.{◌≡◌, ◌+◌, ◌-◌, ◌*◌, ◌^◌, ◌<◌, ◌≤◌, [], length, take, IfOk, IfErr};
 ghost use Rattle.vd_device.specs.Tickets.{IsRange};
-ghost use Rattle.vd_reading.specs.Quiet.{IsReady, OnlyReads, IsFault, sectors_from};
+ghost use Rattle.vd_reading.specs.Quiet.{IsReady, OnlyReads, IsStoreFault, sectors_from};
 ghost use Rattle.vd_format.specs.Numbers.{are_zeros};
 ghost use Rattle.vd_format.specs.Layouts.{sectors_of};
 ghost use Rattle.vd_replay.specs.Fresh.{are_empty, is_empty_area};
@@ -45,7 +45,7 @@ fn is_empty_piece<S: Store>(
 ) -> Result<bool, u64>
     requires ready { IsReady (S.flies store.old []) (S.depth store.old) (S.tells store.old) (S.disk store.old) }
     requires range { IsRange (S.sectors store.old) first (length room.old) }
-    ensures fault { IfErr result (λ number. IsFault number (S.last store.new) (S.faults store.old) (S.faults store.new)) }
+    ensures fault { IfErr result (λ number. IsStoreFault number (S.last store.new) (S.faults store.old) (S.faults store.new) (S.tells store.new) (S.disk store.old) (S.disk store.new)) }
     ensures quiet { OnlyReads (S.flies store.new []) (S.sectors store.old) (S.sectors store.new) (S.depth store.old) (S.depth store.new) (S.faults store.old) (S.faults store.new) (S.tells store.old) (S.tells store.new) (S.records store.old) (S.records store.new) (S.disk store.old) (S.disk store.new) }
     ensures read { IfOk result (λ empty. S.tells store.new → IsEmptyPiece (S.disk store.new).held first (length room.old) bytes empty) }
 {
@@ -65,7 +65,7 @@ pub fn is_empty_area<S: Store>(
     requires range { from + sectors_of bytes ≤ S.sectors store.old }
     requires few { bytes < 2 ^ 32 }
     requires near { from < 2 ^ 32 }
-    ensures fault { IfErr result (λ number. IsFault number (S.last store.new) (S.faults store.old) (S.faults store.new)) }
+    ensures fault { IfErr result (λ number. IsStoreFault number (S.last store.new) (S.faults store.old) (S.faults store.new) (S.tells store.new) (S.disk store.old) (S.disk store.new)) }
     ensures quiet { OnlyReads (S.flies store.new []) (S.sectors store.old) (S.sectors store.new) (S.depth store.old) (S.depth store.new) (S.faults store.old) (S.faults store.new) (S.tells store.old) (S.tells store.new) (S.records store.old) (S.records store.new) (S.disk store.old) (S.disk store.new) }
     ensures read { IfOk result (λ empty. S.tells store.new → empty ≡ is_empty_area (S.disk store.new).held from bytes) }
 {

@@ -1,7 +1,7 @@
 //! Reading the guest's disk by a state.
 
 ghost use Rattle.std.specs.Prelude.{ℕ, ◌≡◌, ◌+◌, ◌^◌, ◌<◌, ◌≤◌, [], false, length, replicate, IfErr, IsTrue, OnOk};
-ghost use Rattle.vd_reading.specs.Quiet.{IsReady, OnlyReads, OnlyReadsBase, IsFault};
+ghost use Rattle.vd_reading.specs.Quiet.{IsReady, OnlyReads, OnlyReadsBase, IsFault, IsStoreFault};
 ghost use Rattle.vd_format.specs.Headers.{IsValid};
 ghost use Rattle.vd_format.specs.Layouts.{storage_start, need_of};
 ghost use Rattle.vd_image.specs.Layouts.{layout_of as places};
@@ -136,7 +136,7 @@ fn read_run<S: Store, B: Base>(
     requires some { 0 < length out.old }
     requires most { length out.old ≤ 2048 }
     requires inside { IsInside source (length out.old) (S.sectors store.old) }
-    ensures fault { IfErr result (ForDevice (λ number. IsFault number (S.last store.new) (S.faults store.old) (S.faults store.new)) (λ number. IsFault number (B.last base.new) (B.faults base.old) (B.faults base.new))) }
+    ensures fault { IfErr result (ForDevice (λ number. IsStoreFault number (S.last store.new) (S.faults store.old) (S.faults store.new) (S.tells store.new) (S.disk store.old) (S.disk store.new)) (λ number. IsFault number (B.last base.new) (B.faults base.old) (B.faults base.new))) }
     ensures quiet { OnlyReads (S.flies store.new []) (S.sectors store.old) (S.sectors store.new) (S.depth store.old) (S.depth store.new) (S.faults store.old) (S.faults store.new) (S.tells store.old) (S.tells store.new) (S.records store.old) (S.records store.new) (S.disk store.old) (S.disk store.new) }
     ensures base_quiet { OnlyReadsBase (B.flies base.new []) (B.sectors base.old) (B.sectors base.new) (B.faults base.old) (B.faults base.new) (B.tells base.old) (B.tells base.new) (B.content base.old) (B.content base.new) }
     ensures size { length out.new ≡ length out.old }
@@ -160,7 +160,8 @@ fn read_run<S: Store, B: Base>(
 
 /// Fills `out` with the sectors of the guest's disk from `first` on: a local block's from its storage, else the base's below
 /// `tracked`, else zeros. There is one ticket for each run of neighbouring sectors that come from one device at
-/// neighbouring places, of at most 2,048 sectors each. The first failed ticket ends it.
+/// neighbouring places, of at most 2,048 sectors each. The first failed ticket ends it; where the store tells and the ticket is
+/// its own, that call ended in its log by a Reply that isn't Ok.
 pub fn read_disk<S: Store, B: Base>(
     store: &mut S,
     base: &mut B,
@@ -174,7 +175,7 @@ pub fn read_disk<S: Store, B: Base>(
     requires full { state.now.void ≡ false }
     requires room { need_of state.now.header ≤ S.sectors store.old }
     requires range { first + length out.old ≤ state.now.header.size }
-    ensures fault { IfErr result (ForDevice (λ number. IsFault number (S.last store.new) (S.faults store.old) (S.faults store.new)) (λ number. IsFault number (B.last base.new) (B.faults base.old) (B.faults base.new))) }
+    ensures fault { IfErr result (ForDevice (λ number. IsStoreFault number (S.last store.new) (S.faults store.old) (S.faults store.new) (S.tells store.new) (S.disk store.old) (S.disk store.new)) (λ number. IsFault number (B.last base.new) (B.faults base.old) (B.faults base.new))) }
     ensures quiet { OnlyReads (S.flies store.new []) (S.sectors store.old) (S.sectors store.new) (S.depth store.old) (S.depth store.new) (S.faults store.old) (S.faults store.new) (S.tells store.old) (S.tells store.new) (S.records store.old) (S.records store.new) (S.disk store.old) (S.disk store.new) }
     ensures base_quiet { OnlyReadsBase (B.flies base.new []) (B.sectors base.old) (B.sectors base.new) (B.faults base.old) (B.faults base.new) (B.tells base.old) (B.tells base.new) (B.content base.old) (B.content base.new) }
     ensures size { length out.new ≡ length out.old }

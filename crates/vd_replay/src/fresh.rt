@@ -1,7 +1,7 @@
 //! Whether an image of version 1 is as it was made. One that holds more is not read yet.
 
 ghost use Rattle.std.specs.Prelude.{◌≡◌, ◌≤◌, [], length, IfOk, IfErr};
-ghost use Rattle.vd_reading.specs.Quiet.{IsReady, OnlyReads, IsFault};
+ghost use Rattle.vd_reading.specs.Quiet.{IsReady, OnlyReads, IsStoreFault};
 ghost use Rattle.vd_format.specs.Headers.{IsValid};
 ghost use Rattle.vd_format.specs.Layouts.{need_of};
 ghost use Rattle.vd_replay.specs.Fresh.{is_map_empty, is_fresh};
@@ -19,7 +19,7 @@ fn is_map_empty<S: Store>(store: &mut S, room: &mut [Sector], header: &Header) -
     requires valid { IsValid header.now }
     requires version { header.now.version ≡ 1 }
     requires large { need_of header.now ≤ S.sectors store.old }
-    ensures fault { IfErr result (λ number. IsFault number (S.last store.new) (S.faults store.old) (S.faults store.new)) }
+    ensures fault { IfErr result (λ number. IsStoreFault number (S.last store.new) (S.faults store.old) (S.faults store.new) (S.tells store.new) (S.disk store.old) (S.disk store.new)) }
     ensures quiet { OnlyReads (S.flies store.new []) (S.sectors store.old) (S.sectors store.new) (S.depth store.old) (S.depth store.new) (S.faults store.old) (S.faults store.new) (S.tells store.old) (S.tells store.new) (S.records store.old) (S.records store.new) (S.disk store.old) (S.disk store.new) }
     ensures read { IfOk result (λ empty. S.tells store.new → empty ≡ is_map_empty header.now (S.disk store.new).held) }
 {
@@ -38,7 +38,7 @@ pub fn is_fresh<S: Store>(store: &mut S, room: &mut [Sector], header: &Header) -
     requires valid { IsValid header.now }
     requires version { header.now.version ≡ 1 }
     requires large { need_of header.now ≤ S.sectors store.old }
-    ensures fault { IfErr result (λ number. IsFault number (S.last store.new) (S.faults store.old) (S.faults store.new)) }
+    ensures fault { IfErr result (λ number. IsStoreFault number (S.last store.new) (S.faults store.old) (S.faults store.new) (S.tells store.new) (S.disk store.old) (S.disk store.new)) }
     ensures quiet { OnlyReads (S.flies store.new []) (S.sectors store.old) (S.sectors store.new) (S.depth store.old) (S.depth store.new) (S.faults store.old) (S.faults store.new) (S.tells store.old) (S.tells store.new) (S.records store.old) (S.records store.new) (S.disk store.old) (S.disk store.new) }
     ensures read { IfOk result (λ fresh. S.tells store.new → fresh ≡ is_fresh header.now (S.disk store.new).held) }
 {

@@ -1,7 +1,7 @@
 //! Finding the header of a store.
 
 ghost use Rattle.std.specs.Prelude.{◌≡◌, ◌≤◌, [], length, IfOk, IfErr};
-ghost use Rattle.vd_reading.specs.Quiet.{IsReady, OnlyReads, AddsFlush, IsFault};
+ghost use Rattle.vd_reading.specs.Quiet.{IsReady, OnlyReads, AddsFlush, IsStoreFault};
 ghost use Rattle.vd_format.specs.Headers.{IsValid};
 ghost use Rattle.vd_format.specs.Layouts.{need_of};
 ghost use Rattle.vd_replay.specs.Headers.{first_changed};
@@ -63,7 +63,7 @@ fn judge(header: Header, kept: Option<Header>, have: u64) -> Result<Header, Open
 /// differ.
 pub fn find_header<S: Store>(store: &mut S, kept: Option<Header>) -> Result<Header, OpenError>
     requires idle { S.flies store.old [] }
-    ensures fault { IfErr result (ForStore (λ number. IsFault number (S.last store.new) (S.faults store.old) (S.faults store.new))) }
+    ensures fault { IfErr result (ForStore (λ number. IsStoreFault number (S.last store.new) (S.faults store.old) (S.faults store.new) (S.tells store.new) (S.disk store.old) (S.disk store.new))) }
     ensures quiet { OnlyReads (S.flies store.new []) (S.sectors store.old) (S.sectors store.new) (S.depth store.old) (S.depth store.new) (S.faults store.old) (S.faults store.new) (S.tells store.old) (S.tells store.new) (S.records store.old) (S.records store.new) (S.disk store.old) (S.disk store.new) }
     ensures ready { IfOk result (λ h. IsReady (S.flies store.new []) (S.depth store.new) (S.tells store.new) (S.disk store.new)) }
     ensures valid { IfOk result IsValid }

@@ -8,7 +8,7 @@ ghost use Rattle.vd_format.specs.declared.map.Fact2.{Fact2 as AnyFact};
 ghost use Rattle.vd_format.specs.declared.map.Shape2.{Shape2 as AnyShape};
 ghost use Rattle.vd_format.specs.Records.{AreFacts};
 ghost use Rattle.vd_device.specs.Tickets.{IsRange};
-ghost use Rattle.vd_reading.specs.Quiet.{IsReady, OnlyReads, IsFault};
+ghost use Rattle.vd_reading.specs.Quiet.{IsReady, OnlyReads, IsStoreFault};
 ghost use Rattle.vd_image.specs.Made.{zero_sector};
 ghost use Rattle.vd_replay.specs.Pages.{area_at, AreEntries};
 ghost use Rattle.vd_replay.specs.Journal.{put_facts, AreReplayed, Replayed};
@@ -100,7 +100,7 @@ fn read_slots<S: Store>(
     requires slots { slot + length room.old ≤ 4096 }
     requires grammar { OnOk so_far (AreEntries shape.now shape.now.chunks map.old) }
     requires within { IfOk so_far (λ next. next ≤ slot) }
-    ensures fault { IfErr result (λ number. IsFault number (S.last store.new) (S.faults store.old) (S.faults store.new)) }
+    ensures fault { IfErr result (λ number. IsStoreFault number (S.last store.new) (S.faults store.old) (S.faults store.new) (S.tells store.new) (S.disk store.old) (S.disk store.new)) }
     ensures quiet { OnlyReads (S.flies store.new []) (S.sectors store.old) (S.sectors store.new) (S.depth store.old) (S.depth store.new) (S.faults store.old) (S.faults store.new) (S.tells store.old) (S.tells store.new) (S.records store.old) (S.records store.new) (S.disk store.old) (S.disk store.new) }
     ensures size { length map.new ≡ length map.old }
     ensures grammar { IfOk result (λ after. OnOk after (AreEntries shape.now shape.now.chunks map.new)) }
@@ -132,7 +132,7 @@ pub fn replay<S: Store>(
     requires count { count ≤ 4096 }
     requires range { from + count ≤ S.sectors store.old }
     requires grammar { AreEntries shape.now shape.now.chunks map.old }
-    ensures fault { IfErr result (λ number. IsFault number (S.last store.new) (S.faults store.old) (S.faults store.new)) }
+    ensures fault { IfErr result (λ number. IsStoreFault number (S.last store.new) (S.faults store.old) (S.faults store.new) (S.tells store.new) (S.disk store.old) (S.disk store.new)) }
     ensures quiet { OnlyReads (S.flies store.new []) (S.sectors store.old) (S.sectors store.new) (S.depth store.old) (S.depth store.new) (S.faults store.old) (S.faults store.new) (S.tells store.old) (S.tells store.new) (S.records store.old) (S.records store.new) (S.disk store.old) (S.disk store.new) }
     ensures size { length map.new ≡ length map.old }
     ensures grammar { IfOk result (λ after. OnOk after (AreEntries shape.now shape.now.chunks map.new)) }

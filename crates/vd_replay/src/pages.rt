@@ -3,7 +3,7 @@
 ghost use Rattle.std.specs.Prelude.{ℕ, ◌≡◌, ◌+◌, ◌-◌, ◌*◌, ◌/◌, ◌%◌, ◌^◌, ◌<◌, ◌≤◌, [], length, min, slice_index_or, IfOk, IfErr, OnOk, Ok};
 ghost use Rattle.vd_law.specs.declared.entry.Sector.{Sector as AnySector};
 ghost use Rattle.vd_device.specs.Tickets.{IsRange};
-ghost use Rattle.vd_reading.specs.Quiet.{IsReady, OnlyReads, IsFault};
+ghost use Rattle.vd_reading.specs.Quiet.{IsReady, OnlyReads, IsStoreFault};
 ghost use Rattle.vd_replay.specs.Pages.{area_at, AreRead, Judged, AreEntries};
 ghost use Rattle.vd_image.specs.Made.{zero_sector};
 
@@ -86,7 +86,7 @@ fn read_pages<S: Store>(
     requires inside { 32 * (page + length room.old) < shape.now.chunks + 32 }
     requires many { shape.now.chunks < 2 ^ 31 }
     requires grammar { OnOk judged (AreEntries shape.now (min (32 * page) shape.now.chunks) pages.old) }
-    ensures fault { IfErr result (λ number. IsFault number (S.last store.new) (S.faults store.old) (S.faults store.new)) }
+    ensures fault { IfErr result (λ number. IsStoreFault number (S.last store.new) (S.faults store.old) (S.faults store.new) (S.tells store.new) (S.disk store.old) (S.disk store.new)) }
     ensures quiet { OnlyReads (S.flies store.new []) (S.sectors store.old) (S.sectors store.new) (S.depth store.old) (S.depth store.new) (S.faults store.old) (S.faults store.new) (S.tells store.old) (S.tells store.new) (S.records store.old) (S.records store.new) (S.disk store.old) (S.disk store.new) }
     ensures size { length pages.new ≡ length pages.old }
     ensures grammar { IfOk result (λ judged. OnOk judged (AreEntries shape.now (min (32 * (page + length room.old)) shape.now.chunks) pages.new)) }
@@ -114,7 +114,7 @@ pub fn read_map<S: Store>(
     requires chunks { length pages.old ≡ shape.now.chunks }
     requires many { shape.now.chunks < 2 ^ 31 }
     requires range { from + (shape.now.chunks + 31) / 32 ≤ S.sectors store.old }
-    ensures fault { IfErr result (λ number. IsFault number (S.last store.new) (S.faults store.old) (S.faults store.new)) }
+    ensures fault { IfErr result (λ number. IsStoreFault number (S.last store.new) (S.faults store.old) (S.faults store.new) (S.tells store.new) (S.disk store.old) (S.disk store.new)) }
     ensures quiet { OnlyReads (S.flies store.new []) (S.sectors store.old) (S.sectors store.new) (S.depth store.old) (S.depth store.new) (S.faults store.old) (S.faults store.new) (S.tells store.old) (S.tells store.new) (S.records store.old) (S.records store.new) (S.disk store.old) (S.disk store.new) }
     ensures size { length pages.new ≡ length pages.old }
     ensures grammar { IfOk result (λ judged. OnOk judged (AreEntries shape.now shape.now.chunks pages.new)) }

@@ -2,7 +2,7 @@
 
 ghost use Rattle.std.specs.Prelude.{◌≡◌, ◌+◌, ◌^◌, ◌<◌, ◌≤◌, ◌==◌, [], length, not, IfOk, IfErr};
 ghost use Rattle.vd_device.specs.Tickets.{IsRange};
-ghost use Rattle.vd_reading.specs.Quiet.{IsReady, OnlyReads, IsFault, sectors_from};
+ghost use Rattle.vd_reading.specs.Quiet.{IsReady, OnlyReads, IsStoreFault, sectors_from};
 ghost use Rattle.vd_replay.specs.Fresh.{counts, none_counts};
 ghost use Rattle.vd_replay.specs.Looking.{IsFreePiece};
 
@@ -49,7 +49,7 @@ fn is_free_piece<S: Store>(
     requires ready { IsReady (S.flies store.old []) (S.depth store.old) (S.tells store.old) (S.disk store.old) }
     requires range { IsRange (S.sectors store.old) first (length room.old) }
     requires version { 1 ≤ version }
-    ensures fault { IfErr result (λ number. IsFault number (S.last store.new) (S.faults store.old) (S.faults store.new)) }
+    ensures fault { IfErr result (λ number. IsStoreFault number (S.last store.new) (S.faults store.old) (S.faults store.new) (S.tells store.new) (S.disk store.old) (S.disk store.new)) }
     ensures quiet { OnlyReads (S.flies store.new []) (S.sectors store.old) (S.sectors store.new) (S.depth store.old) (S.depth store.new) (S.faults store.old) (S.faults store.new) (S.tells store.old) (S.tells store.new) (S.records store.old) (S.records store.new) (S.disk store.old) (S.disk store.new) }
     ensures read { IfOk result (λ free. S.tells store.new → IsFreePiece (S.disk store.new).held first (length room.old) version generation free) }
 {
@@ -72,7 +72,7 @@ pub fn are_slots_free<S: Store>(
     requires few { count < 2 ^ 32 }
     requires near { from < 2 ^ 32 }
     requires version { 1 ≤ version }
-    ensures fault { IfErr result (λ number. IsFault number (S.last store.new) (S.faults store.old) (S.faults store.new)) }
+    ensures fault { IfErr result (λ number. IsStoreFault number (S.last store.new) (S.faults store.old) (S.faults store.new) (S.tells store.new) (S.disk store.old) (S.disk store.new)) }
     ensures quiet { OnlyReads (S.flies store.new []) (S.sectors store.old) (S.sectors store.new) (S.depth store.old) (S.depth store.new) (S.faults store.old) (S.faults store.new) (S.tells store.old) (S.tells store.new) (S.records store.old) (S.records store.new) (S.disk store.old) (S.disk store.new) }
     ensures read { IfOk result (λ free. S.tells store.new → free ≡ none_counts version generation (sectors_from (S.disk store.new).held from count)) }
 {

@@ -1,7 +1,7 @@
 //! A state: what an image says, as a disk goes on from it.
 
 ghost use Rattle.std.specs.Prelude.{◌≡◌, ◌⊎◌, ◌^◌, ◌<◌, ◌≤◌, [], false, true, length, None, Some, IfOk, IfErr, OnOk, OnErr};
-ghost use Rattle.vd_reading.specs.Quiet.{IsReady, OnlyReads, AddsFlush, IsFault};
+ghost use Rattle.vd_reading.specs.Quiet.{IsReady, OnlyReads, AddsFlush, IsStoreFault};
 ghost use Rattle.vd_format.specs.Headers.{IsValid};
 ghost use Rattle.vd_format.specs.Layouts.{chunks_of, need_of};
 ghost use Rattle.vd_image.specs.Image.{geometry_of};
@@ -87,7 +87,7 @@ fn read_entries<S: Store>(
     requires large { need_of header.now ≤ S.sectors store.old }
     requires pages { length pages.old ≡ chunks_of header.now }
     requires map { length map.old ≡ chunks_of header.now }
-    ensures fault { IfErr result (ForStore (λ number. IsFault number (S.last store.new) (S.faults store.old) (S.faults store.new))) }
+    ensures fault { IfErr result (ForStore (λ number. IsStoreFault number (S.last store.new) (S.faults store.old) (S.faults store.new) (S.tells store.new) (S.disk store.old) (S.disk store.new))) }
     ensures quiet { OnlyReads (S.flies store.new []) (S.sectors store.old) (S.sectors store.new) (S.depth store.old) (S.depth store.new) (S.faults store.old) (S.faults store.new) (S.tells store.old) (S.tells store.new) (S.records store.old) (S.records store.new) (S.disk store.old) (S.disk store.new) }
     ensures pages { length pages.new ≡ length pages.old }
     ensures map { length map.new ≡ length map.old }
@@ -176,7 +176,7 @@ impl State {
         requires sized { IsSized self.old }
         requires version { self.old.header.version ≡ 1 }
         requires large { need_of self.old.header ≤ S.sectors store.old }
-        ensures fault { IfErr result (ForStore (λ number. IsFault number (S.last store.new) (S.faults store.old) (S.faults store.new))) }
+        ensures fault { IfErr result (ForStore (λ number. IsStoreFault number (S.last store.new) (S.faults store.old) (S.faults store.new) (S.tells store.new) (S.disk store.old) (S.disk store.new))) }
         ensures quiet { OnlyReads (S.flies store.new []) (S.sectors store.old) (S.sectors store.new) (S.depth store.old) (S.depth store.new) (S.faults store.old) (S.faults store.new) (S.tells store.old) (S.tells store.new) (S.records store.old) (S.records store.new) (S.disk store.old) (S.disk store.new) }
         ensures kept { Keeps self.old self.new }
         ensures sized { IsSized self.new }
@@ -204,7 +204,7 @@ impl State {
         requires sized { IsSized self.old }
         requires version { self.old.header.version ≡ 2 }
         requires large { need_of self.old.header ≤ S.sectors store.old }
-        ensures fault { IfErr result (ForStore (λ number. IsFault number (S.last store.new) (S.faults store.old) (S.faults store.new))) }
+        ensures fault { IfErr result (ForStore (λ number. IsStoreFault number (S.last store.new) (S.faults store.old) (S.faults store.new) (S.tells store.new) (S.disk store.old) (S.disk store.new))) }
         ensures quiet { OnlyReads (S.flies store.new []) (S.sectors store.old) (S.sectors store.new) (S.depth store.old) (S.depth store.new) (S.faults store.old) (S.faults store.new) (S.tells store.old) (S.tells store.new) (S.records store.old) (S.records store.new) (S.disk store.old) (S.disk store.new) }
         ensures kept { Keeps self.old self.new }
         ensures sized { IsSized self.new }
@@ -230,7 +230,7 @@ impl State {
         requires ready { IsReady (S.flies store.old []) (S.depth store.old) (S.tells store.old) (S.disk store.old) }
         requires sized { IsSized self.old }
         requires large { need_of self.old.header ≤ S.sectors store.old }
-        ensures fault { IfErr result (ForStore (λ number. IsFault number (S.last store.new) (S.faults store.old) (S.faults store.new))) }
+        ensures fault { IfErr result (ForStore (λ number. IsStoreFault number (S.last store.new) (S.faults store.old) (S.faults store.new) (S.tells store.new) (S.disk store.old) (S.disk store.new))) }
         ensures quiet { OnlyReads (S.flies store.new []) (S.sectors store.old) (S.sectors store.new) (S.depth store.old) (S.depth store.new) (S.faults store.old) (S.faults store.new) (S.tells store.old) (S.tells store.new) (S.records store.old) (S.records store.new) (S.disk store.old) (S.disk store.new) }
         ensures kept { Keeps self.old self.new }
         ensures sized { IsSized self.new }
@@ -252,7 +252,7 @@ impl State {
         requires sized { IsSized self.old }
         requires void { self.old.void ≡ true }
         requires large { need_of self.old.header ≤ S.sectors store.old }
-        ensures fault { IfErr result (ForStore (λ number. IsFault number (S.last store.new) (S.faults store.old) (S.faults store.new))) }
+        ensures fault { IfErr result (ForStore (λ number. IsStoreFault number (S.last store.new) (S.faults store.old) (S.faults store.new) (S.tells store.new) (S.disk store.old) (S.disk store.new))) }
         ensures quiet { OnlyReads (S.flies store.new []) (S.sectors store.old) (S.sectors store.new) (S.depth store.old) (S.depth store.new) (S.faults store.old) (S.faults store.new) (S.tells store.old) (S.tells store.new) (S.records store.old) (S.records store.new) (S.disk store.old) (S.disk store.new) }
         ensures header { self.new.header ≡ self.old.header }
         ensures full { OnOk result (self.new.void ≡ false) }
@@ -270,11 +270,12 @@ impl State {
 
     /// Reads the image again, into this state: as `recover`, but for memory, which is never taken, and the version, which is that
     /// of the header before. `Changed` comes, next to `Header`, where a field that never changes is not what it was. The state
-    /// is void after an error, until it is read again with success.
+    /// is void after an error, until it is read again with success. The call of the ticket that `Store` names ended in the log
+    /// of a store that tells by a Reply that isn't Ok.
     pub fn reload<S: Store>(&mut self, store: &mut S) -> Result<(), OpenError>
         requires idle { S.flies store.old [] }
         requires sized { IsSized self.old }
-        ensures fault { IfErr result (ForStore (λ number. IsFault number (S.last store.new) (S.faults store.old) (S.faults store.new))) }
+        ensures fault { IfErr result (ForStore (λ number. IsStoreFault number (S.last store.new) (S.faults store.old) (S.faults store.new) (S.tells store.new) (S.disk store.old) (S.disk store.new))) }
         ensures quiet { OnlyReads (S.flies store.new []) (S.sectors store.old) (S.sectors store.new) (S.depth store.old) (S.depth store.new) (S.faults store.old) (S.faults store.new) (S.tells store.old) (S.tells store.new) (S.records store.old) (S.records store.new) (S.disk store.old) (S.disk store.new) }
         ensures sized { IsSized self.new }
         ensures whole { OnOk result (IsWhole self.new) }
@@ -306,11 +307,12 @@ impl State {
 /// sector is none; `TooSmall` where the layout needs more sectors than the store has; `OldVersion`. Then, in version 1,
 /// `NotBuilt` where a chunk has an entry or a record counts. In version 2, `BadEntry` for the first entry of the map outside
 /// the grammar, `BadRecord` for the first slot that counts and is, and `DoubleChunk` where two chunks have one storage when
-/// all facts are applied. `Store` comes where a call fails, and `NoMemory` may come wherever no other error does.
+/// all facts are applied. `Store` comes where a call fails, which ended in the log of a store that tells by a Reply that isn't
+/// Ok, and `NoMemory` may come wherever no other error does.
 pub fn recover<S: Store>(alloc: Global, store: &mut S, oldest: u32) -> Result<State, OpenError>
     requires idle { S.flies store.old [] }
     requires oldest { (oldest ≡ 1) ⊎ (oldest ≡ 2) }
-    ensures fault { IfErr result (ForStore (λ number. IsFault number (S.last store.new) (S.faults store.old) (S.faults store.new))) }
+    ensures fault { IfErr result (ForStore (λ number. IsStoreFault number (S.last store.new) (S.faults store.old) (S.faults store.new) (S.tells store.new) (S.disk store.old) (S.disk store.new))) }
     ensures quiet { OnlyReads (S.flies store.new []) (S.sectors store.old) (S.sectors store.new) (S.depth store.old) (S.depth store.new) (S.faults store.old) (S.faults store.new) (S.tells store.old) (S.tells store.new) (S.records store.old) (S.records store.new) (S.disk store.old) (S.disk store.new) }
     ensures sized { IfOk result IsSized }
     ensures whole { IfOk result IsWhole }

@@ -72,7 +72,7 @@ not_refused kept h held refusals.NoMemory opens same judged refused = refused
 
 -- ---- what is shown is allowed
 
-line_allowed : {told base_told : Type 0} {held base : List Sector} {SF BF : Type 0} {kept h : Header} {start : List Sector} {entries : List Entry} {line : Showing} (shows : ShownLine) → told → base_told → Opens (length held) (image_of held) h → IsOpenAgain kept base start entries held
+line_allowed : {told base_told : Type 0} {held base : List Sector} {SF : ℕ → Type 0} {BF : Type 0} {kept h : Header} {start : List Sector} {entries : List Entry} {line : Showing} (shows : ShownLine) → told → base_told → Opens (length held) (image_of held) h → IsOpenAgain kept base start entries held
     → line.first + line.count ≤ h.size → IsShownBy (told × base_told) held base h SF BF line shows → IsAllowedLine start entries shows
 line_allowed {held = held} {h = h} {start = start} {entries = entries} {line = line} shows t b opens again within (Is_read sectors size right) =
     λ i v at. again.allowed_again (line.first + i) v (let k = slice_get_within sectors i v at in let same = ap (λ (x : Header). x.size) (one_header held again.header h again.opens opens) in omega (arith, k, size, within, same))
@@ -80,7 +80,7 @@ line_allowed {held = held} {h = h} {start = start} {entries = entries} {line = l
 line_allowed shows t b opens again within (Store_failed ticket failed) = tt
 line_allowed shows t b opens again within (Base_failed ticket failed) = tt
 
-pub allowed_again : {told base_told : Type 0} {held base : List Sector} {StoreFault : ℕ → Type 0} {SF BF : Type 0} {kept : Header} {start : List Sector} {entries : List Entry} (trace : Script) (reopened : Reopened) → range_past kept.size trace ≡ None
+pub allowed_again : {told base_told : Type 0} {held base : List Sector} {StoreFault SF : ℕ → Type 0} {BF : Type 0} {kept : Header} {start : List Sector} {entries : List Entry} (trace : Script) (reopened : Reopened) → range_past kept.size trace ≡ None
     → Reopens kept trace.shows told base_told held base StoreFault SF BF reopened → told → base_told → IsOpenAgain kept base start entries held → IsAllowed start entries reopened
 allowed_again trace reopened inside (Reopening_failed ticket fault) t b again = Device_failed ticket
 allowed_again {held = held} {kept = kept} trace reopened inside (Is_refused_again e judged refused) t b again = absurd (not_refused kept again.header held e again.opens again.geometry judged (refused t))

@@ -193,8 +193,8 @@ pub run_cause : {words : List (List ℕ)} {source_told : Type 0} {bytes : List �
 run_cause outcome run (Is_unread line unread) = read_cause run unread
 run_cause outcome run (Is_unopened trace line read unopened) = open_cause run unopened
 run_cause outcome run Ran_without_memory = of_run run (λ e. cc) (λ e. absurd cc) (λ e. absurd cc)
-run_cause outcome run (Has_run trace h history closing reopened read opens is again allowed) =
-    report_cause (is_fault closing) (reopened_status reopened) (are_ok history.log.entries) run (λ failed. closing_cause is.answer is.closed is.store_caused is.base_caused (ap is_fault (sym is.closing_is) ∙ failed)) (reopened_cause _ reopened again)
+run_cause outcome run (Has_run trace h history closing reopened log read opens is behind again allowed) =
+    report_cause (is_fault closing) (reopened_status reopened) (are_ok history.log.entries) run (λ failed. closing_cause is.answer is.closed is.store_caused is.base_caused (ap is_fault (sym is.closing_is) ∙ failed)) (reopened_cause reopened (λ ticket fault. fault.0.rose) (λ ticket fault. fault.0) again)
     (reopened_not reopened 2 (λ e. cc) (λ e. cc) (λ e. cc)) (reopened_not reopened 6 (λ e. cc) (λ e. cc) (λ e. cc))
 
 cause_unwritten : {words : List (List ℕ)} {Device Source : Type 0} (status : ℕ) → HasCause words Device Source status → (unwritten status ≡ 2 → IsNoCommand words) × (IsNoCommand words → unwritten status ≡ 2) × (unwritten status ≡ 5 → Device)

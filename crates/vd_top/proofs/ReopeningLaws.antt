@@ -11,7 +11,9 @@ use Rattle.vd_law.specs.declared.entry.Sector.{Sector}
 use Rattle.vd_io.specs.Streams.{Rose}
 use Rattle.vd_format.specs.declared.header.Header.{Header}
 use Rattle.vd_format.specs.declared.header.HeaderError.TheVariants as header_errors
-use Rattle.vd_reading.specs.Quiet.{IsFault}
+use Rattle.vd_device.specs.Disks.{Disk}
+use Rattle.vd_reading.specs.Quiet.{IsFault, IsLoggedFault, IsStoreFault}
+use Rattle.vd_reading.proofs.QuietLaws.{fault_logged}
 use Rattle.vd_image.specs.Image.{geometry_of, Geometry}
 use Rattle.vd_replay.specs.Images.{image_of}
 use Rattle.vd_replay.specs.States.{IsState, Says as StateSays}
@@ -36,15 +38,15 @@ use Rattle.vd_top.proofs.ShowLaws.{disk_shown}
 -- ---- one line
 
 -- the same holds by what is known later
-pub shown_later : {told told' : Type 0} {held held' base base' : List Sector} {h : Header} {SF SF' BF BF' : Type 0} {line : Showing} (shows : ShownLine) → (told' → told) → (told' → held ≡ held') → (told' → base ≡ base') → (SF → SF') → (BF → BF')
+pub shown_later : {told told' : Type 0} {held held' base base' : List Sector} {h : Header} {SF SF' : ℕ → Type 0} {BF BF' : Type 0} {line : Showing} (shows : ShownLine) → (told' → told) → (told' → held ≡ held') → (told' → base ≡ base') → ((ticket : ℕ) → SF ticket → SF' ticket) → (BF → BF')
     → IsShownBy told held base h SF BF line shows → IsShownBy told' held' base' h SF' BF' line shows
 shown_later {held = held} {base' = base'} {h = h} {line = line} shows before same also store under (Is_read sectors size right) =
     Is_read sectors size (λ t. subst (λ (x : List Sector). ShowsDisk x base' h line.first sectors) (same t) (subst (λ (x : List Sector). ShowsDisk held x h line.first sectors) (also t) (right (before t))))
-shown_later shows before same also store under (Store_failed ticket failed) = Store_failed ticket (store failed)
+shown_later shows before same also store under (Store_failed ticket failed) = Store_failed ticket (store ticket failed)
 shown_later shows before same also store under (Base_failed ticket failed) = Base_failed ticket (under failed)
 
 -- the sectors that were read
-pub read_shows : {told : Type 0} {held held' base base' : List Sector} {SF BF : Type 0} (s : State) (first count : ℕ) (sectors : List Sector) → length sectors ≡ count → (told → held' ≡ held) → (told → base' ≡ base) → (told → StateSays held s)
+pub read_shows : {told : Type 0} {held held' base base' : List Sector} {SF : ℕ → Type 0} {BF : Type 0} (s : State) (first count : ℕ) (sectors : List Sector) → length sectors ≡ count → (told → held' ≡ held) → (told → base' ≡ base) → (told → StateSays held s)
     → (told → StateSays held' s → IsDisk held' base' s first sectors) → (line : Showing) → line.first ≡ first → line.count ≡ count → IsShownBy told held base s.header SF BF line (Sectors first sectors)
 read_shows {told = told} {held = held} {held' = held'} {base = base} {base' = base'} {SF = SF} {BF = BF} s first count sectors size same also says disk line at many =
     subst (λ (n : ℕ). IsShownBy told held base s.header SF BF line (Sectors n sectors)) at (Is_read sectors (size ∙ sym many) (λ t. subst (λ (n : ℕ). ShowsDisk held base s.header n sectors) (sym at) (right t)))
@@ -56,25 +58,25 @@ read_shows {told = told} {held = held} {held' = held'} {base = base} {base' = ba
         subst (λ (x : List Sector). ShowsDisk held x s.header first sectors) (also t) over_it
 
 -- the device that failed
-fault_by : {told : Type 0} {held base : List Sector} {h : Header} (last sf base_last bf : ℕ) {sf' bf' : ℕ} (first : ℕ) (fault : DiskFault) → ForDevice (λ number. IsFault number last sf sf') (λ number. IsFault number base_last bf bf') fault
-    → (line : Showing) → line.first ≡ first → IsShownBy told held base h (Rose sf sf') (Rose bf bf') line (Failed first (fault_line fault))
-fault_by {told = told} {held = held} {base = base} {h = h} last sf base_last bf {sf' = sf'} {bf' = bf'} first (faults.Store ticket) failed line at =
-    subst (λ (n : ℕ). IsShownBy told held base h (Rose sf sf') (Rose bf bf') line (Failed n (lines.StoreFault ticket))) at (Store_failed ticket failed.rose)
-fault_by {told = told} {held = held} {base = base} {h = h} last sf base_last bf {sf' = sf'} {bf' = bf'} first (faults.Base ticket) failed line at =
-    subst (λ (n : ℕ). IsShownBy told held base h (Rose sf sf') (Rose bf bf') line (Failed n (lines.BaseFault ticket))) at (Base_failed ticket failed.rose)
+fault_by : {told : Type 0} {held base : List Sector} {h : Header} (last sf base_last bf : ℕ) {sf' bf' : ℕ} {tells' : Type 0} {old new : Disk} (first : ℕ) (fault : DiskFault) → ForDevice (λ number. IsStoreFault number last sf sf' tells' old new) (λ number. IsFault number base_last bf bf') fault
+    → (line : Showing) → line.first ≡ first → IsShownBy told held base h (λ ticket. IsLoggedFault ticket sf sf' tells' old new) (Rose bf bf') line (Failed first (fault_line fault))
+fault_by {told = told} {held = held} {base = base} {h = h} last sf base_last bf {sf' = sf'} {bf' = bf'} {tells' = tells'} {old = old} {new = new} first (faults.Store ticket) failed line at =
+    subst (λ (n : ℕ). IsShownBy told held base h (λ ticket. IsLoggedFault ticket sf sf' tells' old new) (Rose bf bf') line (Failed n (lines.StoreFault ticket))) at (Store_failed ticket (fault_logged failed))
+fault_by {told = told} {held = held} {base = base} {h = h} last sf base_last bf {sf' = sf'} {bf' = bf'} {tells' = tells'} {old = old} {new = new} first (faults.Base ticket) failed line at =
+    subst (λ (n : ℕ). IsShownBy told held base h (λ ticket. IsLoggedFault ticket sf sf' tells' old new) (Rose bf bf') line (Failed n (lines.BaseFault ticket))) at (Base_failed ticket failed.rose)
 
-pub fault_shows : {told : Type 0} {held base : List Sector} {h : Header} (last sf base_last bf : ℕ) {sf' bf' : ℕ} (first : ℕ) (fault : DiskFault) (says : Line) → says ≡ fault_line fault
-    → ForDevice (λ number. IsFault number last sf sf') (λ number. IsFault number base_last bf bf') fault → (line : Showing) → line.first ≡ first → IsShownBy told held base h (Rose sf sf') (Rose bf bf') line (Failed first says)
-fault_shows {told = told} {held = held} {base = base} {h = h} last sf base_last bf {sf' = sf'} {bf' = bf'} first fault says is failed line at =
-    subst (λ (l : Line). IsShownBy told held base h (Rose sf sf') (Rose bf bf') line (Failed first l)) (sym is) (fault_by last sf base_last bf first fault failed line at)
+pub fault_shows : {told : Type 0} {held base : List Sector} {h : Header} (last sf base_last bf : ℕ) {sf' bf' : ℕ} {tells' : Type 0} {old new : Disk} (first : ℕ) (fault : DiskFault) (says : Line) → says ≡ fault_line fault
+    → ForDevice (λ number. IsStoreFault number last sf sf' tells' old new) (λ number. IsFault number base_last bf bf') fault → (line : Showing) → line.first ≡ first → IsShownBy told held base h (λ ticket. IsLoggedFault ticket sf sf' tells' old new) (Rose bf bf') line (Failed first says)
+fault_shows {told = told} {held = held} {base = base} {h = h} last sf base_last bf {sf' = sf'} {bf' = bf'} {tells' = tells'} {old = old} {new = new} first fault says is failed line at =
+    subst (λ (l : Line). IsShownBy told held base h (λ ticket. IsLoggedFault ticket sf sf' tells' old new) (Rose bf bf') line (Failed first l)) (sym is) (fault_by last sf base_last bf first fault failed line at)
 
 -- ---- all lines
 
-pub none_shown : {told : Type 0} {held base : List Sector} {h : Header} {SF BF : Type 0} (trace_lines : List Showing) → AreShownBy told held base h SF BF (take 0 trace_lines) []
+pub none_shown : {told : Type 0} {held base : List Sector} {h : Header} {SF : ℕ → Type 0} {BF : Type 0} (trace_lines : List Showing) → AreShownBy told held base h SF BF (take 0 trace_lines) []
 none_shown [] = record { many = refl; each = λ i line shows at none. absurd cc }
 none_shown (l ∷ trace_lines) = record { many = refl; each = λ i line shows at none. absurd cc }
 
-pub all_later : {told told' : Type 0} {held held' base base' : List Sector} {h : Header} {SF SF' BF BF' : Type 0} {trace_lines : List Showing} {shown : List ShownLine} → (told' → told) → (told' → held ≡ held') → (told' → base ≡ base') → (SF → SF') → (BF → BF')
+pub all_later : {told told' : Type 0} {held held' base base' : List Sector} {h : Header} {SF SF' : ℕ → Type 0} {BF BF' : Type 0} {trace_lines : List Showing} {shown : List ShownLine} → (told' → told) → (told' → held ≡ held') → (told' → base ≡ base') → ((ticket : ℕ) → SF ticket → SF' ticket) → (BF → BF')
     → AreShownBy told held base h SF BF trace_lines shown → AreShownBy told' held' base' h SF' BF' trace_lines shown
 all_later before same also store under all = record { many = all.many; each = λ i line shows at there. shown_later shows before same also store under (all.each i line shows at there) }
 
@@ -83,7 +85,7 @@ push_at [] x = refl
 push_at (y ∷ xs) x = push_at xs x
 
 -- one more line
-pub one_more : {told : Type 0} {held base : List Sector} {h : Header} {SF BF : Type 0} (trace_lines : List Showing) (n : ℕ) (line : Showing) (shown : List ShownLine) (shows : ShownLine) → slice_get trace_lines n ≡ Some line
+pub one_more : {told : Type 0} {held base : List Sector} {h : Header} {SF : ℕ → Type 0} {BF : Type 0} (trace_lines : List Showing) (n : ℕ) (line : Showing) (shown : List ShownLine) (shows : ShownLine) → slice_get trace_lines n ≡ Some line
     → AreShownBy told held base h SF BF (take n trace_lines) shown → IsShownBy told held base h SF BF line shows → AreShownBy told held base h SF BF (take (n + 1) trace_lines) (shown ++ shows ∷ [])
 one_more {told = told} {held = held} {base = base} {h = h} {SF = SF} {BF = BF} trace_lines n line shown shows there all here = record {
   many = length_push shown shows ∙ (let m = all.many in let a = length-take n trace_lines in let b = length-take (n + 1) trace_lines in omega (arith, inside, m, a, b));
@@ -115,7 +117,7 @@ one_more {told = told} {held = held} {base = base} {h = h} {SF = SF} {BF = BF} t
     ]
 
 -- all of them are shown
-pub all_shown : {told : Type 0} {held base : List Sector} {h : Header} {SF BF : Type 0} (trace_lines : List Showing) (n : ℕ) (shown : List ShownLine) → length trace_lines ≤ n → AreShownBy told held base h SF BF (take n trace_lines) shown
+pub all_shown : {told : Type 0} {held base : List Sector} {h : Header} {SF : ℕ → Type 0} {BF : Type 0} (trace_lines : List Showing) (n : ℕ) (shown : List ShownLine) → length trace_lines ≤ n → AreShownBy told held base h SF BF (take n trace_lines) shown
     → AreShownBy told held base h SF BF trace_lines shown
 all_shown {told = told} {held = held} {base = base} {h = h} {SF = SF} {BF = BF} trace_lines n shown most all = subst (λ (ls : List Showing). AreShownBy told held base h SF BF ls shown) (take_all n trace_lines most) all
 
@@ -132,7 +134,7 @@ text_more shown shows = sym (flat_map-append shown_text shown (shows ∷ []) ∙
 
 -- ---- the reopening
 
-refused_by : {shows : List Showing} {told base_told : Type 0} {held base : List Sector} {StoreFault : ℕ → Type 0} {SF BF : Type 0} (kept : Header) (e : OpenError) → ForStore StoreFault e → IsOfReload e → (told → RefusedAgain kept held e)
+refused_by : {shows : List Showing} {told base_told : Type 0} {held base : List Sector} {StoreFault SF : ℕ → Type 0} {BF : Type 0} (kept : Header) (e : OpenError) → ForStore StoreFault e → IsOfReload e → (told → RefusedAgain kept held e)
     → Reopens kept shows told base_told held base StoreFault SF BF (Refused (show_line e))
 refused_by kept (refusals.Store ticket) fault of_reload right = Reopening_failed ticket fault
 refused_by kept refusals.NoMemory fault of_reload right = absurd of_reload
@@ -147,7 +149,7 @@ refused_by kept (refusals.DoubleChunk a b) fault of_reload right = Is_refused_ag
 refused_by kept (refusals.Changed field) fault of_reload right = Is_refused_again (refusals.Changed field) (inl refl) right
 refused_by kept refusals.NotBuilt fault of_reload right = Is_refused_again refusals.NotBuilt (inr refl) right
 
-pub refused_again : {shows : List Showing} {told base_told : Type 0} {held base : List Sector} {StoreFault : ℕ → Type 0} {SF BF : Type 0} (kept : Header) (e : OpenError) (line : Line) → line ≡ show_line e → ForStore StoreFault e → IsOfReload e → (told → RefusedAgain kept held e)
+pub refused_again : {shows : List Showing} {told base_told : Type 0} {held base : List Sector} {StoreFault SF : ℕ → Type 0} {BF : Type 0} (kept : Header) (e : OpenError) (line : Line) → line ≡ show_line e → ForStore StoreFault e → IsOfReload e → (told → RefusedAgain kept held e)
     → Reopens kept shows told base_told held base StoreFault SF BF (Refused line)
 refused_again {shows = shows} {told = told} {base_told = base_told} {held = held} {base = base} {StoreFault = StoreFault} {SF = SF} {BF = BF} kept e line is fault of_reload right =
     subst (λ (l : Line). Reopens kept shows told base_told held base StoreFault SF BF (Refused l)) (sym is) (refused_by kept e fault of_reload right)
@@ -160,13 +162,13 @@ version_kept h kept same two = ap (λ (g : Geometry). g.version) same ∙ two
 pub says_state : (held held' : List Sector) (s : State) → s.header.version ≡ 2 → held ≡ held' → StateSays held s → IsState (length held') (image_of held') s.header s
 says_state held held' s two same says = subst (λ (x : List Sector). IsState (length x) (image_of x) s.header s) same (says.current two)
 
-pub opens_again : {shows : List Showing} {told base_told : Type 0} {held base : List Sector} {StoreFault : ℕ → Type 0} {SF BF : Type 0} (kept : Header) (s : State) (shown : List ShownLine) (local of : ℕ) → geometry_of s.header ≡ geometry_of kept
+pub opens_again : {shows : List Showing} {told base_told : Type 0} {held base : List Sector} {StoreFault SF : ℕ → Type 0} {BF : Type 0} (kept : Header) (s : State) (shown : List ShownLine) (local of : ℕ) → geometry_of s.header ≡ geometry_of kept
     → (told → IsState (length held) (image_of held) s.header s) → AreShownBy (told × base_told) held base s.header SF BF shows shown → AreLocal told held s.header local of → Reopens kept shows told base_told held base StoreFault SF BF (Opened shown local of)
 opens_again kept s shown local of same says all are = Opens_again s.header shown local of same (λ t. let state = says t in state.opens) all are
 
 -- the same of a longer work, on the same base
-pub reopens_wider : {kept kept' : Header} {shows : List Showing} {told base_told : Type 0} {held base base' : List Sector} {StoreFault StoreFault' : ℕ → Type 0} {SF SF' BF BF' : Type 0} {reopened : Reopened} → kept ≡ kept' → (base_told → base ≡ base')
-    → ((ticket : ℕ) → StoreFault ticket → StoreFault' ticket) → (SF → SF') → (BF → BF') → Reopens kept shows told base_told held base StoreFault SF BF reopened → Reopens kept' shows told base_told held base' StoreFault' SF' BF' reopened
+pub reopens_wider : {kept kept' : Header} {shows : List Showing} {told base_told : Type 0} {held base base' : List Sector} {StoreFault StoreFault' SF SF' : ℕ → Type 0} {BF BF' : Type 0} {reopened : Reopened} → kept ≡ kept' → (base_told → base ≡ base')
+    → ((ticket : ℕ) → StoreFault ticket → StoreFault' ticket) → ((ticket : ℕ) → SF ticket → SF' ticket) → (BF → BF') → Reopens kept shows told base_told held base StoreFault SF BF reopened → Reopens kept' shows told base_told held base' StoreFault' SF' BF' reopened
 reopens_wider same also fault store under (Reopening_failed ticket failed) = Reopening_failed ticket (fault ticket failed)
 reopens_wider {held = held} same also fault store under (Is_refused_again e judged right) = Is_refused_again e judged (λ t. subst (λ (h : Header). RefusedAgain h held e) same (right t))
 reopens_wider same also fault store under (Opens_again h shown local of geometry opens all are) =

@@ -45,7 +45,7 @@ use Rattle.vd_serve.specs.Driving.{IsSameDisk, with_flush}
 use Rattle.vd_report.specs.declared.line.Line.{Line}
 use Rattle.vd_top.specs.Leaving.{Leaves}
 use Rattle.vd_top.specs.Orders.{IsReadSince}
-use Rattle.vd_top.specs.Running.{IsDisk, IsRun, IsNumbered, IsReopenable, closing_line}
+use Rattle.vd_top.specs.Running.{IsDisk, IsRun, IsReopenable, closing_line}
 use Rattle.vd_top.proofs.StartLaws.{same_zeros, start_is, clean_later}
 use Rattle.vd_top.proofs.SafeLaws.{flush_reads, was_safe}
 use Rattle.vd_top.proofs.LaterLaws.{safe_later}
@@ -97,7 +97,7 @@ pub record Finishes {S B : Type 0} (told base_told : Type 0) (disk' : Disk) (cor
   pub legal : told → base_told → (start : List Sector) → IsStart core.opening content core.header start → IsLegal start history.log.entries
   pub safe : told → base_told → (start : List Sector) → IsStart core.opening content core.header start → WasSafe core.opening core.header
       → IsCrashSafe (format_of core.header) (layout_of core.header) (base_at read_zero content) read_zero disk'.start disk'.log start history
-  pub numbers : told → base_told → (start : List Sector) → IsStart core.opening content core.header start → WasSafe core.opening core.header → IsNumberedIn disk'.log history
+  pub numbers : told → IsNumberedIn disk'.log history
   pub reopens : told → base_told → (start : List Sector) → IsStart core.opening content core.header start → WasSafe core.opening core.header → (image : List Sector) → IsCrashImage disk'.start disk'.log image → IsOpenAgain core.header content start history.log.entries image
   pub left : told → IsCrashImage disk'.start disk'.log disk'.held
   pub replied : AreReplied history.log.entries
@@ -135,7 +135,7 @@ pub served_run : {S B : Type 0} {told base_told : Type 0} {disk disk' : Disk} {s
     (answer : Answer) (history : Numbered) → IsSized s → s.header.version ≡ 2 → (told → StateSays disk.held s) → (told → IsRunning events disk) → (told → IsHonest disk) → IsOpened s 2 room store base base_sectors events faults base_faults disk core
     → IsServed (script trace 1) core'.passes core'.history.log.entries → IsSameDisk core core' → Closes answer core'.history.log.entries core''.history.log.entries → IsSameDisk core' core'' → (told → core''.opening ≡ core.opening) → (base_told → content' ≡ content)
     → Finishes told base_told disk' core'' content' faults' base_faults' history → (old : Disk) → (told → IsReadSince old disk)
-    → IsRun trace s.header base_sectors told base_told old disk' content faults faults' base_faults base_faults' history (closing_line answer) × IsNumbered s.header told base_told old disk' content history × IsReopenable s.header told base_told old disk' content history
+    → IsRun trace s.header base_sectors told base_told old disk' content faults faults' base_faults base_faults' history (closing_line answer) × (told → IsNumberedIn disk'.log history) × IsReopenable s.header told base_told old disk' content history
 served_run {told = told} {base_told = base_told} {disk = disk} {disk' = disk'} {s = s} {base_sectors = base_sectors} {events = events} {faults' = faults'} {base_faults' = base_faults'} core core' core'' content content' trace answer history sized two says runs honest opened served first closed second opening same_content ends old since = (
   record {
     served = core'.history.log.entries;
@@ -157,7 +157,7 @@ served_run {told = told} {base_told = base_told} {disk = disk} {disk' = disk'} {
     full = fulls_same (shape_of s.header base_sectors) core''.shape s.map core''.entries (chunks_of s.header) (length core''.table.chunks) s.header.storage core''.table.storage history.log.entries shaped (disk_same.entries ∙ opened.entries_are)
         (disk_same.chunks ∙ ap (λ (t : Given). length t.chunks) opened.table_is ∙ sized.table) (disk_same.storage ∙ ap (λ (t : Given). t.storage) opened.table_is ∙ sized.storage) ends.full;
   },
-  λ t b clean no_later start is. ends.numbers t b start (begins t b clean start is) (safely t clean no_later),
+  ends.numbers,
   λ t b clean no_later start is.
       again_moved s.header core''.header content content' start history.log.entries disk'.held header_same (same_content b) (ends.reopens t b start (begins t b clean start is) (safely t clean no_later) disk'.held (ends.left t)),
 )
@@ -245,7 +245,7 @@ traced_on {history = history} {numbers = numbers} old new adds traced = subst (�
 
 -- A run until the store is handed out, which behind the serving is only read, and in which the opening is counted too.
 pub run_wider : {trace : Script} {h : Header} {base_sectors f0 f1 f2 f3 base_faults base_faults' base_faults'' : ℕ} {t2 t3 base_told base_told' : Type 0} {d0 d2 d3 : Disk} {base : List Sector} {history : Numbered} {closing : Line} → f0 ≤ f1 → f2 ≤ f3 → base_faults' ≤ base_faults'' → (t3 → t2) → (base_told' → base_told)
-    → (t3 → AddsNoWrite d2 d3) → IsRun trace h base_sectors t2 base_told d0 d2 base f1 f2 base_faults base_faults' history closing → IsNumbered h t2 base_told d0 d2 base history
+    → (t3 → AddsNoWrite d2 d3) → IsRun trace h base_sectors t2 base_told d0 d2 base f1 f2 base_faults base_faults' history closing → (t2 → IsNumberedIn d2.log history)
     → IsRun trace h base_sectors t3 base_told' d0 d3 base f0 f3 base_faults base_faults'' history closing
 run_wider {h = h} {d0 = d0} {d2 = d2} {d3 = d3} {base = base} {history = history} before behind base_behind told base_earlier reads_on run numbers = record {
   served = run.served;
@@ -258,7 +258,7 @@ run_wider {h = h} {d0 = d0} {d2 = d2} {d3 = d3} {base = base} {history = history
   regular = run.regular;
   legal = λ t b. run.legal (told t) (base_earlier b);
   safe = λ t b clean no_later start is.
-      safe_later (format_of h) (layout_of h) (base_at zero_sector base) zero_sector d2 d3 start history (reads_on t) (numbers (told t) (base_earlier b) clean no_later start is) (run.safe (told t) (base_earlier b) clean no_later start is);
+      safe_later (format_of h) (layout_of h) (base_at zero_sector base) zero_sector d2 d3 start history (reads_on t) (numbers (told t)) (run.safe (told t) (base_earlier b) clean no_later start is);
   store_caused = caused_wider before behind run.store_caused;
   base_caused = caused_wider (omega arith) base_behind run.base_caused;
   traced = λ t. traced_on d2 d3 (reads_on t) (run.traced (told t));

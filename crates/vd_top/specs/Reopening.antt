@@ -19,14 +19,14 @@ use Rattle.vd_report.specs.declared.line.Line.TheVariants as lines
 use Rattle.vd_top.specs.Outcomes.{ShownLine, Sectors, Failed, Reopened, Refused, Opened}
 use Rattle.vd_top.specs.Showing.{show_line, IsJudged, ShowsDisk}
 
--- What a line of the trace shows of the image with this header: the sectors of its range, or a device has failed.
-pub data IsShownBy (told : Type 0) (held base : List Sector) (h : Header) (StoreFailed BaseFailed : Type 0) (line : Showing) : ShownLine → Type 0 where
+-- What a line of the trace shows of the image with this header: the sectors of its range, or the ticket with which a device has failed.
+pub data IsShownBy (told : Type 0) (held base : List Sector) (h : Header) (StoreFailed : ℕ → Type 0) (BaseFailed : Type 0) (line : Showing) : ShownLine → Type 0 where
   Is_read : (sectors : List Sector) → length sectors ≡ line.count → (told → ShowsDisk held base h line.first sectors) → IsShownBy told held base h StoreFailed BaseFailed line (Sectors line.first sectors)
-  Store_failed : (ticket : ℕ) → StoreFailed → IsShownBy told held base h StoreFailed BaseFailed line (Failed line.first (lines.StoreFault ticket))
+  Store_failed : (ticket : ℕ) → StoreFailed ticket → IsShownBy told held base h StoreFailed BaseFailed line (Failed line.first (lines.StoreFault ticket))
   Base_failed : (ticket : ℕ) → BaseFailed → IsShownBy told held base h StoreFailed BaseFailed line (Failed line.first (lines.BaseFault ticket))
 
 -- each of these lines, in order, shows this
-pub record AreShownBy (told : Type 0) (held base : List Sector) (h : Header) (StoreFailed BaseFailed : Type 0) (trace_lines : List Showing) (shown : List ShownLine) : Type 0 where
+pub record AreShownBy (told : Type 0) (held base : List Sector) (h : Header) (StoreFailed : ℕ → Type 0) (BaseFailed : Type 0) (trace_lines : List Showing) (shown : List ShownLine) : Type 0 where
   pub many : length shown ≡ length trace_lines
   pub each : (i : ℕ) (line : Showing) (shows : ShownLine) → slice_get trace_lines i ≡ Some line → slice_get shown i ≡ Some shows → IsShownBy told held base h StoreFailed BaseFailed line shows
 
@@ -56,7 +56,7 @@ pub data IsAllowed (start : List Sector) (entries : List Entry) : Reopened → T
 
 -- How the image opens again that had the header `kept`: the store failed; or it is refused by what the store holds; or it opens by
 -- the header that it has now, and what is shown and counted is what the store holds.
-pub data Reopens (kept : Header) (trace_lines : List Showing) (told base_told : Type 0) (held base : List Sector) (StoreFault : ℕ → Type 0) (StoreFailed BaseFailed : Type 0) : Reopened → Type 0 where
+pub data Reopens (kept : Header) (trace_lines : List Showing) (told base_told : Type 0) (held base : List Sector) (StoreFault StoreFailed : ℕ → Type 0) (BaseFailed : Type 0) : Reopened → Type 0 where
   Reopening_failed : (ticket : ℕ) → StoreFault ticket → Reopens kept trace_lines told base_told held base StoreFault StoreFailed BaseFailed (Refused (lines.StoreFault ticket))
   Is_refused_again : (e : OpenError) → IsJudged e → (told → RefusedAgain kept held e) → Reopens kept trace_lines told base_told held base StoreFault StoreFailed BaseFailed (Refused (show_line e))
   Opens_again : (h : Header) (shown : List ShownLine) (local of : ℕ) → geometry_of h ≡ geometry_of kept → (told → Opens (length held) (image_of held) h)

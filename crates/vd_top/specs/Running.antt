@@ -1,5 +1,5 @@
 -- What `run` answers: one line that says why no guest was served, or the report of a history.
-use Rattle.std.specs.Prelude.{ℕ, ◌≡◌, ◌<◌, false, List, length, Option, None, Some, slice_get}
+use Rattle.std.specs.Prelude.{ℕ, ◌≡◌, ◌<◌, false, List, ◌++◌, length, Option, None, Some, slice_get}
 use Rattle.std.specs.Option.{option_or}
 use Rattle.std.specs.List.{All}
 use Rattle.std.specs.Str.Lines.{lines}
@@ -10,6 +10,7 @@ use Rattle.vd_law.specs.Entries.{Entry, call_of}
 use Rattle.vd_law.specs.Histories.{Numbered}
 use Rattle.vd_law.specs.Rules.{IsRegular, IsLegal}
 use Rattle.vd_device.specs.Disks.{Disk, IsClean}
+use Rattle.vd_reading.specs.Quiet.{EndsBadly}
 use Rattle.vd_format.specs.declared.header.Header.{Header}
 use Rattle.vd_format.specs.declared.map.Entry.{Entry as MapEntry}
 use Rattle.vd_format.specs.Headers.{IsValid}
@@ -130,10 +131,17 @@ pub record IsRun (trace : Script) (h : Header) (base_sectors : ℕ) (told base_t
   pub had_is : told → (chunk : ℕ) → chunk < chunks_of h → IsEntryOf h (image_of disk.held) had chunk
   pub full : AreFullsCaused (shape_of h base_sectors) had (chunks_of h) h.storage history.log.entries
 
--- Where a run is crash safe, its history is numbered by the log that `disk'` tells.
-abbrev pub IsNumbered : (h : Header) (told base_told : Type 0) (disk disk' : Disk) (base : List Sector) → Numbered → Type 0
-IsNumbered h told base_told disk disk' base history =
-    told → base_told → IsClean disk → HasNoLater (format_of h) (layout_of h) (image_of disk.held) h.generation → (start : List Sector) → IsDisk h disk.held base start → IsNumberedIn disk'.log history
+-- The store's log when the serving had ended and the closing was answered; what the report reads comes behind it. No entry of the
+-- history is numbered above its length, and the store faults of the history are traced in it.
+pub record IsServingLog (told : Type 0) (disk' : Disk) (history : Numbered) (log : List Entry) : Type 0 where
+  pub front : told → (more : List Entry) × (disk'.log ≡ log ++ more)
+  pub numbered : told → IsNumberedIn log history
+  pub traced : told → AreTraced log history.log.entries history.numbers
+
+-- Where the store tells in the end, the call of this ticket ended in its log by a Reply that isn't Ok, at an event numbered above the
+-- length of `log`.
+abbrev pub EndsBehind : (told : Type 0) (log : List Entry) → Disk → (ticket : ℕ) → Type 0
+EndsBehind told log disk' ticket = told → EndsBadly ticket (length log) disk'.log
 
 -- Where a run is crash safe, what the store holds that `disk'` tells opens again.
 abbrev pub IsReopenable : (h : Header) (told base_told : Type 0) (disk disk' : Disk) (base : List Sector) → Numbered → Type 0
@@ -145,7 +153,9 @@ abbrev pub IsAllowedAgain : (h : Header) (told base_told : Type 0) → Disk → 
 IsAllowedAgain h told base_told disk base history reopened =
     told → base_told → IsClean disk → HasNoLater (format_of h) (layout_of h) (image_of disk.held) h.generation → (start : List Sector) → IsDisk h disk.held base start → IsAllowed start history.log.entries reopened
 
--- What becomes of a run, with its history where a guest was served.
+-- What becomes of a run, with its history where a guest was served. Each ticket that the reopening or a line that shows sectors names
+-- as a store fault failed behind the serving: where the store tells, it ended in its log by a Reply that isn't Ok, at an event numbered
+-- above the last number of the history.
 pub data RunEnds (source_told : Type 0) (bytes : List ℕ) (SourceFailed told base_told : Type 0) (disk disk' : Disk) (base : List Sector) (base_sectors : ℕ) (StoreFault : ℕ → Type 0)
     (faults faults' base_faults base_faults' : ℕ) : Option Numbered → Outcome → Type 0 where
   Is_unread : (line : Line) → IsReadLine source_told bytes SourceFailed line
@@ -153,8 +163,9 @@ pub data RunEnds (source_told : Type 0) (bytes : List ℕ) (SourceFailed told ba
   Is_unopened : (trace : Script) (line : Line) → ReadsScript source_told bytes trace → IsOpenLine trace told disk.held StoreFault line
       → RunEnds source_told bytes SourceFailed told base_told disk disk' base base_sectors StoreFault faults faults' base_faults base_faults' None (Says line)
   Ran_without_memory : RunEnds source_told bytes SourceFailed told base_told disk disk' base base_sectors StoreFault faults faults' base_faults base_faults' None (Says lines_of.NoMemory)
-  Has_run : (trace : Script) (h : Header) (history : Numbered) (closing : Line) (reopened : Reopened) → ReadsScript source_told bytes trace → OpensFor trace told disk.held h
+  Has_run : (trace : Script) (h : Header) (history : Numbered) (closing : Line) (reopened : Reopened) (log : List Entry) → ReadsScript source_told bytes trace → OpensFor trace told disk.held h
       → IsRun trace h base_sectors told base_told disk disk' base faults faults' base_faults base_faults' history closing
-      → Reopens h trace.shows told base_told disk'.held base StoreFault (Rose faults faults') (Rose base_faults base_faults') reopened
+      → IsServingLog told disk' history log
+      → Reopens h trace.shows told base_told disk'.held base (λ ticket. StoreFault ticket × EndsBehind told log disk' ticket) (λ ticket. Rose faults faults' × EndsBehind told log disk' ticket) (Rose base_faults base_faults') reopened
       → IsAllowedAgain h told base_told disk base history reopened
       → RunEnds source_told bytes SourceFailed told base_told disk disk' base base_sectors StoreFault faults faults' base_faults base_faults' (Some history) (Reported 1 history.log.entries closing reopened)

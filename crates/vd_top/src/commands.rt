@@ -164,7 +164,8 @@ pub fn still<S: Store, B: Base, I: Source, O: Sink>(
         × Ends outcome result.status (O.faults out.old) (O.faults out.new) (O.tells out.new) (O.written out.old) (O.written out.new) }
 
     // What a run was answered: why no guest was served; or the report of a legal history, which is handed out, and of the
-    // image that it has left.
+    // image that it has left. Each ticket that the reopening or a line that shows sectors names as a store fault has a Reply
+    // in the told log that isn't Ok, behind the serving.
     ensures ran { AsksRun (map string_bytes words.now) → (outcome : Outcome)
         × RunEnds (I.tells trace.new) (I.rest trace.old) (Rose (I.faults trace.old) (I.faults trace.new)) (S.tells result.store) (B.tells result.base) (S.disk store) (S.disk result.store) (B.content base) (B.sectors base)
         (λ ticket. IsFault ticket (S.last result.store) (S.faults store) (S.faults result.store)) (S.faults store) (S.faults result.store) (B.faults base) (B.faults result.base) result.history outcome

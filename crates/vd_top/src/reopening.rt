@@ -6,7 +6,7 @@ ghost use Rattle.std.specs.List.{list_any, flat_map};
 ghost use Rattle.vd_format.specs.Headers.{IsValid};
 ghost use Rattle.vd_format.specs.Layouts.{blocks_of, need_of};
 ghost use Rattle.vd_bits.specs.Marks.{count_true};
-ghost use Rattle.vd_reading.specs.Quiet.{OnlyReads, OnlyReadsBase, IsFault};
+ghost use Rattle.vd_reading.specs.Quiet.{OnlyReads, OnlyReadsBase, IsLoggedFault, IsStoreFault};
 ghost use Rattle.vd_replay.specs.States.{IsSized, Says};
 ghost use Rattle.vd_trace.specs.Traces.{Showing};
 ghost use Rattle.vd_io.specs.Streams.{Rose};
@@ -74,7 +74,7 @@ fn put_shown<S: Store, B: Base, O: Sink>(
     ensures base { OnlyReadsBase (B.flies base.new []) (B.sectors base.old) (B.sectors base.new) (B.faults base.old) (B.faults base.new) (B.tells base.old) (B.tells base.new) (B.content base.old) (B.content base.new) }
     ensures shows { (shows : ShownLine)
         × ((line : Showing) → line.first ≡ first → line.count ≡ length room.old
-        → IsShownBy (S.tells store.new × B.tells base.new) (S.disk store.old).held (B.content base.old) state.now.header (Rose (S.faults store.old) (S.faults store.new)) (Rose (B.faults base.old) (B.faults base.new)) line shows)
+        → IsShownBy (S.tells store.new × B.tells base.new) (S.disk store.old).held (B.content base.old) state.now.header (λ ticket. IsLoggedFault ticket (S.faults store.old) (S.faults store.new) (S.tells store.new) (S.disk store.old) (S.disk store.new)) (Rose (B.faults base.old) (B.faults base.new)) line shows)
         × (result.0 ≡ has_failed shows)
         × WritesOn (shown_text shows) written result.1 (O.faults out.old) (O.faults out.new) (O.tells out.old) (O.tells out.new) (O.written out.old) (O.written out.new) }
 {
@@ -108,7 +108,7 @@ fn put_shows<S: Store, B: Base, O: Sink>(
     ensures store { OnlyReads (S.flies store.new []) (S.sectors store.old) (S.sectors store.new) (S.depth store.old) (S.depth store.new) (S.faults store.old) (S.faults store.new) (S.tells store.old) (S.tells store.new) (S.records store.old) (S.records store.new) (S.disk store.old) (S.disk store.new) }
     ensures base { OnlyReadsBase (B.flies base.new []) (B.sectors base.old) (B.sectors base.new) (B.faults base.old) (B.faults base.new) (B.tells base.old) (B.tells base.new) (B.content base.old) (B.content base.new) }
     ensures shows { (shown : List ShownLine)
-        × AreShownBy (S.tells store.new × B.tells base.new) (S.disk store.old).held (B.content base.old) state.now.header (Rose (S.faults store.old) (S.faults store.new)) (Rose (B.faults base.old) (B.faults base.new)) trace.now.shows shown
+        × AreShownBy (S.tells store.new × B.tells base.new) (S.disk store.old).held (B.content base.old) state.now.header (λ ticket. IsLoggedFault ticket (S.faults store.old) (S.faults store.new) (S.tells store.new) (S.disk store.old) (S.disk store.new)) (Rose (B.faults base.old) (B.faults base.new)) trace.now.shows shown
         × (result.0 ≡ list_any has_failed shown)
         × WritesOn (flat_map shown_text shown) written result.1 (O.faults out.old) (O.faults out.new) (O.tells out.old) (O.tells out.new) (O.written out.old) (O.written out.new) }
 {
@@ -132,7 +132,8 @@ fn put_shows<S: Store, B: Base, O: Sink>(
 }
 
 /// Opens the image again and prints how it opens, what each line of the trace shows, and how many blocks are local. It answers
-/// the status of this: 5, 3 or 0.
+/// the status of this: 5, 3 or 0. Each ticket that it names as a store fault failed in this call: where the store tells, its
+/// log has got a Reply to that call that isn't Ok.
 pub fn reopen<S: Store, B: Base, O: Sink>(
     out: &mut O,
     written: Result<(), Failed>,
@@ -151,8 +152,8 @@ pub fn reopen<S: Store, B: Base, O: Sink>(
     ensures store { OnlyReads (S.flies store.new []) (S.sectors store.old) (S.sectors store.new) (S.depth store.old) (S.depth store.new) (S.faults store.old) (S.faults store.new) (S.tells store.old) (S.tells store.new) (S.records store.old) (S.records store.new) (S.disk store.old) (S.disk store.new) }
     ensures base { OnlyReadsBase (B.flies base.new []) (B.sectors base.old) (B.sectors base.new) (B.faults base.old) (B.faults base.new) (B.tells base.old) (B.tells base.new) (B.content base.old) (B.content base.new) }
     ensures opens { (reopened : Reopened)
-        × Reopens state.old.header trace.now.shows (S.tells store.new) (B.tells base.new) (S.disk store.new).held (B.content base.old) (λ ticket. IsFault ticket (S.last store.new) (S.faults store.old) (S.faults store.new))
-        (Rose (S.faults store.old) (S.faults store.new)) (Rose (B.faults base.old) (B.faults base.new)) reopened
+        × Reopens state.old.header trace.now.shows (S.tells store.new) (B.tells base.new) (S.disk store.new).held (B.content base.old) (λ ticket. IsStoreFault ticket (S.last store.new) (S.faults store.old) (S.faults store.new) (S.tells store.new) (S.disk store.old) (S.disk store.new))
+        (λ ticket. IsLoggedFault ticket (S.faults store.old) (S.faults store.new) (S.tells store.new) (S.disk store.old) (S.disk store.new)) (Rose (B.faults base.old) (B.faults base.new)) reopened
         × (result.0 ≡ reopened_status reopened)
         × WritesOn (reopened_text reopened) written result.1 (O.faults out.old) (O.faults out.new) (O.tells out.old) (O.tells out.new) (O.written out.old) (O.written out.new) }
 {

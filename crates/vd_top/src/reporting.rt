@@ -4,7 +4,7 @@ ghost use Rattle.std.specs.Prelude.{◌≡◌, ℕ, ◌≤◌, [], Ok, None, len
 ghost use Rattle.std.specs.List.{All};
 ghost use Rattle.vd_law.specs.Entries.{entry_of};
 ghost use Rattle.vd_report.specs.Replies.{HasText, history_text, sum_text};
-ghost use Rattle.vd_reading.specs.Quiet.{OnlyReads, OnlyReadsBase, IsFault};
+ghost use Rattle.vd_reading.specs.Quiet.{OnlyReads, OnlyReadsBase, IsLoggedFault, IsStoreFault};
 ghost use Rattle.vd_io.specs.Streams.{Rose};
 ghost use Rattle.vd_replay.specs.States.{IsSized};
 ghost use Rattle.vd_top.specs.Outcomes.{Reopened, Reported};
@@ -103,7 +103,8 @@ fn run_status(closing_failed: bool, reopened: u8, ok: bool) -> u8
 }
 
 /// Prints the report of a history of one guest, whose closing flush was answered so, and answers the status. The image is
-/// opened again by its state, and each line of the trace that shows sectors is read from it.
+/// opened again by its state, and each line of the trace that shows sectors is read from it. Each ticket that this names as a
+/// store fault failed in this call: where the store tells, its log has got a Reply to that call that isn't Ok.
 pub fn report<S: Store, B: Base, O: Sink>(
     out: &mut O,
     trace: &Trace,
@@ -126,8 +127,8 @@ pub fn report<S: Store, B: Base, O: Sink>(
     ensures told_before { O.tells out.new → O.tells out.old }
     ensures calm { O.faults out.old ≤ O.faults out.new }
     ensures reported { (reopened : Reopened)
-        × Reopens state.old.header trace.now.shows (S.tells store.new) (B.tells base.new) (S.disk store.new).held (B.content base.old) (λ ticket. IsFault ticket (S.last store.new) (S.faults store.old) (S.faults store.new))
-        (Rose (S.faults store.old) (S.faults store.new)) (Rose (B.faults base.old) (B.faults base.new)) reopened
+        × Reopens state.old.header trace.now.shows (S.tells store.new) (B.tells base.new) (S.disk store.new).held (B.content base.old) (λ ticket. IsStoreFault ticket (S.last store.new) (S.faults store.old) (S.faults store.new) (S.tells store.new) (S.disk store.old) (S.disk store.new))
+        (λ ticket. IsLoggedFault ticket (S.faults store.old) (S.faults store.new) (S.tells store.new) (S.disk store.old) (S.disk store.new)) (Rose (B.faults base.old) (B.faults base.new)) reopened
         × Ends (Reported 1 history.now.log.entries (closing_line closing) reopened) result (O.faults out.old) (O.faults out.new) (O.tells out.new) (O.written out.old) (O.written out.new) }
 {
     let line = closing_line(closing);

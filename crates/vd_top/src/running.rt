@@ -5,7 +5,7 @@ ghost use Rattle.vd_device.specs.Disks.{Disk, IsHonest, IsRunning};
 ghost use Rattle.vd_device.specs.Orders.{IsInOrder};
 ghost use Rattle.vd_format.specs.Headers.{IsValid};
 ghost use Rattle.vd_format.specs.Layouts.{need_of};
-ghost use Rattle.vd_reading.specs.Quiet.{OnlyReads, OnlyReadsBase, AddsFlush, IsFault};
+ghost use Rattle.vd_reading.specs.Quiet.{OnlyReads, OnlyReadsBase, AddsFlush, IsFault, IsLoggedFault, IsStoreFault};
 ghost use Rattle.vd_replay.specs.States.{IsSized, IsWhole, Says};
 ghost use Rattle.vd_trace.specs.Scripts.{need_of as trace_need};
 ghost use Rattle.vd_serve.specs.Driving.{with_flush};
@@ -16,7 +16,8 @@ ghost use Rattle.vd_report.specs.Replies.{HasText};
 ghost use Rattle.std.specs.List.{All};
 ghost use Rattle.vd_top.specs.Ending.{Ends};
 ghost use Rattle.vd_top.specs.Leaving.{Leaves};
-ghost use Rattle.vd_top.specs.Running.{trace_line, closing_line, past, ReadsScript, IsReadLine, OpensFor, IsOpenLine, IsRun, IsNumbered, IsReopenable, RunEnds};
+ghost use Rattle.vd_top.specs.Running.{trace_line, closing_line, past, ReadsScript, IsReadLine, OpensFor, IsOpenLine, IsRun, IsReopenable, RunEnds};
+ghost use Rattle.vd_core.specs.Opening.{IsNumberedIn};
 ghost use Rattle.vd_top.specs.Orders.{IsReadSince};
 
 use crate::ending::End;
@@ -145,7 +146,7 @@ fn serve_trace<S: Store, B: Base>(
     // of a store that told `old` as it was handed in
     ensures run { IfOk result (λ served. (old : Disk) → (S.tells store → IsReadSince old (S.disk store))
         → IsRun trace.now state.header (B.sectors base) (S.tells served.store) (B.tells served.base) old (S.disk served.store) (B.content base) (S.faults store) (S.faults served.store) (B.faults base) (B.faults served.base) served.history (closing_line served.closing)
-        × IsNumbered state.header (S.tells served.store) (B.tells served.base) old (S.disk served.store) (B.content base) served.history
+        × (S.tells served.store → IsNumberedIn (S.disk served.store).log served.history)
         × IsReopenable state.header (S.tells served.store) (B.tells served.base) old (S.disk served.store) (B.content base) served.history) }
     ensures state { IfOk result (λ served. IsSized served.state × (served.state.header ≡ state.header)) }
     ensures store { IfOk result (λ served. Leaves (S.flies served.store []) (S.sectors store) (S.sectors served.store) (S.depth store) (S.depth served.store) (S.faults store) (S.faults served.store) (S.tells store) (S.tells served.store) (S.records store) (S.records served.store)) }
@@ -224,8 +225,8 @@ fn leave<S: Store, B: Base, O: Sink>(
     ensures told_before { O.tells out.new → O.tells out.old }
     ensures calm { O.faults out.old ≤ O.faults out.new }
     ensures reported { (reopened : Reopened)
-        × Reopens served.state.header trace.now.shows (S.tells result.store) (B.tells result.base) (S.disk result.store).held (B.content served.base) (λ ticket. IsFault ticket (S.last result.store) (S.faults served.store) (S.faults result.store))
-        (Rose (S.faults served.store) (S.faults result.store)) (Rose (B.faults served.base) (B.faults result.base)) reopened
+        × Reopens served.state.header trace.now.shows (S.tells result.store) (B.tells result.base) (S.disk result.store).held (B.content served.base) (λ ticket. IsStoreFault ticket (S.last result.store) (S.faults served.store) (S.faults result.store) (S.tells result.store) (S.disk served.store) (S.disk result.store))
+        (λ ticket. IsLoggedFault ticket (S.faults served.store) (S.faults result.store) (S.tells result.store) (S.disk served.store) (S.disk result.store)) (Rose (B.faults served.base) (B.faults result.base)) reopened
         × Ends (Reported 1 served.history.log.entries (closing_line served.closing) reopened) result.status (O.faults out.old) (O.faults out.new) (O.tells out.new) (O.written out.old) (O.written out.new) }
 {
     let Served {
@@ -252,7 +253,8 @@ fn leave<S: Store, B: Base, O: Sink>(
 /// sum. It answers status 5 where a device failed at the closing, the reopening or a line that shows, 3 where the reopening is
 /// refused, 0 where each reply is Ok, else 1; or, first things first, 6 or 4 for the trace, 7 for want of memory, 5 or 3 for the
 /// opening, 4 for a range past the disk, and 6 for a sink that fails where the status would be 0 or 1. After the first request
-/// nothing takes memory.
+/// nothing takes memory. Each ticket that the reopening or a line that shows names as a store fault has, where the store tells,
+/// a Reply in its log that isn't Ok, behind all that the log had when the closing was answered.
 pub fn run<S: Store, B: Base, I: Source, O: Sink>(
     alloc: Global,
     source: &mut I,

@@ -1,6 +1,5 @@
 -- What is kept says that every image at every moment is safe.
 use Rattle.std.proofs.Common.{◌≡◌, ℕ, suc, ◌<◌, ◌≤◌, inl, inr, List, [], ◌∷◌, length, take, drop, refl, sym, ◌∙◌, ap, subst, arith, Bool, Option, Some, slice_get}
-use Rattle.std.specs.List.{AllByRecursion}
 use Rattle.std.proofs.lemmas.Bool.{cases_lt}
 use Rattle.std.proofs.lemmas.List.{length-take, take-append-drop}
 use Rattle.vd_law.specs.declared.entry.Sector.{Sector}
@@ -22,8 +21,6 @@ use Rattle.vd_image.specs.Image.{Geometry}
 use Rattle.vd_image.specs.CrashImages.{base_at, IsCrashImage}
 use Rattle.vd_image.proofs.Logs.{writes_below}
 use Rattle.vd_crash.specs.CrashSafe.{IsCrashSafe}
-use Rattle.vd_crash.specs.Safe.{numbered}
-use Rattle.vd_crash.specs.Facts.{Numbered as StandsAs}
 use Rattle.vd_reading.specs.Background.{zero_sector}
 use Rattle.vd_table.specs.Tables.{Given}
 use Rattle.vd_meta.specs.Keeping.{Keeping}
@@ -32,7 +29,7 @@ use Rattle.vd_safety.proofs.Opening.{zeros-same}
 use Rattle.vd_safety.specs.Mirrors.{opening_for}
 use Rattle.vd_safety.specs.Held.{IsOpenAgain}
 use Rattle.vd_safety.proofs.Held.{held-sound}
-use Rattle.vd_safety.proofs.Words.{secured-safe, secured-numbers}
+use Rattle.vd_safety.proofs.Words.{secured-safe}
 use Rattle.vd_core.specs.Start.{opening_at, IsStart, WasSafe}
 use Rattle.vd_core.specs.Kept.{IsKept, IsRecorded, IsSafelyKept}
 use Rattle.vd_core.proofs.Securing.Carrying.{at-before}
@@ -48,12 +45,6 @@ written-early log n i a v early w =
       covers = w.covers;
     }
 
--- numbers that are numbers of entries
-each-number : (entries : List Entry) (numbers : List ℕ) (m : ℕ) → length numbers ≡ length entries → ((j n : ℕ) (e : Entry) → StandsAs (numbered entries numbers) j n e → n ≤ m) → AllByRecursion (λ (n : ℕ). n ≤ m) numbers
-each-number entries [] m many below = tt
-each-number [] (n ∷ numbers) m many below = absurd (omega (arith, many))
-each-number (e ∷ entries) (n ∷ numbers) m many below = (below 0 n e refl, each-number entries numbers m (omega (arith, many)) (λ j l f at. below (suc j) l f at))
-
 module _ {h : Header} {entries : List MapEntry} {table : Given} {fresh : List Bool} {k : Keeping} {flusher : Option ℕ} {passes : List Pass} {history : Numbered} {disk : Disk} {base : List Sector} {sectors : ℕ}
     (was : IsSafelyKept h entries table fresh k flusher passes history disk base sectors) (start : List Sector) (is : IsStart (opening_at history.opened disk) base h start) (safe : WasSafe (opening_at history.opened disk) h) where
   pub all-inside : (i a : ℕ) (v : Sector) → Writes disk.log i a v → a < length disk.start
@@ -67,13 +58,6 @@ module _ {h : Header} {entries : List MapEntry} {table : Given} {fresh : List Bo
       let secured = was.secured start is safe in
       subst (λ (z : Sector). IsCrashSafe (format_of h) (layout_of h) (base_at z base) z disk.start disk.log start history) zeros-same
       (secured-safe h entries disk.start secured.0 base start history.opened table fresh k flusher passes history disk.log secured.1 refl is.size all-inside)
-
-  -- no entry is numbered above the log's length
-  pub safely-numbered : AllByRecursion (λ (n : ℕ). n ≤ length disk.log) history.numbers
-  safely-numbered =
-      let secured = was.secured start is safe in
-      each-number history.log.entries history.numbers (length disk.log) secured.1.mirrors.many
-      (secured-numbers (opening_for h entries disk.start secured.0 base start history.opened) table fresh k flusher passes history disk.log secured.1)
 
 -- a header with these numbers
 abbrev bare : Geometry → Header

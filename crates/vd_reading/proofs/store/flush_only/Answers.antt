@@ -1,7 +1,10 @@
-use Rattle.std.proofs.Common.{length, [], ap, ◌∙◌}
+use Rattle.std.proofs.Common.{[]}
 use Rattle.vd_device.specs.Now.{flush_entries}
-use Rattle.vd_reading.proofs.QuietLaws.{only_reads, flush_idle}
+use Rattle.vd_reading.proofs.QuietLaws.{only_reads, flush_idle, flush_failed}
 use Rattle.vd_reading.proofs.store.flush_only.Goals as goal
+
+pub returns-clause-fault : goal.returns-clause-fault
+returns-clause-fault g c = flush_failed (g.S.Store.last c.flush_now.new.store) _ _ c.flush_now.result c.flush_now.ensures.fault c.flush_now.ensures.cause c.flush_now.ensures.told
 
 pub returns-clause-quiet : goal.returns-clause-quiet
 returns-clause-quiet g c =

@@ -2,8 +2,11 @@ use Rattle.std.proofs.Common.{length, [], ap, ◌∙◌}
 use Rattle.vd_device.specs.Now.{read_entries}
 use Rattle.vd_reading.specs.Quiet.{sectors_from}
 use Rattle.vd_reading.proofs.BackgroundLaws.{held_part}
-use Rattle.vd_reading.proofs.QuietLaws.{only_reads, read_idle, on_ok}
+use Rattle.vd_reading.proofs.QuietLaws.{only_reads, read_idle, on_ok, read_failed}
 use Rattle.vd_reading.proofs.store.read_only.Goals as goal
+
+pub returns-clause-fault : goal.returns-clause-fault
+returns-clause-fault g c = read_failed c.args.first (length c.args.out.now) (g.S.Store.last c.read_now.new.store) _ _ c.read_now.new.out c.read_now.result c.read_now.ensures.fault c.read_now.ensures.cause c.read_now.ensures.told
 
 pub returns-clause-quiet : goal.returns-clause-quiet
 returns-clause-quiet g c =

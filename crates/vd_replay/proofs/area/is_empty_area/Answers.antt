@@ -3,8 +3,8 @@ use Rattle.std.proofs.lemmas.Result.{err_from_is_err_and}
 use Rattle.vd_format.specs.Layouts.{sectors_of}
 use Rattle.vd_replay.specs.Fresh.{are_empty}
 use Rattle.vd_reading.specs.Quiet.{sectors_from}
-use Rattle.vd_reading.proofs.QuietLaws.{reads_nothing, reads_twice, ready_again}
-use Rattle.vd_replay.proofs.AreaLaws.{more_read, nothing_read, fault_earlier}
+use Rattle.vd_reading.proofs.QuietLaws.{reads_nothing, reads_twice, ready_again, fault_of_longer}
+use Rattle.vd_replay.proofs.AreaLaws.{more_read, nothing_read}
 use Rattle.vd_replay.proofs.area.is_empty_area.Goals as goal
 
 pub loop-done-init : goal.loop-done-init
@@ -22,7 +22,7 @@ is_empty_piece-requires-clause-range g c =
 pub returns-in_err-piece-clause-fault : goal.returns-in_err-piece-clause-fault
 returns-in_err-piece-clause-fault g c =
     let p = err_from_is_err_and c.from_residual.result c.from_residual.ensures.1 in
-    rw (p.1, p.2) (fault_earlier c.loop-done.invariant.0.calm c.in_err-piece.ensures.fault)
+    rw (p.1, p.2) (fault_of_longer c.loop-done.invariant.0 c.is_empty_piece.ensures.quiet c.in_err-piece.ensures.fault)
 
 pub returns-in_err-piece-clause-quiet : goal.returns-in_err-piece-clause-quiet
 returns-in_err-piece-clause-quiet g c = reads_twice c.loop-done.invariant.0 c.is_empty_piece.ensures.quiet

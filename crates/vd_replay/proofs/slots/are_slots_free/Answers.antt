@@ -2,8 +2,7 @@ use Rattle.std.proofs.Common.{ℕ, ◌≡◌, ap, ◌∙◌, arith, length, take
 use Rattle.std.proofs.lemmas.Result.{err_from_is_err_and}
 use Rattle.vd_replay.specs.Fresh.{none_counts}
 use Rattle.vd_reading.specs.Quiet.{sectors_from}
-use Rattle.vd_reading.proofs.QuietLaws.{reads_nothing, reads_twice, ready_again}
-use Rattle.vd_replay.proofs.AreaLaws.{fault_earlier}
+use Rattle.vd_reading.proofs.QuietLaws.{reads_nothing, reads_twice, ready_again, fault_of_longer}
 use Rattle.vd_replay.proofs.SlotLaws.{more_free, none_read}
 use Rattle.vd_replay.proofs.slots.are_slots_free.Goals as goal
 
@@ -22,7 +21,7 @@ is_free_piece-requires-clause-range g c =
 pub returns-in_err-piece-clause-fault : goal.returns-in_err-piece-clause-fault
 returns-in_err-piece-clause-fault g c =
     let p = err_from_is_err_and c.from_residual.result c.from_residual.ensures.1 in
-    rw (p.1, p.2) (fault_earlier c.loop-done.invariant.0.calm c.in_err-piece.ensures.fault)
+    rw (p.1, p.2) (fault_of_longer c.loop-done.invariant.0 c.is_free_piece.ensures.quiet c.in_err-piece.ensures.fault)
 
 pub returns-in_err-piece-clause-quiet : goal.returns-in_err-piece-clause-quiet
 returns-in_err-piece-clause-quiet g c = reads_twice c.loop-done.invariant.0 c.is_free_piece.ensures.quiet

@@ -3,7 +3,7 @@ use Rattle.std.specs.Prelude.{◌||◌}
 use Rattle.std.specs.List.{list_any, flat_map}
 use Rattle.std.proofs.lemmas.List.{length-take, length-drop, length-append}
 use Rattle.vd_io.proofs.Composing.{rose-earlier, rose-later}
-use Rattle.vd_reading.proofs.QuietLaws.{reads_nothing, reads_twice}
+use Rattle.vd_reading.proofs.QuietLaws.{reads_nothing, reads_twice, logged_of_longer, logged_before_more}
 use Rattle.vd_replay.proofs.ListLaws.{get_some}
 use Rattle.vd_replay.proofs.DiskLaws.{base_twice}
 use Rattle.vd_top.specs.Ending.{has_failed, shown_text}
@@ -47,8 +47,8 @@ loop-at-preserved g c =
       base = base_twice inv.base put.base;
       shown = inv.shown ++ shows ∷ [];
       are = one_more c.args.trace.now.shows c.loop-at.at line.0 inv.shown shows line.1
-          (all_later (λ t. (put.store.told_before t.0, put.base.told_before t.1)) (λ t. refl) (λ t. refl) (λ r. rose-later _ _ _ r put.store.calm) (λ r. rose-later _ _ _ r put.base.calm) inv.are)
-          (shown_later shows (λ t. t) (λ t. inv.store.held (put.store.told_before t.0)) (λ t. inv.base.content_same (put.base.told_before t.1)) (λ r. rose-earlier _ _ _ inv.store.calm r) (λ r. rose-earlier _ _ _ inv.base.calm r) here);
+          (all_later (λ t. (put.store.told_before t.0, put.base.told_before t.1)) (λ t. refl) (λ t. refl) (λ ticket fault. logged_before_more put.store fault) (λ r. rose-later _ _ _ r put.base.calm) inv.are)
+          (shown_later shows (λ t. t) (λ t. inv.store.held (put.store.told_before t.0)) (λ t. inv.base.content_same (put.base.told_before t.1)) (λ ticket fault. logged_of_longer inv.store put.store fault) (λ r. rose-earlier _ _ _ inv.base.calm r) here);
       failed = ap (λ (b : Bool). b || c.put_shown-fails.result.0) inv.failed ∙ ap (λ (b : Bool). list_any has_failed inv.shown || b) put.shows.2 ∙ sym (failed_more inv.shown shows);
       writes = writes_as (text_more inv.shown shows) (writes_both (flat_map shown_text inv.shown) (shown_text shows) _ _ _ inv.writes put.shows.3);
     }

@@ -2,8 +2,7 @@ use Rattle.std.proofs.Common.{◌∙◌, refl, ap, sym, arith, ℕ, Bool, ◌++�
 use Rattle.std.specs.Prelude.{if◌then◌else◌}
 use Rattle.std.specs.List.{flat_map}
 use Rattle.vd_bits.specs.Marks.{count_true}
-use Rattle.vd_io.proofs.Composing.{rose-earlier}
-use Rattle.vd_reading.proofs.QuietLaws.{reads_twice}
+use Rattle.vd_reading.proofs.QuietLaws.{reads_twice, logged_of_longer}
 use Rattle.vd_report.specs.declared.line.Line.TheVariants as lines
 use Rattle.vd_report.specs.declared.line.About.TheVariants as about
 use Rattle.vd_top.specs.Outcomes.{Refused, Opened}
@@ -38,7 +37,7 @@ returns-clause-opens g c =
     let says = λ (t : g.S.Store.tells c.put_shows-failed.new.store). says_state _ _ state two (sym (put.store.held t)) (again.says (put.store.told_before t)) in (
       Opened shown c.count_local-local.result c.from.result,
       opens_again c.args.state.now.header state shown c.count_local-local.result c.from.result again.same says
-          (all_later (λ t. t) (λ t. sym (put.store.held t.0)) (λ t. refl) (λ r. rose-earlier _ _ _ c.reload.ensures.quiet.calm r) (λ r. r) put.shows.1)
+          (all_later (λ t. t) (λ t. sym (put.store.held t.0)) (λ t. refl) (λ ticket fault. logged_of_longer c.reload.ensures.quiet put.store fault) (λ r. r) put.shows.1)
           (counts_local _ _ state c.count_local-local.result c.from.result again.whole says (c.from.ensures ∙ c.tracked_blocks-of.ensures.value) (omega (arith, c.from.ensures, c.tracked_blocks-of.ensures.inside))
           (c.count_local-local.ensures ∙ ap (λ (n : ℕ). count_true (take n state.fresh.bits)) (sym c.from.ensures))),
       elim c.if-failed.branch [

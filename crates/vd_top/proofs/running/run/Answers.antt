@@ -2,6 +2,7 @@ use Rattle.std.proofs.Common.{ℕ, ◌≤◌, List, refl, sym, subst, arith}
 use Rattle.vd_law.specs.declared.entry.Sector.{Sector}
 use Rattle.vd_safety.specs.Held.{IsOpenAgain}
 use Rattle.vd_io.proofs.Composing.{rose-earlier}
+use Rattle.vd_reading.proofs.QuietLaws.{fault_of}
 use Rattle.vd_replay.proofs.DiskLaws.{base_twice}
 use Rattle.vd_report.specs.declared.line.Line.TheVariants.{NoMemory}
 use Rattle.vd_top.specs.Outcomes.{Says, Reported}
@@ -71,13 +72,18 @@ returns-in-Ok-serve_trace-clause-ran g c =
     let base = g.B.Base.content c.args.base in
     let first = c.look.ensures in
     let run = serving.run (g.S.Store.disk c.args.store) (λ t. record { flushed = c.in-Ok-open_for.ensures.flushed t; held = opening.held t; honest = first.honest (opening.told_before t); order = first.order (opening.told_before t); size = first.size (opening.told_before t) }) in
-    let again = reopens_wider serving.state.1 (λ t. serving.base.content_same (leaving.base.told_before t)) (λ ticket fault. fault_earlier (earlier opening.calm serving.store.calm) fault)
-    (λ r. rose-earlier _ _ _ (earlier opening.calm serving.store.calm) r) (λ r. rose-earlier _ _ _ serving.base.calm r) reopened.1 in
+    let again = reopens_wider serving.state.1 (λ t. serving.base.content_same (leaving.base.told_before t)) (λ ticket fault. (fault_earlier (earlier opening.calm serving.store.calm) (fault_of fault), fault.logged))
+    (λ ticket fault. (rose-earlier _ _ _ (earlier opening.calm serving.store.calm) fault.rose, fault.logged)) (λ r. rose-earlier _ _ _ serving.base.calm r) reopened.1 in
     rw leaving.history (
       Reported 1 served.history.log.entries (closing_line served.closing) reopened.0,
-      Has_run c.in-Ok.trace header served.history (closing_line served.closing) reopened.0 c.in-Ok.ensures.read
+      Has_run c.in-Ok.trace header served.history (closing_line served.closing) reopened.0 (g.S.Store.disk served.store).log c.in-Ok.ensures.read
           (opens_told (λ t. serving.store.told_before (leaving.store.told_before t)) (λ t. refl) c.in-Ok-open_for.ensures.opened)
           (run_wider opening.calm leaving.store.calm leaving.base.calm leaving.store.told_before leaving.base.told_before (λ t. leaving.store.recorded (leaving.recorded t)) run.0 run.1)
+          (record {
+            front = λ t. (let added = leaving.store.added t in (added.more, added.log));
+            traced = λ t. run.0.traced (leaving.store.told_before t);
+            numbered = λ t. run.1 (leaving.store.told_before t);
+          })
           again
           (λ t b clean no_later start is. allowed_again c.in-Ok.trace reopened.0 c.in-Ok-open_for.ensures.opened.inside again t b
           (subst (λ (held : List Sector). IsOpenAgain header base start served.history.log.entries held) (sym (leaving.store.held t)) (run.2 (leaving.store.told_before t) (leaving.base.told_before b) clean no_later start is))),

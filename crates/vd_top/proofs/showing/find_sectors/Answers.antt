@@ -1,5 +1,6 @@
 use Rattle.std.proofs.Common.{sym}
-use Rattle.vd_reading.proofs.QuietLaws.{reads_twice}
+use Rattle.vd_reading.proofs.QuietLaws.{reads_twice, fault_of}
+use Rattle.vd_replay.proofs.FindingLaws.{for_store}
 use Rattle.vd_top.specs.Showing.{Store_failed, Base_failed}
 use Rattle.vd_top.proofs.LeavingLaws.{fault_earlier}
 use Rattle.vd_top.proofs.ShowLaws.{not_opened_line, past_it, found_it}
@@ -7,7 +8,7 @@ use Rattle.vd_top.proofs.showing.find_sectors.Goals as goal
 
 pub returns-in-Err-clause-found : goal.returns-in-Err-clause-found
 returns-in-Err-clause-found g c =
-    not_opened_line c.in-Err.refusal c.show_line.result c.show_line.ensures (λ told. c.recover.ensures.quiet.held told.0) c.in-Err.ensures.fault (λ told. c.in-Err.ensures.refused told.0)
+    not_opened_line c.in-Err.refusal c.show_line.result c.show_line.ensures (λ told. c.recover.ensures.quiet.held told.0) (for_store c.in-Err.refusal (λ ticket fault. fault_of fault) c.in-Err.ensures.fault) (λ told. c.in-Err.ensures.refused told.0)
 
 pub returns-then-is_past-clause-found : goal.returns-then-is_past-clause-found
 returns-then-is_past-clause-found g c =
@@ -27,7 +28,7 @@ returns-in-Err-Store-clause-store g c = reads_twice c.recover.ensures.quiet c.re
 
 pub returns-in-Err-Store-clause-found : goal.returns-in-Err-Store-clause-found
 returns-in-Err-Store-clause-found g c =
-    Store_failed c.in-Err-Store.ticket (fault_earlier c.recover.ensures.quiet.calm (rw c.in-Err-Store.field-0-is at c.in-Err-Store.ensures.fault))
+    Store_failed c.in-Err-Store.ticket (fault_earlier c.recover.ensures.quiet.calm (fault_of (rw c.in-Err-Store.field-0-is at c.in-Err-Store.ensures.fault)))
 
 pub returns-clause-store : goal.returns-clause-store
 returns-clause-store g c = reads_twice c.recover.ensures.quiet c.read_disk.ensures.quiet

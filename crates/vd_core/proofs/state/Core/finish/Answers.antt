@@ -1,13 +1,15 @@
-use Rattle.std.proofs.Common.{sym}
+use Rattle.std.proofs.Common.{◌≤◌, ◌≡◌, length, sym, arith}
+use Rattle.vd_law.specs.Histories.{last_number}
 use Rattle.vd_passes.proofs.Answered.{coherent-replied}
 use Rattle.vd_passes.proofs.Blaming.{blamed-caused}
 use Rattle.vd_passes.proofs.Tracing.{followed-traced}
+use Rattle.vd_core.proofs.Rooming.{rising-below}
 use Rattle.vd_core.proofs.Storing.{stored-fulls}
 use Rattle.vd_core.proofs.Keeping.Ending.{calm, base-calm}
 use Rattle.vd_core.proofs.Keeping.Telling.{told-legal}
 use Rattle.vd_core.proofs.Agreeing.{told-agrees}
 use Rattle.vd_core.proofs.Showing.{shows-could}
-use Rattle.vd_core.proofs.Securing.Words.{safely-words, safely-again, safely-numbered}
+use Rattle.vd_core.proofs.Securing.Words.{safely-words, safely-again}
 use Rattle.vd_core.proofs.state.Core.finish.Goals as goal
 
 pub returns-clause-calm : goal.returns-clause-calm
@@ -44,7 +46,13 @@ pub returns-clause-reopens : goal.returns-clause-reopens
 returns-clause-reopens g c = rw (sym c.self.view_is) (λ told base_told start is safe image left. safely-again c.self.invariant.0 c.self.invariant.4 (c.self.invariant.5 told base_told) start is safe image left)
 
 pub returns-clause-numbers : goal.returns-clause-numbers
-returns-clause-numbers g c = rw (sym c.self.view_is) (λ told base_told start is safe. record { opened = (c.self.invariant.3 told).since; below = safely-numbered (c.self.invariant.5 told base_told) start is safe })
+returns-clause-numbers g c = λ told.
+    let events = c.events-events.ensures in
+    let later = c.self.invariant.0.roomy.later in
+    record {
+      opened = (c.self.invariant.3 told).since;
+      below = rising-below _ _ _ c.log-entries.ensures.rising (let runs = events.running told in let value = events.value in omega (arith, later, runs, value));
+    }
 
 pub returns-clause-agrees : goal.returns-clause-agrees
 returns-clause-agrees g c = rw (sym c.self.view_is) (λ told base_told. told-agrees c.self.invariant.0.coherent (c.self.invariant.1 told base_told))
