@@ -11,7 +11,7 @@ ghost use Rattle.vd_law.specs.Rules.{IsRegular, IsLegal};
 ghost use Rattle.vd_passes.specs.Passes.{IsNew};
 ghost use Rattle.vd_passes.specs.Causes.{OfStore, OfBase, AreCaused};
 ghost use Rattle.vd_passes.specs.Tracing.{AreTraced};
-ghost use Rattle.vd_core.specs.Storing.{AreFullsCaused};
+ghost use Rattle.vd_core.specs.Storing.{AreFullsCaused, IsStoredBy};
 ghost use Rattle.vd_core.specs.Local.{AreLocalBy};
 ghost use Rattle.vd_device.specs.Disks.{Disk};
 ghost use Rattle.vd_image.specs.Layouts.{layout_of as places};
@@ -276,6 +276,7 @@ impl<S: Store, B: Base> Core<S, B> {
         ensures base_faults { AreCaused OfBase result.history.log.entries self.base_faults (B.faults result.base) }
         ensures traced { S.tells result.store → AreTraced (S.disk result.store).log result.history.log.entries result.history.numbers }
         ensures full { AreFullsCaused self.shape self.entries (length self.table.chunks) self.table.storage result.history.log.entries }
+        ensures stored { IsStoredBy self.shape self.entries self.table result.history.log.entries }
         ensures local { AreLocalBy self.shape self.entries self.fresh result.history.log.entries }
         ensures safe { S.tells result.store → B.tells result.base → (start : List Sector) → IsStart self.opening (B.content result.base) self.header start → WasSafe self.opening self.header
             → IsCrashSafe (format_of self.header) (places self.header) (base_at zero_sector (B.content result.base)) zero_sector (S.disk result.store).start (S.disk result.store).log start result.history }

@@ -20,7 +20,7 @@ ghost use Rattle.vd_passes.specs.Steps.{IsAt};
 ghost use Rattle.vd_law.specs.Rules.{IsRegular, IsLegal};
 ghost use Rattle.vd_passes.specs.Causes.{OfStore, OfBase, AreCaused};
 ghost use Rattle.vd_passes.specs.Tracing.{AreTraced};
-ghost use Rattle.vd_core.specs.Storing.{AreFullsCaused};
+ghost use Rattle.vd_core.specs.Storing.{AreFullsCaused, IsStoredBy};
 ghost use Rattle.vd_core.specs.Local.{AreLocalBy};
 ghost use Rattle.vd_passes.specs.declared.pass.Pass.{Pass as AnyPass};
 
@@ -110,6 +110,8 @@ impl<S: Store, B: Base> Core<S, B> {
         ensures base_faults { AreCaused OfBase self.now.history.log.entries self.now.base_faults (B.faults self.now.base) }
         ensures traced { S.tells self.now.store → AreTraced (S.disk self.now.store).log self.now.history.log.entries self.now.history.numbers }
         ensures full { AreFullsCaused self.now.shape self.now.entries (length self.now.table.chunks) self.now.table.storage self.now.history.log.entries }
+        // the chunks that have storage are those that had some and those for which writes have taken it
+        ensures stored { IsStoredBy self.now.shape self.now.entries self.now.table self.now.history.log.entries }
         ensures local { AreLocalBy self.now.shape self.now.entries self.now.fresh self.now.history.log.entries }
         ensures safe { S.tells self.now.store → B.tells self.now.base → (start : List Sector) → IsStart self.now.opening (B.content self.now.base) self.now.header start → WasSafe self.now.opening self.now.header
             → IsCrashSafe (format_of self.now.header) (layout_of self.now.header) (base_at zero_sector (B.content self.now.base)) zero_sector (S.disk self.now.store).start (S.disk self.now.store).log start self.now.history }

@@ -1,17 +1,14 @@
 -- The image that a crash safe run has left opens again, and shows what the history allows.
-use Rattle.std.proofs.Common.{ℕ, ◌≡◌, ◌+◌, ◌<◌, ◌≤◌, inl, inr, List, length, Option, Some, None, refl, ap, sym, ◌∙◌, subst, arith}
-use Rattle.std.specs.Prelude.{slice_get, Ok}
-use Rattle.std.specs.List.{Contains}
+use Rattle.std.proofs.Common.{ℕ, ◌≡◌, ◌+◌, ◌<◌, ◌≤◌, inl, inr, List, length, Some, None, refl, ap, sym, ◌∙◌, arith}
+use Rattle.std.specs.Prelude.{slice_get}
 use Rattle.std.proofs.lemmas.Bool.{eq-eqb}
 use Rattle.std.proofs.lemmas.Option.{slice_get_within}
 use Rattle.vd_law.specs.declared.entry.Sector.{Sector}
 use Rattle.vd_law.specs.Entries.{Entry, past}
-use Rattle.vd_law.specs.Contents.{may}
 use Rattle.vd_device.specs.Disks.{Disk, IsHonest}
 use Rattle.vd_device.specs.Orders.{IsInOrder}
 use Rattle.vd_format.specs.declared.header.Header.{Header}
 use Rattle.vd_image.specs.Image.{geometry_of, Geometry}
-use Rattle.vd_image.specs.CrashImages.{IsCrashImage}
 use Rattle.vd_image.specs.Openings.{Opens}
 use Rattle.vd_image.proofs.Openings.{opens_not_refused}
 use Rattle.vd_replay.specs.Headers.{first_changed}
@@ -20,20 +17,20 @@ use Rattle.vd_replay.specs.Refusals.{RefusedAgain}
 use Rattle.vd_replay.specs.declared.error.OpenError.{OpenError}
 use Rattle.vd_replay.specs.declared.error.OpenError.TheVariants as refusals
 use Rattle.vd_replay.proofs.ListLaws.{get_some}
+use Rattle.vd_core.specs.Showing.{MayHold, ShowsCould}
 use Rattle.vd_safety.specs.Held.{IsOpenAgain}
 use Rattle.vd_safety.proofs.Clean.{honest-left}
 use Rattle.vd_trace.specs.Traces.{Script, Showing}
-use Rattle.vd_top.specs.Outcomes.{ShownLine, Sectors, Failed, Reopened}
-use Rattle.vd_top.specs.Showing.{IsJudged, ShowsDisk}
-use Rattle.vd_top.specs.Reopening.{IsShownBy, Is_read, Store_failed, Base_failed, AreShownBy, IsAllowedLine, IsAllowed, Device_failed, Shows_allowed, Reopens, Reopening_failed, Is_refused_again, Opens_again}
+use Rattle.vd_top.specs.Outcomes.{ShownLine, Reopened}
+use Rattle.vd_top.specs.Showing.{IsJudged}
+use Rattle.vd_top.specs.Reopening.{IsShownBy, Is_read, Store_failed, Base_failed, IsAllowedLine, IsAllowed, Device_failed, Shows_allowed, Reopens, Reopening_failed, Is_refused_again, Opens_again}
 use Rattle.vd_top.specs.Running.{past as range_past}
 use Rattle.vd_top.proofs.RunningLaws.{line_within}
-use Rattle.vd_top.proofs.ClosingLaws.{closed_ok}
 use Rattle.vd_top.proofs.SafeLaws.{orderly_past}
 
 -- what an honest store holds whose log is in order may be left by a crash
-pub held_left : (d : Disk) → IsHonest d → IsInOrder d → length d.held ≡ length d.start → IsCrashImage d.start d.log d.held
-held_left d honest order size = record { size = size; sectors = honest-left d honest (orderly_past d.start (past d.log) order.alone order.shown) size }
+pub may_hold : (d : Disk) → IsHonest d → IsInOrder d → length d.held ≡ length d.start → MayHold d d.held
+may_hold d honest order size = record { now = honest; left = record { size = size; sectors = honest-left d honest (orderly_past d.start (past d.log) order.alone order.shown) size } }
 
 -- ---- nothing is refused
 
@@ -72,22 +69,26 @@ not_refused kept h held refusals.NoMemory opens same judged refused = refused
 
 -- ---- what is shown is allowed
 
-line_allowed : {told base_told : Type 0} {held base : List Sector} {SF : ℕ → Type 0} {BF : Type 0} {kept h : Header} {start : List Sector} {entries : List Entry} {line : Showing} (shows : ShownLine) → told → base_told → Opens (length held) (image_of held) h → IsOpenAgain kept base start entries held
-    → line.first + line.count ≤ h.size → IsShownBy (told × base_told) held base h SF BF line shows → IsAllowedLine start entries shows
-line_allowed {held = held} {h = h} {start = start} {entries = entries} {line = line} shows t b opens again within (Is_read sectors size right) =
-    λ i v at. again.allowed_again (line.first + i) v (let k = slice_get_within sectors i v at in let same = ap (λ (x : Header). x.size) (one_header held again.header h again.opens opens) in omega (arith, k, size, within, same))
-    (rw (one_header held again.header h again.opens opens) ((right (t, b)).current opens.version i v at))
-line_allowed shows t b opens again within (Store_failed ticket failed) = tt
-line_allowed shows t b opens again within (Base_failed ticket failed) = tt
+line_allowed : {told base_told closed : Type 0} {held base : List Sector} {SF : ℕ → Type 0} {BF : Type 0} {kept h : Header} {start : List Sector} {entries : List Entry} {line : Showing} (shows : ShownLine) → told → base_told → geometry_of h ≡ geometry_of kept → Opens (length held) (image_of held) h
+    → IsOpenAgain kept base start entries held → (closed → ShowsCould kept base start entries held) → line.first + line.count ≤ h.size → IsShownBy (told × base_told) held base h SF BF line shows → IsAllowedLine start entries closed shows
+line_allowed {held = held} {h = h} {start = start} {entries = entries} {line = line} shows t b geometry opens again could within (Is_read sectors size right) = λ i v at.
+    let same = one_header held again.header h again.opens opens in
+    let inside : line.first + i < h.size = (let k = slice_get_within sectors i v at in omega (arith, k, size, within)) in
+    let there = (right (t, b)).current opens.version i v at in (
+      again.allowed_again (line.first + i) v (let e = ap (λ (x : Header). x.size) same in omega (arith, inside, e)) (rw same there),
+      λ closed. (could closed).each h geometry (line.first + i) v inside there,
+    )
+line_allowed shows t b geometry opens again could within (Store_failed ticket failed) = tt
+line_allowed shows t b geometry opens again could within (Base_failed ticket failed) = tt
 
-pub allowed_again : {told base_told : Type 0} {held base : List Sector} {StoreFault SF : ℕ → Type 0} {BF : Type 0} {kept : Header} {start : List Sector} {entries : List Entry} (trace : Script) (reopened : Reopened) → range_past kept.size trace ≡ None
-    → Reopens kept trace.shows told base_told held base StoreFault SF BF reopened → told → base_told → IsOpenAgain kept base start entries held → IsAllowed start entries reopened
-allowed_again trace reopened inside (Reopening_failed ticket fault) t b again = Device_failed ticket
-allowed_again {held = held} {kept = kept} trace reopened inside (Is_refused_again e judged refused) t b again = absurd (not_refused kept again.header held e again.opens again.geometry judged (refused t))
-allowed_again {kept = kept} {start = start} {entries = entries} trace reopened inside (Opens_again h shown local of geometry opens all are) t b again = Shows_allowed shown local of each
+pub allowed_again : {told base_told closed : Type 0} {held base : List Sector} {StoreFault SF : ℕ → Type 0} {BF : Type 0} {kept : Header} {start : List Sector} {entries : List Entry} (trace : Script) (reopened : Reopened) → range_past kept.size trace ≡ None
+    → Reopens kept trace.shows told base_told held base StoreFault SF BF reopened → told → base_told → IsOpenAgain kept base start entries held → (closed → ShowsCould kept base start entries held) → IsAllowed start entries closed reopened
+allowed_again trace reopened inside (Reopening_failed ticket fault) t b again could = Device_failed ticket
+allowed_again {held = held} {kept = kept} trace reopened inside (Is_refused_again e judged refused) t b again could = absurd (not_refused kept again.header held e again.opens again.geometry judged (refused t))
+allowed_again {closed = closed} {kept = kept} {start = start} {entries = entries} trace reopened inside (Opens_again h shown local of geometry opens all are) t b again could = Shows_allowed shown local of each
   where
-    each : (i : ℕ) (line : ShownLine) → slice_get shown i ≡ Some line → IsAllowedLine start entries line
+    each : (i : ℕ) (line : ShownLine) → slice_get shown i ≡ Some line → IsAllowedLine start entries closed line
     each i line at =
         let asked = get_some trace.shows i (let k = slice_get_within shown i line at in let m = all.many in omega (arith, k, m)) in
         let within = line_within kept.size trace inside i asked.0 asked.1 in
-        line_allowed line t b (opens t) again (let same = ap (λ (g : Geometry). g.size) geometry in omega (arith, within, same)) (all.each i asked.0 line asked.1 at)
+        line_allowed line t b geometry (opens t) again could (let same = ap (λ (g : Geometry). g.size) geometry in omega (arith, within, same)) (all.each i asked.0 line asked.1 at)

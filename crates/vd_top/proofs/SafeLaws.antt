@@ -1,6 +1,6 @@
 -- A clean store whose log is in order loses nothing in a crash, once it was flushed as it was opened.
-use Rattle.std.proofs.Common.{ℕ, ◌≡◌, ◌+◌, ◌-◌, ◌<◌, ◌≤◌, ◌⊎◌, inl, inr, [], List, ◌++◌, length, Some, ap, sym, ◌∙◌, subst, arith}
-use Rattle.std.specs.Prelude.{Ok, slice_get}
+use Rattle.std.proofs.Common.{ℕ, ◌≡◌, ◌-◌, ◌<◌, inl, inr, [], List, ◌++◌, length, Some, ap, sym, ◌∙◌, subst, arith}
+use Rattle.std.specs.Prelude.{Ok}
 use Rattle.std.proofs.lemmas.Option.{slice_get_within}
 use Rattle.vd_law.specs.declared.entry.Sector.{Sector}
 use Rattle.vd_law.specs.Entries.{Entry, Ask, Issue, Done, Broke, Seen, Reply, Past, nothing, ◌▸◌, past}

@@ -39,13 +39,16 @@ use Rattle.vd_core.specs.Asking.{Suffices}
 use Rattle.vd_core.specs.Start.{Opening, opening_at, IsStart, WasSafe}
 use Rattle.vd_core.specs.Storing.{AreFullsCaused}
 use Rattle.vd_core.specs.Leaving.{LeavesStore, LeavesBase}
+use Rattle.vd_core.specs.Showing.{EndsFlushed, MayHold, ShowsCould}
 use Rattle.vd_core.specs.Opening.{shape_of, IsOpened, AreReplied, IsNumberedIn}
-use Rattle.vd_serve.specs.Serving.{IsResting, IsUnused, IsServed, Closes}
+use Rattle.vd_serve.specs.Serving.{IsUnused, IsServed, Closes}
 use Rattle.vd_serve.specs.Driving.{IsSameDisk, with_flush}
 use Rattle.vd_report.specs.declared.line.Line.{Line}
+use Rattle.vd_report.specs.declared.line.Line.TheVariants as lines
 use Rattle.vd_top.specs.Leaving.{Leaves}
 use Rattle.vd_top.specs.Orders.{IsReadSince}
 use Rattle.vd_top.specs.Running.{IsDisk, IsRun, IsReopenable, closing_line}
+use Rattle.vd_top.proofs.ClosingLaws.{closed_ok, ends_flushed}
 use Rattle.vd_top.proofs.StartLaws.{same_zeros, start_is, clean_later}
 use Rattle.vd_top.proofs.SafeLaws.{flush_reads, was_safe}
 use Rattle.vd_top.proofs.LaterLaws.{safe_later}
@@ -99,7 +102,8 @@ pub record Finishes {S B : Type 0} (told base_told : Type 0) (disk' : Disk) (cor
       → IsCrashSafe (format_of core.header) (layout_of core.header) (base_at read_zero content) read_zero disk'.start disk'.log start history
   pub numbers : told → IsNumberedIn disk'.log history
   pub reopens : told → base_told → (start : List Sector) → IsStart core.opening content core.header start → WasSafe core.opening core.header → (image : List Sector) → IsCrashImage disk'.start disk'.log image → IsOpenAgain core.header content start history.log.entries image
-  pub left : told → IsCrashImage disk'.start disk'.log disk'.held
+  pub settled : told → base_told → (start : List Sector) → IsStart core.opening content core.header start → WasSafe core.opening core.header → EndsFlushed history.log.entries → (held : List Sector) → MayHold disk' held → ShowsCould core.header content start history.log.entries held
+  pub holds : told → MayHold disk' disk'.held
   pub replied : AreReplied history.log.entries
   pub store_caused : AreCaused OfStore history.log.entries core.store_faults faults
   pub base_caused : AreCaused OfBase history.log.entries core.base_faults base_faults
@@ -129,13 +133,17 @@ again_moved : (h h' : Header) (base base' start : List Sector) (entries : List E
 again_moved h h' base base' start entries held header also again =
     subst (λ (xs : List Sector). IsOpenAgain h xs start entries held) also (subst (λ (x : Header). IsOpenAgain x base' start entries held) header again)
 
+shows_moved : (h h' : Header) (base base' start : List Sector) (entries : List Entry) (held : List Sector) → h' ≡ h → base' ≡ base → ShowsCould h' base' start entries held → ShowsCould h base start entries held
+shows_moved h h' base base' start entries held header also shows =
+    subst (λ (xs : List Sector). ShowsCould h xs start entries held) also (subst (λ (x : Header). ShowsCould x base' start entries held) header shows)
+
 -- The core as it was opened, after it has served the trace, and after its closing; and the store as it was handed in, opened, and in
 -- the end.
 pub served_run : {S B : Type 0} {told base_told : Type 0} {disk disk' : Disk} {s : State} {room : Room} {store : S} {base : B} {base_sectors events faults faults' base_faults base_faults' : ℕ} (core core' core'' : View S B) (content content' : List Sector) (trace : Script)
     (answer : Answer) (history : Numbered) → IsSized s → s.header.version ≡ 2 → (told → StateSays disk.held s) → (told → IsRunning events disk) → (told → IsHonest disk) → IsOpened s 2 room store base base_sectors events faults base_faults disk core
     → IsServed (script trace 1) core'.passes core'.history.log.entries → IsSameDisk core core' → Closes answer core'.history.log.entries core''.history.log.entries → IsSameDisk core' core'' → (told → core''.opening ≡ core.opening) → (base_told → content' ≡ content)
     → Finishes told base_told disk' core'' content' faults' base_faults' history → (old : Disk) → (told → IsReadSince old disk)
-    → IsRun trace s.header base_sectors told base_told old disk' content faults faults' base_faults base_faults' history (closing_line answer) × (told → IsNumberedIn disk'.log history) × IsReopenable s.header told base_told old disk' content history
+    → IsRun trace s.header base_sectors told base_told old disk' content faults faults' base_faults base_faults' history (closing_line answer) × (told → IsNumberedIn disk'.log history) × IsReopenable s.header told base_told old disk' content history (closing_line answer)
 served_run {told = told} {base_told = base_told} {disk = disk} {disk' = disk'} {s = s} {base_sectors = base_sectors} {events = events} {faults' = faults'} {base_faults' = base_faults'} core core' core'' content content' trace answer history sized two says runs honest opened served first closed second opening same_content ends old since = (
   record {
     served = core'.history.log.entries;
@@ -159,7 +167,11 @@ served_run {told = told} {base_told = base_told} {disk = disk} {disk' = disk'} {
   },
   ends.numbers,
   λ t b clean no_later start is.
-      again_moved s.header core''.header content content' start history.log.entries disk'.held header_same (same_content b) (ends.reopens t b start (begins t b clean start is) (safely t clean no_later) disk'.held (ends.left t)),
+      let from = begins t b clean start is in
+      let safely_from = safely t clean no_later in (
+        again_moved s.header core''.header content content' start history.log.entries disk'.held header_same (same_content b) (ends.reopens t b start from safely_from disk'.held (ends.holds t).left),
+        λ said. shows_moved s.header core''.header content content' start history.log.entries disk'.held header_same (same_content b) (ends.settled t b start from safely_from (flushed_ok said) disk'.held (ends.holds t)),
+      ),
 )
   where
     disk_same : IsSameDisk core core''
@@ -167,6 +179,11 @@ served_run {told = told} {base_told = base_told} {disk = disk} {disk' = disk'} {
 
     shaped : core''.shape ≡ shape_of s.header base_sectors
     shaped = disk_same.shape ∙ opened.shape_is
+
+    flushed_ok : closing_line answer ≡ lines.Ok → EndsFlushed history.log.entries
+    flushed_ok said =
+        let closed_so = subst (λ (n : Numbered). Closes answer core'.history.log.entries n.log.entries) (sym ends.history_is) closed in
+        ends_flushed answer (closed_ok answer ends.regular closed_so said) closed_so
 
     header_same : core''.header ≡ s.header
     header_same = disk_same.header ∙ opened.header_is

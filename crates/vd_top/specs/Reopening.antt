@@ -4,7 +4,7 @@ use Rattle.std.specs.Int.{div_ceil}
 use Rattle.std.specs.List.{Contains}
 use Rattle.vd_law.specs.declared.entry.Sector.{Sector}
 use Rattle.vd_law.specs.Entries.{Entry}
-use Rattle.vd_law.specs.Contents.{may}
+use Rattle.vd_law.specs.Contents.{could, may}
 use Rattle.vd_format.specs.declared.header.Header.{Header}
 use Rattle.vd_bits.specs.Marks.{count_true}
 use Rattle.vd_image.specs.Image.{geometry_of, IsLocal}
@@ -43,16 +43,16 @@ pub record AreLocal (told : Type 0) (held : List Sector) (h : Header) (local of 
   pub local_is : local ≡ count_true are
   pub each : told → (b : ℕ) (is : Bool) → slice_get are b ≡ Some is → (is ≡ true) ↔ IsLocalIn held h b
 
--- each sector that a line shows is one that the history allows
-abbrev pub IsAllowedLine : (start : List Sector) → List Entry → ShownLine → Type 0
-IsAllowedLine start entries (Sectors first sectors) = (i : ℕ) (v : Sector) → slice_get sectors i ≡ Some v → Contains (may start entries (first + i)) v
-IsAllowedLine start entries (Failed first line) = Unit {0}
+-- Each sector that a line shows is one that the history allows and, behind a closing that succeeded, one that could stand there.
+abbrev pub IsAllowedLine : (start : List Sector) → List Entry → (closed : Type 0) → ShownLine → Type 0
+IsAllowedLine start entries closed (Sectors first sectors) = (i : ℕ) (v : Sector) → slice_get sectors i ≡ Some v → Contains (may start entries (first + i)) v × (closed → Contains (could start entries (first + i)) v)
+IsAllowedLine start entries closed (Failed first line) = Unit {0}
 
 -- The image that a run has left is refused for nothing that it holds, only where the store failed, and what is shown of it is what
 -- the history of the run allows.
-pub data IsAllowed (start : List Sector) (entries : List Entry) : Reopened → Type 0 where
-  Device_failed : (ticket : ℕ) → IsAllowed start entries (Refused (lines.StoreFault ticket))
-  Shows_allowed : (shown : List ShownLine) (local of : ℕ) → ((i : ℕ) (line : ShownLine) → slice_get shown i ≡ Some line → IsAllowedLine start entries line) → IsAllowed start entries (Opened shown local of)
+pub data IsAllowed (start : List Sector) (entries : List Entry) (closed : Type 0) : Reopened → Type 0 where
+  Device_failed : (ticket : ℕ) → IsAllowed start entries closed (Refused (lines.StoreFault ticket))
+  Shows_allowed : (shown : List ShownLine) (local of : ℕ) → ((i : ℕ) (line : ShownLine) → slice_get shown i ≡ Some line → IsAllowedLine start entries closed line) → IsAllowed start entries closed (Opened shown local of)
 
 -- How the image opens again that had the header `kept`: the store failed; or it is refused by what the store holds; or it opens by
 -- the header that it has now, and what is shown and counted is what the store holds.

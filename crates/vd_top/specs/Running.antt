@@ -39,6 +39,7 @@ use Rattle.vd_passes.specs.Causes.{OfStore, OfBase, AreCaused}
 use Rattle.vd_passes.specs.Tracing.{AreTraced}
 use Rattle.vd_core.specs.Opening.{shape_of, AreReplied, IsNumberedIn}
 use Rattle.vd_core.specs.Storing.{AreFullsCaused}
+use Rattle.vd_core.specs.Showing.{ShowsCould}
 use Rattle.vd_serve.specs.Serving.{requests_in, Closes}
 use Rattle.vd_report.specs.declared.line.Line.{Line}
 use Rattle.vd_report.specs.declared.line.Line.TheVariants as lines_of
@@ -143,15 +144,17 @@ pub record IsServingLog (told : Type 0) (disk' : Disk) (history : Numbered) (log
 abbrev pub EndsBehind : (told : Type 0) (log : List Entry) → Disk → (ticket : ℕ) → Type 0
 EndsBehind told log disk' ticket = told → EndsBadly ticket (length log) disk'.log
 
--- Where a run is crash safe, what the store holds that `disk'` tells opens again.
-abbrev pub IsReopenable : (h : Header) (told base_told : Type 0) (disk disk' : Disk) (base : List Sector) → Numbered → Type 0
-IsReopenable h told base_told disk disk' base history =
-    told → base_told → IsClean disk → HasNoLater (format_of h) (layout_of h) (image_of disk.held) h.generation → (start : List Sector) → IsDisk h disk.held base start → IsOpenAgain h base start history.log.entries disk'.held
+-- Where a run is crash safe, what the store holds that `disk'` tells opens again; and behind a closing that succeeded its disk has what
+-- could stand there by the history.
+abbrev pub IsReopenable : (h : Header) (told base_told : Type 0) (disk disk' : Disk) (base : List Sector) → Numbered → (closing : Line) → Type 0
+IsReopenable h told base_told disk disk' base history closing =
+    told → base_told → IsClean disk → HasNoLater (format_of h) (layout_of h) (image_of disk.held) h.generation → (start : List Sector) → IsDisk h disk.held base start
+    → IsOpenAgain h base start history.log.entries disk'.held × (closing ≡ lines_of.Ok → ShowsCould h base start history.log.entries disk'.held)
 
 -- Where a run is crash safe, the image that it leaves is refused for nothing, and what is shown of it is allowed.
-abbrev pub IsAllowedAgain : (h : Header) (told base_told : Type 0) → Disk → (base : List Sector) → Numbered → Reopened → Type 0
-IsAllowedAgain h told base_told disk base history reopened =
-    told → base_told → IsClean disk → HasNoLater (format_of h) (layout_of h) (image_of disk.held) h.generation → (start : List Sector) → IsDisk h disk.held base start → IsAllowed start history.log.entries reopened
+abbrev pub IsAllowedAgain : (h : Header) (told base_told : Type 0) → Disk → (base : List Sector) → Numbered → (closing : Line) → Reopened → Type 0
+IsAllowedAgain h told base_told disk base history closing reopened =
+    told → base_told → IsClean disk → HasNoLater (format_of h) (layout_of h) (image_of disk.held) h.generation → (start : List Sector) → IsDisk h disk.held base start → IsAllowed start history.log.entries (closing ≡ lines_of.Ok) reopened
 
 -- What becomes of a run, with its history where a guest was served. Each ticket that the reopening or a line that shows sectors names
 -- as a store fault failed behind the serving: where the store tells, it ended in its log by a Reply that isn't Ok, at an event numbered
@@ -167,5 +170,5 @@ pub data RunEnds (source_told : Type 0) (bytes : List ℕ) (SourceFailed told ba
       → IsRun trace h base_sectors told base_told disk disk' base faults faults' base_faults base_faults' history closing
       → IsServingLog told disk' history log
       → Reopens h trace.shows told base_told disk'.held base (λ ticket. StoreFault ticket × EndsBehind told log disk' ticket) (λ ticket. Rose faults faults' × EndsBehind told log disk' ticket) (Rose base_faults base_faults') reopened
-      → IsAllowedAgain h told base_told disk base history reopened
+      → IsAllowedAgain h told base_told disk base history closing reopened
       → RunEnds source_told bytes SourceFailed told base_told disk disk' base base_sectors StoreFault faults faults' base_faults base_faults' (Some history) (Reported 1 history.log.entries closing reopened)

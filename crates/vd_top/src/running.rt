@@ -147,7 +147,7 @@ fn serve_trace<S: Store, B: Base>(
     ensures run { IfOk result (λ served. (old : Disk) → (S.tells store → IsReadSince old (S.disk store))
         → IsRun trace.now state.header (B.sectors base) (S.tells served.store) (B.tells served.base) old (S.disk served.store) (B.content base) (S.faults store) (S.faults served.store) (B.faults base) (B.faults served.base) served.history (closing_line served.closing)
         × (S.tells served.store → IsNumberedIn (S.disk served.store).log served.history)
-        × IsReopenable state.header (S.tells served.store) (B.tells served.base) old (S.disk served.store) (B.content base) served.history) }
+        × IsReopenable state.header (S.tells served.store) (B.tells served.base) old (S.disk served.store) (B.content base) served.history (closing_line served.closing)) }
     ensures state { IfOk result (λ served. IsSized served.state × (served.state.header ≡ state.header)) }
     ensures store { IfOk result (λ served. Leaves (S.flies served.store []) (S.sectors store) (S.sectors served.store) (S.depth store) (S.depth served.store) (S.faults store) (S.faults served.store) (S.tells store) (S.tells served.store) (S.records store) (S.records served.store)) }
     ensures base { IfOk result (λ served. OnlyReadsBase (B.flies served.base []) (B.sectors base) (B.sectors served.base) (B.faults base) (B.faults served.base) (B.tells base) (B.tells served.base) (B.content base) (B.content served.base)) }

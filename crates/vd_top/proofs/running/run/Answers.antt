@@ -1,5 +1,6 @@
 use Rattle.std.proofs.Common.{ℕ, ◌≤◌, List, refl, sym, subst, arith}
 use Rattle.vd_law.specs.declared.entry.Sector.{Sector}
+use Rattle.vd_core.specs.Showing.{ShowsCould}
 use Rattle.vd_safety.specs.Held.{IsOpenAgain}
 use Rattle.vd_io.proofs.Composing.{rose-earlier}
 use Rattle.vd_reading.proofs.QuietLaws.{fault_of}
@@ -85,7 +86,11 @@ returns-in-Ok-serve_trace-clause-ran g c =
             numbered = λ t. run.1 (leaving.store.told_before t);
           })
           again
-          (λ t b clean no_later start is. allowed_again c.in-Ok.trace reopened.0 c.in-Ok-open_for.ensures.opened.inside again t b
-          (subst (λ (held : List Sector). IsOpenAgain header base start served.history.log.entries held) (sym (leaving.store.held t)) (run.2 (leaving.store.told_before t) (leaving.base.told_before b) clean no_later start is))),
+          (λ t b clean no_later start is.
+          let reopens = run.2 (leaving.store.told_before t) (leaving.base.told_before b) clean no_later start is in
+          let same = sym (leaving.store.held t) in
+          allowed_again c.in-Ok.trace reopened.0 c.in-Ok-open_for.ensures.opened.inside again t b
+          (subst (λ (held : List Sector). IsOpenAgain header base start served.history.log.entries held) same reopens.0)
+          (λ said. subst (λ (held : List Sector). ShowsCould header base start served.history.log.entries held) same (reopens.1 said))),
       reopened.2,
     )

@@ -1,7 +1,7 @@
 use Rattle.std.proofs.Common.{◌≡◌, ◌∙◌, ap}
 use Rattle.vd_top.proofs.RunningLaws.{script_served}
 use Rattle.vd_top.proofs.ServedLaws.{opened_unused, opened_size, served_run}
-use Rattle.vd_top.proofs.AgainLaws.{held_left}
+use Rattle.vd_top.proofs.AgainLaws.{may_hold}
 use Rattle.vd_top.proofs.running.serve_trace.Goals as goal
 
 pub serve-requires-clause-unused : goal.serve-requires-clause-unused
@@ -28,5 +28,5 @@ returns-in-Ok-clause-run g c =
     (λ t. c.requires.says (told t)) (λ t. c.look.ensures.running (told t)) (λ t. c.look.ensures.honest (told t)) opened serving.served serving.disk closing.closed closing.disk
     (λ t. closing.opening (closed_told t) ∙ serving.opening (served_told t))
     (λ t. ap (λ p. g.B.Base.content p.inner) f.base ∙ closing.base.content_same (closed_base t) ∙ serving.base.content_same (closing.base.told_before (closed_base t)) ∙ ap g.B.Base.content base_same)
-    (record { history_is = f.history; regular = f.regular; legal = f.legal; safe = f.safe; numbers = f.numbers; reopens = f.reopens; left = λ t. held_left (g.S.Store.disk c.finish-store.result.store.inner) (last.honest t) (last.order t) (last.size t); replied = f.replied; store_caused = f.store_faults; base_caused = f.base_faults; traced = f.traced; full = f.full })
+    (record { history_is = f.history; regular = f.regular; legal = f.legal; safe = f.safe; numbers = f.numbers; reopens = f.reopens; settled = f.settled; holds = λ t. may_hold (g.S.Store.disk c.finish-store.result.store.inner) (last.honest t) (last.order t) (last.size t); replied = f.replied; store_caused = f.store_faults; base_caused = f.base_faults; traced = f.traced; full = f.full })
     old (λ t. since (told t)))

@@ -60,3 +60,6 @@ returns-clause-agrees g c = rw (sym c.self.view_is) (λ told base_told. told-agr
 pub returns-clause-settled : goal.returns-clause-settled
 returns-clause-settled g c = rw (sym c.self.view_is) (λ told base_told start is safe ends held may.
     shows-could c.self.invariant.0 (c.self.invariant.1 told base_told) c.self.invariant.2.local c.self.invariant.4 (c.self.invariant.5 told base_told) start is safe ends held may)
+
+pub returns-clause-stored : goal.returns-clause-stored
+returns-clause-stored g c = rw (sym c.self.view_is) c.self.invariant.2.stored

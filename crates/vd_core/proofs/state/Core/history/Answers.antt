@@ -29,3 +29,6 @@ returns-clause-agrees g c = rw (sym c.self.view_is) (λ told base_told. told-agr
 
 pub returns-clause-apart : goal.returns-clause-apart
 returns-clause-apart g c = rw (sym c.self.view_is) c.self.invariant.0.coherent.placed
+
+pub returns-clause-stored : goal.returns-clause-stored
+returns-clause-stored g c = rw (sym c.self.view_is) c.self.invariant.2.stored
