@@ -1,0 +1,33 @@
+use Rattle.std.proofs.Common.{◌≡◌, List, length, sym, ◌∙◌, ap, subst, arith, length-append, length-set}
+use Rattle.std.specs.Prelude.{replicate}
+use Rattle.std.proofs.lemmas.List.Elements.{All-set, All-get_or}
+use Rattle.vd_law.specs.declared.entry.Sector.{Sector}
+use Rattle.vd_law.specs.declared.sharing.Stretch.{Stretch}
+use Rattle.vd_law.specs.StoredEntries.{content_at, IsRun, IsShared}
+use Rattle.vd_law.proofs.Copies.{shared-append, kept-run, kept-copies}
+use Rattle.vd_law.proofs.sharing.share_copies.Goals as goal
+
+pub front_of-found-requires-clause-run : goal.front_of-found-requires-clause-run
+front_of-found-requires-clause-run c =
+    let runs = c.requires.shared.runs in let low = c.run_place-place.ensures in
+    subst (λ (zs : List Sector). IsRun zs c.index.result.now) (sym c.as_slice.ensures.value)
+    (subst (IsRun c.args.sectors.now.items) (sym c.index.ensures)
+    (All-get_or (IsRun c.args.sectors.now.items) c.args.shared.now.runs.items c.run_place-place.result c.index.result.now (omega (arith, runs, low)) c.requires.shared.each_run))
+
+pub returns-clause-content : goal.returns-clause-content
+returns-clause-content c =
+    let kept = c.keep-run.ensures in let most = c.if-count-gt-RUN.false in
+    ap (λ (zs : List Sector). content_at zs (record { start = c.keep-run.result.start; count = c.args.count })) kept.sectors
+    ∙ kept-copies c.args.sectors.now.items c.args.first.now 64 c.args.count c.keep-run.result kept.place (omega (arith, most))
+
+pub returns-clause-shared : goal.returns-clause-shared
+returns-clause-shared c =
+    let kept = c.keep-run.ensures in let copies : List Sector = replicate 64 c.args.first.now in
+    let is = subst (λ (zs : List Sector). IsShared zs c.args.shared.now) (sym kept.sectors) (shared-append c.args.sectors.now.items copies c.args.shared.now c.requires.shared) in record {
+      next = is.next;
+      places = is.places;
+      each_place = is.each_place;
+      runs = length-set _ _ _ ∙ is.runs;
+      each_run = All-set (IsRun c.keep-run.new.sectors.items) c.args.shared.now.runs.items c.run_place-place.result c.keep-run.result
+          (subst (λ (zs : List Sector). IsRun zs c.keep-run.result) (sym kept.sectors) (kept-run c.args.sectors.now.items c.args.first.now 64 c.keep-run.result kept.place kept.count)) is.each_run;
+    }
