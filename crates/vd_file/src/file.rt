@@ -1,6 +1,6 @@
 //! A file of sectors.
 
-ghost use Rattle.std.specs.Prelude.{◌≡◌, ◌≤◌, ◌<◌, ◌^◌, length, vec_len, OnErr, IfOk, Some};
+ghost use Rattle.std.specs.Prelude.{◌≡◌, ◌≤◌, ◌<◌, ◌^◌, length, vec_capacity, OnErr, IfOk, Some};
 
 use crate::bytes::arrays_of;
 use std::fs::{File, OpenOptions};
@@ -23,14 +23,14 @@ pub enum NotOpened {
 }
 
 /// An open file of sectors. What is read is gathered in the room before it is given, so that a read that fails midway
-/// gives nothing.
+/// gives nothing. The room's memory is taken when the file is opened, and touched as far as reads need it.
 #[derive(Drop)]
 pub struct SectorFile {
     file: File,
     sectors: u64,
     room: Vec<[u8; 512]>,
     ghost few: { sectors < 2 ^ 55 },
-    ghost enough: { vec_len room ≡ 2048 },
+    ghost enough: { 2048 ≤ vec_capacity room },
 }
 
 impl SectorFile {
@@ -81,7 +81,7 @@ impl SectorFile {
     }
 
     fn over(file: File, room: Vec<[u8; 512]>) -> Result<SectorFile, NotOpened>
-        requires { vec_len room ≡ 2048 }
+        requires { 2048 ≤ vec_capacity room }
     {
         let length = file.metadata().map_err(|_| NotOpened::NoFile)?.len();
         Ok(SectorFile {
@@ -103,6 +103,7 @@ impl SectorFile {
         ensures unread { OnErr result (out.new ≡ out.old) }
         ensures sectors { self.new.sectors ≡ self.old.sectors }
     {
+        grow(&mut self.room, out.len());
         gather(&self.file, first * SECTOR, self.room.as_mut_slice(), out)
     }
 
@@ -119,9 +120,20 @@ impl SectorFile {
 }
 
 fn room_in<R: AllocGlobal>(rt: &R) -> Result<Vec<[u8; 512]>, NotOpened>
-    ensures { IfOk result (λ v. vec_len v ≡ 2048) }
+    ensures { IfOk result (λ v. 2048 ≤ vec_capacity v) }
 {
-    Vec::from_elem(rt.alloc(), [0; 512], MOST).map_err(|_| NotOpened::NoMemory)
+    Vec::with_capacity(rt.alloc(), MOST).map_err(|_| NotOpened::NoMemory)
+}
+
+/// Lets the room have so many sectors at least, for which it has the memory.
+fn grow(room: &mut Vec<[u8; 512]>, count: usize)
+    requires { count ≤ vec_capacity room.old }
+    ensures many { count ≤ length room.new.items }
+    ensures room { vec_capacity room.old ≤ vec_capacity room.new }
+{
+    for _ in room.len()..count {
+        let _ = room.push([0; 512]);
+    }
 }
 
 fn gather(file: &File, at: u64, room: &mut [[u8; 512]], out: &mut [Sector]) -> io::Result<()>
