@@ -15,8 +15,8 @@ use Rattle.vd_trace.specs.declared.kept.Shown.{Shown}
 use Rattle.vd_trace.specs.declared.kept.Stored.{Stored}
 use Rattle.vd_trace.specs.declared.kept.Stored.TheVariants.{Read, Fill, Put, Flush}
 use Rattle.vd_trace.specs.Traces.{Asking, asked_of, requests_of}
-use Rattle.vd_trace.specs.Scripts.{end_of, is_flush, asks_past, shows_past}
-use Rattle.vd_trace.specs.Keeping.{work_of, asking_of, showing_of, end_in, flushes_in, positions, lists, HasItems}
+use Rattle.vd_trace.specs.Scripts.{end_of, asks_past, shows_past}
+use Rattle.vd_trace.specs.Keeping.{work_of, asking_of, showing_of, end_in, positions, lists, HasItems}
 
 -- a guest has as many places as requests
 own-length : (sectors : List Sector) (guest from : ℕ) (items : List Item) (item : Item) (own : Bool) → length (positions guest (from + 1) items) ≡ length (requests_of guest (map (asking_of sectors) items)) →
@@ -115,23 +115,6 @@ pub lines-past : (shows : List Shown) (size : ℕ) → shows_past size (map show
 lines-past shows size =
     ap (option_map (λ s. s.number)) (find-viewed showing_of (λ s. nat_lt size (s.first + s.count)) (λ s. nat_lt size (s.first + s.count)) shows (λ s. refl))
     ∙ number_of-viewed showing_of (λ s. s.number) (λ s. s.number) (find (λ s. nat_lt size (s.first + s.count)) shows) (λ s. refl)
-
-is_flush-work_of : (sectors : List Sector) (work : Stored) → is_flush (work_of sectors work) ≡ flushes_in work
-is_flush-work_of sectors (Read f c) = refl
-is_flush-work_of sectors (Fill f c b) = refl
-is_flush-work_of sectors (Put f place) = refl
-is_flush-work_of sectors Flush = refl
-
--- the first line that flushes, and the first that shows
-pub items-flushed : (sectors : List Sector) (items : List Item) → option_map (λ a. a.number) (find (λ a. is_flush a.work) (map (asking_of sectors) items)) ≡ option_map (λ i. i.number) (find (λ i. flushes_in i.work) items)
-items-flushed sectors items =
-    ap (option_map (λ a. a.number)) (find-viewed (asking_of sectors) (λ i. flushes_in i.work) (λ a. is_flush a.work) items (λ i. is_flush-work_of sectors i.work))
-    ∙ number_of-viewed (asking_of sectors) (λ a. a.number) (λ i. i.number) (find (λ i. flushes_in i.work) items) (λ i. refl)
-
-pub lines-shown : (shows : List Shown) → option_map (λ s. s.number) (find (λ s. true) (map showing_of shows)) ≡ option_map (λ s. s.number) (find (λ s. true) shows)
-lines-shown shows =
-    ap (option_map (λ s. s.number)) (find-viewed showing_of (λ s. true) (λ s. true) shows (λ s. refl))
-    ∙ number_of-viewed showing_of (λ s. s.number) (λ s. s.number) (find (λ s. true) shows) (λ s. refl)
 
 -- what is handed out
 

@@ -44,13 +44,6 @@ end_in (Fill first count byte) = first + count
 end_in (Put first place) = first + 1
 end_in Flush = 0
 
--- whether it flushes
-abbrev pub flushes_in : Stored → Bool
-flushes_in (Read first count) = false
-flushes_in (Fill first count byte) = false
-flushes_in (Put first place) = false
-flushes_in Flush = true
-
 -- the events and sectors that it adds at most
 abbrev pub events_in : (block : ℕ) → Item → ℕ
 events_in block item = events_of block (work_of [] item.work)

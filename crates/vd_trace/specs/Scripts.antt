@@ -42,17 +42,6 @@ asks_past size asks = option_map (λ a. a.number) (find (λ a. nat_lt size (end_
 abbrev pub shows_past : ℕ → List Showing → Option ℕ
 shows_past size shows = option_map (λ s. s.number) (find (λ s. nat_lt size (s.first + s.count)) shows)
 
--- whether it flushes
-abbrev pub is_flush : Work → Bool
-is_flush (Read first count) = false
-is_flush (Fill first count byte) = false
-is_flush (Put first sector) = false
-is_flush Flush = true
-
--- the number of the first line that flushes, or that shows sectors
-abbrev pub unserved : Script → Option ℕ
-unserved trace = option_or (option_map (λ a. a.number) (find (λ a. is_flush a.work) trace.asks)) (option_map (λ s. s.number) (find (λ s. true) trace.shows))
-
 -- a request as the disk is asked, with the content that was handed out for it
 abbrev pub request_of : Asked → List Sector → law.Asked
 request_of (asked.Read first count) content = law.Read first count

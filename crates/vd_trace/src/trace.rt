@@ -6,9 +6,9 @@ ghost use Rattle.vd_io.specs.Streams.{Rose, Writes};
 ghost use Rattle.vd_trace.specs.declared.line.Line.{Line};
 ghost use Rattle.vd_trace.specs.declared.error.TraceError.TheVariants.{Source as SourceFault};
 ghost use Rattle.vd_trace.specs.Traces.{SpellsTrace, Showing, script, asked_of};
-ghost use Rattle.vd_trace.specs.Scripts.{ReadsTrace, Accepts, request_of, HasRange, handed, asks_past, shows_past, unserved, need_of};
+ghost use Rattle.vd_trace.specs.Scripts.{ReadsTrace, Accepts, request_of, HasRange, handed, asks_past, shows_past, need_of};
 ghost use Rattle.vd_trace.specs.Texts.{trace_text, ReadsBack, IsRange, IsRequest};
-ghost use Rattle.vd_trace.specs.Keeping.{work_of, sectors_in, end_in, flushes_in, IsStored};
+ghost use Rattle.vd_trace.specs.Keeping.{work_of, sectors_in, end_in, IsStored};
 
 use crate::error::TraceError;
 use crate::kept::{Draft, Item, Shown, Stored, empty_draft};
@@ -118,21 +118,6 @@ fn items_past(items: &[Item], size: u64) -> Option<u64>
         .map(|item| u64::from(item.number))
 }
 
-fn first_flush(items: &[Item]) -> Option<u64>
-    ensures { result ≡ option_map (λ i. i.number) (find (λ i. flushes_in i.work) items.now) }
-{
-    items
-        .iter()
-        .find(|item| matches!(item.work, Stored::Flush))
-        .map(|item| u64::from(item.number))
-}
-
-fn first_shown(shows: &[Shown]) -> Option<u64>
-    ensures { result ≡ option_map (λ s. s.number) (find (λ s. true) shows.now) }
-{
-    shows.first().map(|shown| u64::from(shown.number))
-}
-
 fn lines_past(shows: &[Shown], size: u64) -> Option<u64>
     ensures { result ≡ option_map (λ s. s.number) (find (λ s. nat_lt size (s.first + s.count)) shows.now) }
 {
@@ -215,13 +200,6 @@ impl Trace {
         ensures { result ≡ option_or (asks_past size self.now.asks) (shows_past size self.now.shows) }
     {
         items_past(self.items.as_slice(), size).or(lines_past(self.shows.as_slice(), size))
-    }
-
-    /// The number of the first line that flushes, or that shows sectors, if one does.
-    pub fn unserved(&self) -> Option<u64>
-        ensures { result ≡ unserved self.now }
-    {
-        first_flush(self.items.as_slice()).or(first_shown(self.shows.as_slice()))
     }
 
     /// How many lines show sectors.
