@@ -87,29 +87,27 @@ fn flush<S: Store, B: Base>(core: &mut Core<Patient<S>, Patient<B>>, pass: u32) 
     }
 }
 
-/// Serves a request, whose content stands at the front of `content`.
+/// Serves a request: a write of what stands at the front of `sectors`, or a read into their front.
 fn serve_one<S: Store, B: Base>(
     core: &mut Core<Patient<S>, Patient<B>>,
     asked: Asked,
-    content: &[Sector],
-    out: &mut [Sector],
+    sectors: &mut [Sector],
 )
     requires range { HasRange asked }
-    requires servable { IsServable (core.old.shape.block * core.old.shape.blocks) (request_of asked content.now) }
+    requires servable { IsServable (core.old.shape.block * core.old.shape.blocks) (request_of asked sectors.old) }
     requires resting { IsResting core.old.passes core.old.flusher }
-    requires room { Suffices (pass_need_of core.old.shape.block (request_of asked content.now)) core.old.spare }
-    requires content { length content.now ≡ 2048 }
-    requires out { length out.old ≡ 2048 }
+    requires room { Suffices (pass_need_of core.old.shape.block (request_of asked sectors.old)) core.old.spare }
+    requires sectors { length sectors.old ≡ 2048 }
     ensures resting { IsResting core.new.passes core.new.flusher }
-    ensures serves { Serves (request_of asked content.now) core.old.shape.block core.old.history.log.entries core.new.history.log.entries core.old.spare core.new.spare }
+    ensures serves { Serves (request_of asked sectors.old) core.old.shape.block core.old.history.log.entries core.new.history.log.entries core.old.spare core.new.spare }
     ensures disk { IsSameDisk core.old core.new }
     ensures opening { S.tells core.new.store.inner → core.new.opening ≡ core.old.opening }
     ensures store { KeepsStore S.sectors S.depth S.events S.faults S.tells S.records core.old.store.inner core.new.store.inner }
     ensures base { KeepsBase B.sectors B.depth B.faults B.tells B.content core.old.base.inner core.new.base.inner }
 {
     match asked {
-        Asked::Read { first, count } => serve_read(core, first, &mut out[..count as usize]),
-        Asked::Write { first, count } => serve_write(core, first, &content[..count as usize]),
+        Asked::Read { first, count } => serve_read(core, first, &mut sectors[..count as usize]),
+        Asked::Write { first, count } => serve_write(core, first, &sectors[..count as usize]),
         Asked::Flush => {
             flush(core, 1);
         }
@@ -117,17 +115,15 @@ fn serve_one<S: Store, B: Base>(
 }
 
 /// Serves the requests of a trace's one guest in order, each to its reply, by pass 1 of a core with two passes that have
-/// asked nothing. It always returns, and leaves room for one flush more. `content` and `out` have room for the 2,048 sectors of a
-/// request.
+/// asked nothing. It always returns, and leaves room for one flush more. `sectors` has room for the 2,048 sectors of a request, which
+/// writes them or reads them.
 pub fn serve<S: Store, B: Base>(
     core: &mut Core<Patient<S>, Patient<B>>,
     trace: &Trace,
-    content: &mut [Sector],
-    out: &mut [Sector],
+    sectors: &mut [Sector],
 )
     requires unused { IsUnused core.old.passes core.old.flusher core.old.history.log.entries }
-    requires content { length content.old ≡ 2048 }
-    requires out { length out.old ≡ 2048 }
+    requires sectors { length sectors.old ≡ 2048 }
     requires servable { All (IsServable (core.old.shape.block * core.old.shape.blocks)) (script trace.now 1) }
     requires room { Suffices (with_flush (need_of core.old.shape.block trace.now.asks)) core.old.spare }
     ensures served { IsServed (script trace.now 1) core.new.passes core.new.history.log.entries }
@@ -139,8 +135,8 @@ pub fn serve<S: Store, B: Base>(
     ensures base { KeepsBase B.sectors B.depth B.faults B.tells B.content core.old.base.inner core.new.base.inner }
 {
     for at in 0..trace.count(1) {
-        let asked = trace.request(1, at, content);
-        serve_one(core, asked, content, out);
+        let asked = trace.request(1, at, sectors);
+        serve_one(core, asked, sectors);
     }
     // All entries are of pass 1, since it has asked all calls of a regular history.
     let _ = core.history();

@@ -128,8 +128,7 @@ fn serve_trace<S: Store, B: Base>(
     alloc: Global,
     trace: &Trace,
     state: State,
-    content: &mut [Sector],
-    seen: &mut [Sector],
+    sectors: &mut [Sector],
     store: S,
     base: B,
 ) -> Result<Served<S, B>, Unopened<S, B>>
@@ -141,8 +140,7 @@ fn serve_trace<S: Store, B: Base>(
     requires says { S.tells store → Says (S.disk store).held state }
     requires large { need_of state.header ≤ S.sectors store }
     requires guests { trace.now.guests ≡ 1 }
-    requires content { length content.old ≡ MOST }
-    requires seen { length seen.old ≡ MOST }
+    requires sectors { length sectors.old ≡ MOST }
     // of a store that told `old` as it was handed in
     ensures run { IfOk result (λ served. (old : Disk) → (S.tells store → IsReadSince old (S.disk store))
         → IsRun trace.now state.header (B.sectors base) (S.tells served.store) (B.tells served.base) old (S.disk served.store) (B.content base) (S.faults store) (S.faults served.store) (B.faults base) (B.faults served.base) served.history (closing_line served.closing)
@@ -152,7 +150,7 @@ fn serve_trace<S: Store, B: Base>(
     ensures store { IfOk result (λ served. Leaves (S.flies served.store []) (S.sectors store) (S.sectors served.store) (S.depth store) (S.depth served.store) (S.faults store) (S.faults served.store) (S.tells store) (S.tells served.store) (S.records store) (S.records served.store)) }
     ensures base { IfOk result (λ served. OnlyReadsBase (B.flies served.base []) (B.sectors base) (B.sectors served.base) (B.faults base) (B.faults served.base) (B.tells base) (B.tells served.base) (B.content base) (B.content served.base)) }
     ensures back { IfErr result (λ refused. (refused.store ≡ store) × (refused.base ≡ base)) }
-    ensures seen { length seen.new ≡ MOST }
+    ensures sectors { length sectors.new ≡ MOST }
 {
     look(&store);
     let room = room_for(trace, state.header.block);
@@ -170,7 +168,7 @@ fn serve_trace<S: Store, B: Base>(
         }),
         Ok(core) => {
             let mut core = core;
-            serve(&mut core, trace, content, seen);
+            serve(&mut core, trace, sectors);
             // Behind the last request, so that whatever was answered is among what the flush makes durable.
             let closing = close(&mut core);
             let Closed {
@@ -281,10 +279,7 @@ pub fn run<S: Store, B: Base, I: Source, O: Sink>(
         Ok(trace) => trace,
         Err(line) => return unserved(say(out, line), store, base),
     };
-    let Ok(mut content) = vec![in alloc; Sector::filled(0); MOST as usize] else {
-        return unserved(say(out, Line::NoMemory), store, base);
-    };
-    let Ok(mut seen) = vec![in alloc; Sector::filled(0); MOST as usize] else {
+    let Ok(mut sectors) = vec![in alloc; Sector::filled(0); MOST as usize] else {
         return unserved(say(out, Line::NoMemory), store, base);
     };
     let state = match open_for(alloc, &mut store, &trace) {
@@ -295,12 +290,11 @@ pub fn run<S: Store, B: Base, I: Source, O: Sink>(
         alloc,
         &trace,
         state,
-        content.as_mut_slice(),
-        seen.as_mut_slice(),
+        sectors.as_mut_slice(),
         store,
         base,
     ) {
-        Ok(served) => leave(out, &trace, served, seen.as_mut_slice()),
+        Ok(served) => leave(out, &trace, served, sectors.as_mut_slice()),
         Err(Unopened { store, base }) => unserved(say(out, Line::NoMemory), store, base),
     }
 }

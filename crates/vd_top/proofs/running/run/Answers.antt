@@ -24,9 +24,6 @@ returns-in-Err-clause-ran g c = rw c.unserved.ensures (Says c.in-Err.line, Is_un
 pub returns-in_default-clause-ran : goal.returns-in_default-clause-ran
 returns-in_default-clause-ran g c = rw c.unserved-in_default.ensures (Says NoMemory, Ran_without_memory, c.say-in_default.ensures.ends)
 
-pub returns-in_default-vec-clause-ran : goal.returns-in_default-vec-clause-ran
-returns-in_default-vec-clause-ran g c = rw c.unserved-in_default-vec.ensures (Says NoMemory, Ran_without_memory, c.say-in_default-vec.ensures.ends)
-
 pub returns-in-Err-open_for-clause-ran : goal.returns-in-Err-open_for-clause-ran
 returns-in-Err-open_for-clause-ran g c =
     rw c.unserved-in-Err-open_for.ensures (Says c.in-Err-open_for.line, Is_unopened c.in-Ok.trace c.in-Err-open_for.line c.in-Ok.ensures.read c.in-Err-open_for.ensures.refused, c.say-in-Err-open_for.ensures.ends)
