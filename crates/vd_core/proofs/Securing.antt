@@ -6,4 +6,5 @@ pub mod Flushing
 pub mod Issuing
 pub mod Looking
 pub mod Opening
+pub mod Stopping
 pub mod Words

@@ -4,9 +4,9 @@ use Rattle.std.specs.List.{sum_by}
 use Rattle.vd_law.specs.declared.entry.Sector.{Sector}
 use Rattle.vd_law.specs.declared.entry.Room.{Room}
 use Rattle.vd_law.specs.Entries.{Entry}
-use Rattle.vd_law.specs.Histories.{Numbered, last_number}
+use Rattle.vd_law.specs.Histories.{Numbered, IsRising, last_number}
 use Rattle.vd_device.specs.declared.ticket.Ticket.{Ticket}
-use Rattle.vd_device.specs.Disks.{Disk}
+use Rattle.vd_device.specs.Disks.{Disk, HasStopped}
 use Rattle.vd_regions.specs.declared.regions.Region.{Region}
 use Rattle.vd_format.specs.declared.header.Header.{Header}
 use Rattle.vd_format.specs.declared.map.Entry.{Entry as MapEntry}
@@ -15,9 +15,13 @@ use Rattle.vd_replay.specs.declared.state.State.{State}
 use Rattle.vd_replay.specs.States.{IsSized}
 use Rattle.vd_image.specs.Log.{Writes}
 use Rattle.vd_image.specs.Image.{geometry_of}
+use Rattle.vd_image.specs.Layouts.{layout_of}
+use Rattle.vd_image.specs.Decoders.{format_of}
+use Rattle.vd_image.specs.CrashImages.{base_at}
+use Rattle.vd_crash.specs.CrashSafe.{IsCrashSafe}
 use Rattle.vd_meta.specs.Keeping.{Keeping}
 use Rattle.vd_metadata.specs.Attending.{IsAttended}
-use Rattle.vd_reading.specs.Background.{background}
+use Rattle.vd_reading.specs.Background.{background, zero_sector}
 use Rattle.vd_passes.specs.declared.shape.Shape.{Shape}
 use Rattle.vd_passes.specs.declared.pass.Pass.{Pass}
 use Rattle.vd_passes.specs.Places.{place_of}
@@ -93,3 +97,16 @@ pub record IsSafelyKept (h : Header) (entries : List MapEntry) (table : Given) (
   pub inside : (i a : ℕ) (v : Sector) → history.opened ≤ i → Writes disk.log i a v → a < sectors
   pub secured : (start : List Sector) → IsStart (opening_at history.opened disk) base h start → WasSafe (opening_at history.opened disk) h
       → (held : ℕ → Sector) × IsSecured (opening_for h entries disk.start held base start history.opened) table fresh k flusher passes history disk.log
+
+-- The history is crash safe from this disk of the guest, by the store's log as it stands. Its numbers rise, so that no later entry
+-- speaks of an earlier moment.
+pub record IsStillSafe (h : Header) (base start : List Sector) (disk : Disk) (history : Numbered) : Type 0 where
+  pub each : length history.numbers ≡ length history.log.entries
+  pub rising : IsRising history.opened history.numbers
+  pub crash_safe : IsCrashSafe (format_of h) (layout_of h) (base_at zero_sector base) zero_sector disk.start disk.log start history
+
+-- What is kept where the store has stopped and the base tells: by the log as it stood at the stop the history is crash safe from
+-- whatever the guest's disk was when the core was made, if all was safe then.
+pub record IsSafelyStopped (h : Header) (history : Numbered) (events : ℕ) (disk : Disk) (base : List Sector) : Type 0 where
+  pub stopped : HasStopped events disk
+  pub safe : (start : List Sector) → IsStart (opening_at history.opened disk) base h start → WasSafe (opening_at history.opened disk) h → IsStillSafe h base start disk history

@@ -4,7 +4,7 @@ ghost use Rattle.std.specs.Prelude.{◌≡◌, ◌⊎◌, ◌+◌, ◌-◌, ◌*
 ghost use Rattle.vd_device.specs.declared.ticket.Kind.TheVariants.{Write};
 ghost use Rattle.vd_device.specs.declared.settled.Settled.{Settled as AnySettled};
 ghost use Rattle.vd_device.specs.Calls.{IsCalm, IsCaused, next_number};
-ghost use Rattle.vd_device.specs.Disks.{IsRunning};
+ghost use Rattle.vd_device.specs.Disks.{IsRunning, TellsOrStood};
 ghost use Rattle.vd_passes.specs.declared.pass.Phase.TheVariants.{Held, Filled};
 ghost use Rattle.vd_passes.specs.Causes.{OfStore, IsNumbered};
 ghost use Rattle.vd_passes.specs.Steps.{IsAt, CanWrite, IsWaiting, Issues, WriteSettled};
@@ -32,6 +32,7 @@ fn submit_piece<S: Store>(store: &mut S, shape: &Shape, p: &mut Pass, part: &[Se
     ensures submits { Submits shape.now p.old p.new part.now result (S.flies store.old) (S.flies store.new) (S.tells store.old) (S.tells store.new) (S.disk store.old) (S.disk store.new) (S.last store.old) (S.last store.new) }
     ensures number { result.number ≡ next_number (S.last store.old) }
     ensures recorded_before { S.records store.new → S.records store.old }
+    ensures stopped { S.records store.new → TellsOrStood (S.tells store.new) (S.events store.new) (S.disk store.old) (S.disk store.new) }
     ensures calm { IsCalm (S.faults store.old) (S.faults store.new) (S.late store.old) (S.late store.new) }
     ensures stays { Stays (S.sectors store.old) (S.sectors store.new) (S.depth store.old) (S.depth store.new) (S.events store.old) (S.events store.new) }
 {
@@ -63,6 +64,7 @@ pub(crate) fn issue_piece<S: Store>(
     ensures number { IsAt passes.new.items pass (IsNumbered OfStore (S.last store.old) (S.last store.new)) }
     ensures running { S.tells store.old → IsRunning (S.events store.old) (S.disk store.old) }
     ensures recorded_before { S.records store.new → S.records store.old }
+    ensures stopped { S.records store.new → TellsOrStood (S.tells store.new) (S.events store.new) (S.disk store.old) (S.disk store.new) }
     ensures calm { IsCalm (S.faults store.old) (S.faults store.new) (S.late store.old) (S.late store.new) }
     ensures stays { Stays (S.sectors store.old) (S.sectors store.new) (S.depth store.old) (S.depth store.new) (S.events store.old) (S.events store.new) }
 {
@@ -101,6 +103,7 @@ pub(crate) fn settle_write<S: Store>(
     ensures chunk { fresh.new.chunk ≡ fresh.old.chunk }
     ensures running { S.tells store.new → (history.new ≡ history.old) ⊎ IsRunning (S.events store.new) (S.disk store.new) }
     ensures recorded_before { S.records store.new → S.records store.old }
+    ensures stopped { S.records store.new → TellsOrStood (S.tells store.new) (S.events store.new) (S.disk store.old) (S.disk store.new) }
     ensures stays { Stays (S.sectors store.old) (S.sectors store.new) (S.depth store.old) (S.depth store.new) (S.events store.old) (S.events store.new) }
 {
     let p = &mut passes[pass];

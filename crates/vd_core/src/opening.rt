@@ -278,7 +278,8 @@ impl<S: Store, B: Base> Core<S, B> {
         ensures full { AreFullsCaused self.shape self.entries (length self.table.chunks) self.table.storage result.history.log.entries }
         ensures stored { IsStoredBy self.shape self.entries self.table result.history.log.entries }
         ensures local { AreLocalBy self.shape self.entries self.fresh result.history.log.entries }
-        ensures safe { S.tells result.store → B.tells result.base → (start : List Sector) → IsStart self.opening (B.content result.base) self.header start → WasSafe self.opening self.header
+        // by the store's log as it stands, also where the store has stopped
+        ensures safe { S.records result.store → B.tells result.base → (start : List Sector) → IsStart self.opening (B.content result.base) self.header start → WasSafe self.opening self.header
             → IsCrashSafe (format_of self.header) (places self.header) (base_at zero_sector (B.content result.base)) zero_sector (S.disk result.store).start (S.disk result.store).log start result.history }
         ensures reopens { S.tells result.store → B.tells result.base → (start : List Sector) → IsStart self.opening (B.content result.base) self.header start → WasSafe self.opening self.header
             → (image : List Sector) → IsCrashImage (S.disk result.store).start (S.disk result.store).log image → IsOpenAgain self.header (B.content result.base) start result.history.log.entries image }

@@ -60,8 +60,9 @@ impl<S: Store, B: Base> Model for Core<S, B> {
 
     ghost Value = { View S B };
 
+    ghost use Rattle.std.specs.Prelude.{◌⊎◌};
     ghost use Rattle.vd_core.specs.Start.{opening_at};
-    ghost use Rattle.vd_core.specs.Kept.{IsKept, IsTold, IsLogged, IsAccounted, IsRecorded, IsSafelyKept};
+    ghost use Rattle.vd_core.specs.Kept.{IsKept, IsTold, IsLogged, IsAccounted, IsRecorded, IsSafelyKept, IsSafelyStopped};
 
     ghost view = { λ c. record {
       store = c.store;
@@ -87,7 +88,8 @@ impl<S: Store, B: Base> Model for Core<S, B> {
         × IsAccounted c.shape c.state.map c.state.table c.state.fresh.bits c.passes.items c.history.log.entries (S.last c.store) c.store_faults (S.faults c.store) (B.last c.base) c.base_faults (B.faults c.base)
         × (S.tells c.store → IsLogged c.passes.items c.history (S.disk c.store))
         × IsRecorded c.shape c.state c.passes.items c.flusher c.keeper
-        × (S.tells c.store → B.tells c.base → IsSafelyKept c.state.header c.state.map c.state.table c.state.fresh.bits c.keeper c.flusher c.passes.items c.history (S.disk c.store) (B.content c.base) (S.sectors c.store)) };
+        × (S.tells c.store → B.tells c.base → IsSafelyKept c.state.header c.state.map c.state.table c.state.fresh.bits c.keeper c.flusher c.passes.items c.history (S.disk c.store) (B.content c.base) (S.sectors c.store))
+        × (S.records c.store → B.tells c.base → S.tells c.store ⊎ IsSafelyStopped c.state.header c.history (S.events c.store) (S.disk c.store) (B.content c.base)) };
 }
 
 impl<S: Store, B: Base> Core<S, B> {
@@ -113,7 +115,8 @@ impl<S: Store, B: Base> Core<S, B> {
         // the chunks that have storage are those that had some and those for which writes have taken it
         ensures stored { IsStoredBy self.now.shape self.now.entries self.now.table self.now.history.log.entries }
         ensures local { AreLocalBy self.now.shape self.now.entries self.now.fresh self.now.history.log.entries }
-        ensures safe { S.tells self.now.store → B.tells self.now.base → (start : List Sector) → IsStart self.now.opening (B.content self.now.base) self.now.header start → WasSafe self.now.opening self.now.header
+        // by the store's log as it stands, also where the store has stopped
+        ensures safe { S.records self.now.store → B.tells self.now.base → (start : List Sector) → IsStart self.now.opening (B.content self.now.base) self.now.header start → WasSafe self.now.opening self.now.header
             → IsCrashSafe (format_of self.now.header) (layout_of self.now.header) (base_at zero_sector (B.content self.now.base)) zero_sector (S.disk self.now.store).start (S.disk self.now.store).log start self.now.history }
         ensures agrees { S.tells self.now.store → B.tells self.now.base → (start : List Sector) → IsStart self.now.opening (B.content self.now.base) self.now.header start
             → AgreesWith self.now.shape self.now.table self.now.fresh start (B.content self.now.base) self.now.history.log.entries (S.disk self.now.store) }

@@ -1,2 +1,3 @@
 pub mod Flights
 pub mod Logs
+pub mod Stopping

@@ -6,14 +6,14 @@ use Rattle.std.proofs.lemmas.Option.{slice_get_past}
 use Rattle.std.proofs.lemmas.Bool.Decides.{leb_tells}
 use Rattle.vd_law.specs.declared.entry.Sector.{Sector}
 use Rattle.vd_law.specs.declared.entry.CallId.{CallId}
-use Rattle.vd_law.specs.Entries.{Entry, Ask, Read as Asks_read, Issue, Done, Broke, Seen, Reply, past}
+use Rattle.vd_law.specs.Entries.{Entry, Ask, Read as Asks_read, Flush as Asks_flush, Issue, Done, Broke, Seen, Reply, past}
 use Rattle.vd_law.specs.Contents.{open_writes, opened, sector_in, written}
 use Rattle.vd_law.proofs.Appending.{after-push}
 use Rattle.vd_law.specs.declared.entry.Answer.TheVariants.{StoreFault}
 use Rattle.vd_device.specs.declared.ticket.Ticket.{Ticket}
-use Rattle.vd_device.specs.declared.ticket.Kind.TheVariants.{Read, Write}
+use Rattle.vd_device.specs.declared.ticket.Kind.TheVariants.{Read, Write, Flush}
 use Rattle.vd_device.specs.Tickets.{IsTicket}
-use Rattle.vd_device.specs.Calls.{asked_read, issued, done_entry, failed_entry}
+use Rattle.vd_device.specs.Calls.{asked_read, asked_flush, issued, done_entry, failed_entry}
 use Rattle.vd_device.specs.Disks.{Disk, IsCalmAt, IsRunning, HasStopped, Records, RecordsSome, GrowsBy}
 use Rattle.vd_device.specs.Now.{call_number, WritesBy}
 
@@ -84,6 +84,12 @@ written_is ticket number first count out n t = rw t.kind_is cc
 
 pub broke_is : (ticket : Ticket) (number first count : ℕ) → number ≡ ticket.number → IsTicket ticket Write first count → failed_entry ticket.kind ticket ≡ Broke (call_number number)
 broke_is ticket number first count n t = rw t.kind_is cc
+
+pub flush_is : (ticket : Ticket) (number : ℕ) → number ≡ ticket.number → asked_flush ticket ≡ Ask (call_number number) Asks_flush
+flush_is ticket number n = cc
+
+pub unflushed_is : (ticket : Ticket) (number : ℕ) → number ≡ ticket.number → ticket.kind ≡ Flush → failed_entry ticket.kind ticket ≡ Reply (call_number number) (StoreFault number 0)
+unflushed_is ticket number n k = rw k cc
 
 pub records_as : (a b x y : Entry) (e0 e1 e2 : ℕ) (old mid new : Disk) → x ≡ a → y ≡ b → Records (x ∷ []) e0 e1 old mid → Records (y ∷ []) e1 e2 mid new → RecordsSome (a ∷ b ∷ []) e0 e2 old new
 records_as a b x y e0 e1 e2 old mid new p q r s =

@@ -46,6 +46,20 @@ IsRunning events d = events ≡ length d.log
 abbrev pub HasStopped : (events : ℕ) → Disk → Type 0
 HasStopped events d = length d.log < events
 
+-- a store whose log is told tells all, or it has stopped
+abbrev pub TellsOrStopped : (tells : Type 0) → (events : ℕ) → Disk → Type 0
+TellsOrStopped tells events d = tells ⊎ HasStopped events d
+
+-- It has stopped, and its log stands as it stood before.
+pub record HasStood (events : ℕ) (old new : Disk) : Type 0 where
+  pub stopped : HasStopped events new
+  pub start : new.start ≡ old.start
+  pub log : new.log ≡ old.log
+
+-- A store whose log is told tells all after a call, or it has stopped, before the call or in it.
+abbrev pub TellsOrStood : (tells : Type 0) → (events : ℕ) → (old new : Disk) → Type 0
+TellsOrStood tells events old new = tells ⊎ HasStood events old new
+
 -- A store whose log is told took these further events in one call, or has stopped before or in it. After a stop the log
 -- stands as it stood.
 pub record Records (more : List Entry) (before after : ℕ) (old new : Disk) : Type 0 where

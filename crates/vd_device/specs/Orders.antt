@@ -1,6 +1,5 @@
 -- What the law of a store says of its log.
-use Rattle.std.specs.Prelude.{ℕ, ◌≡◌, ◌+◌, ◌<◌, ◌≤◌, List, [], length}
-use Rattle.vd_law.specs.declared.entry.Sector.{Sector}
+use Rattle.std.specs.Prelude.{ℕ, ◌≡◌, ◌+◌, ◌<◌, ◌≤◌, [], length}
 use Rattle.vd_law.specs.Entries.{Entry, Issue, Past, past}
 use Rattle.vd_law.specs.Contents.{open_writes}
 use Rattle.vd_law.specs.Rules.{Each, IsShown}

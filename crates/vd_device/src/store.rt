@@ -4,7 +4,7 @@ ghost use Rattle.std.specs.Prelude.{◌≡◌, ◌+◌, ◌-◌, ◌*◌, ◌^�
 ghost use Rattle.vd_device.specs.declared.ticket.Ticket.{Ticket as AnyTicket};
 ghost use Rattle.vd_device.specs.declared.ticket.Kind.TheVariants.{Read, Write, Flush};
 ghost use Rattle.vd_device.specs.Tickets.{IsRange, HasPlace, IsFree, IsInFlight, Puts, IsTicket, reads};
-ghost use Rattle.vd_device.specs.Disks.{Disk, Adds, AreWrites, IsHonest, IsRunning, Records};
+ghost use Rattle.vd_device.specs.Disks.{Disk, Adds, AreWrites, IsHonest, IsRunning, Records, TellsOrStopped};
 ghost use Rattle.vd_device.specs.Orders.{IsInOrder};
 ghost use Rattle.vd_device.specs.Calls.{IsCalm, Settles, Tells, IsCaused, next_number, asked_read, asked_flush, issued, settled_of, settle_entries};
 
@@ -77,7 +77,8 @@ pub trait Store {
     fn events(&self) -> u64
         ensures value { result ≡ events self.now }
         ensures running { tells self.now → IsRunning result (disk self.now) }
-        ensures above { records self.now → length (disk self.now).log ≤ result };
+        ensures above { records self.now → length (disk self.now).log ≤ result }
+        ensures stopped { records self.now → TellsOrStopped (tells self.now) result (disk self.now) };
 
     /// Submits a write of `content` to the sectors from `first` on.
     fn submit_write(&mut self, first: u64, content: &[Sector]) -> Ticket
@@ -95,7 +96,8 @@ pub trait Store {
         ensures told { tells self.new → Adds (issued result content.now) (disk self.old) (disk self.new) }
         ensures new_number { tells self.new → last self.old < result.number }
         ensures recorded_before { records self.new → records self.old }
-        ensures recorded { records self.new → Records (issued result content.now ∷ []) (events self.old) (events self.new) (disk self.old) (disk self.new) };
+        ensures recorded { records self.new → Records (issued result content.now ∷ []) (events self.old) (events self.new) (disk self.old) (disk self.new) }
+        ensures stopped { records self.new → TellsOrStopped (tells self.new) (events self.new) (disk self.new) };
 
     /// Submits a read of `count` sectors from `first` on.
     fn submit_read(&mut self, first: u64, count: u64) -> Ticket
@@ -113,7 +115,8 @@ pub trait Store {
         ensures told { tells self.new → Adds (asked_read result) (disk self.old) (disk self.new) }
         ensures new_number { tells self.new → last self.old < result.number }
         ensures recorded_before { records self.new → records self.old }
-        ensures recorded { records self.new → Records (asked_read result ∷ []) (events self.old) (events self.new) (disk self.old) (disk self.new) };
+        ensures recorded { records self.new → Records (asked_read result ∷ []) (events self.old) (events self.new) (disk self.old) (disk self.new) }
+        ensures stopped { records self.new → TellsOrStopped (tells self.new) (events self.new) (disk self.new) };
 
     /// Submits a flush: once it is done, each write that was done before this call is durable.
     fn submit_flush(&mut self) -> Ticket
@@ -130,7 +133,8 @@ pub trait Store {
         ensures told { tells self.new → Adds (asked_flush result) (disk self.old) (disk self.new) }
         ensures new_number { tells self.new → last self.old < result.number }
         ensures recorded_before { records self.new → records self.old }
-        ensures recorded { records self.new → Records (asked_flush result ∷ []) (events self.old) (events self.new) (disk self.old) (disk self.new) };
+        ensures recorded { records self.new → Records (asked_flush result ∷ []) (events self.old) (events self.new) (disk self.old) (disk self.new) }
+        ensures stopped { records self.new → TellsOrStopped (tells self.new) (events self.new) (disk self.new) };
 
     /// Asks once how the ticket went on. `out` has as many sectors as the ticket reads, else none; it is left as it was
     /// where the answer isn't Done. Failed comes only where the count of faults rose, NotYet only where that of late
@@ -147,7 +151,8 @@ pub trait Store {
         ensures told_before { tells self.new → tells self.old }
         ensures told { tells self.new → Tells result ticket out.new (disk self.old) (disk self.new) }
         ensures recorded_before { records self.new → records self.old }
-        ensures recorded { records self.new → Records (settle_entries result ticket out.new) (events self.old) (events self.new) (disk self.old) (disk self.new) };
+        ensures recorded { records self.new → Records (settle_entries result ticket out.new) (events self.old) (events self.new) (disk self.old) (disk self.new) }
+        ensures stopped { records self.new → TellsOrStopped (tells self.new) (events self.new) (disk self.new) };
 
     /// Waits for the ticket's end. It always returns. Else as `settle`.
     fn wait(&mut self, ticket: Ticket, out: &mut [Sector]) -> Waited
@@ -162,5 +167,6 @@ pub trait Store {
         ensures told_before { tells self.new → tells self.old }
         ensures told { tells self.new → Tells (settled_of result) ticket out.new (disk self.old) (disk self.new) }
         ensures recorded_before { records self.new → records self.old }
-        ensures recorded { records self.new → Records (settle_entries (settled_of result) ticket out.new) (events self.old) (events self.new) (disk self.old) (disk self.new) };
+        ensures recorded { records self.new → Records (settle_entries (settled_of result) ticket out.new) (events self.old) (events self.new) (disk self.old) (disk self.new) }
+        ensures stopped { records self.new → TellsOrStopped (tells self.new) (events self.new) (disk self.new) };
 }

@@ -1,9 +1,8 @@
 -- The log of a store in memory stays in order.
-use Rattle.std.proofs.Common.{ℕ, ◌≡◌, ◌+◌, ◌<◌, ◌≤◌, List, [], ◌∷◌, ◌++◌, Option, Some, None, length, refl, sym, ◌∙◌, subst, arith}
+use Rattle.std.proofs.Common.{◌+◌, List, [], ◌∷◌, ◌++◌, Option, Some, None, length, sym, subst}
 use Rattle.std.specs.Prelude.{slice_range}
 use Rattle.vd_law.specs.declared.entry.Sector.{Sector}
-use Rattle.vd_law.specs.Entries.{Entry, Past, ◌▸◌, past}
-use Rattle.vd_law.specs.Contents.{sector_in, open_writes}
+use Rattle.vd_law.specs.Entries.{Entry, Past, past}
 use Rattle.vd_law.specs.Rules.{Each, IsShown}
 use Rattle.vd_law.proofs.Appending.{past-push}
 use Rattle.vd_device.specs.declared.ticket.Ticket.{Ticket}

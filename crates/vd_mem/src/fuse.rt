@@ -4,7 +4,7 @@ ghost use Rattle.std.specs.Prelude.{◌≡◌, Some, None, ◌≢◌, ◌+◌, �
 ghost use Rattle.vd_device.specs.declared.ticket.Ticket.{Ticket as AnyTicket};
 ghost use Rattle.vd_device.specs.declared.ticket.Kind.TheVariants.{Read, Write, Flush};
 ghost use Rattle.vd_device.specs.Tickets.{IsRange, HasPlace, IsFree, IsInFlight, Puts, IsTicket, reads};
-ghost use Rattle.vd_device.specs.Disks.{Adds, AreWrites, IsRunning, Records};
+ghost use Rattle.vd_device.specs.Disks.{Adds, AreWrites, IsRunning, Records, TellsOrStopped};
 ghost use Rattle.vd_device.specs.Calls.{IsCalm, Settles, Tells, IsCaused, next_number, asked_read, asked_flush, issued, settled_of, settle_entries};
 ghost use Rattle.vd_mem.specs.Tapes.{events_of};
 ghost use Rattle.vd_mem.specs.Memory.{Runs, disk_of, submitted, waited, wait_answer, polled_once, settle_answer, is_late};
@@ -102,6 +102,7 @@ impl Store for Fuse {
         ensures told { Runs self.new.inner → Adds (issued result content.now) (disk_of self.old.inner) (disk_of self.new.inner) }
         ensures new_number { Runs self.new.inner → self.old.inner.last < result.number }
         ensures recorded { Records (issued result content.now ∷ []) (events_of self.old.inner.log self.old.inner.over) (events_of self.new.inner.log self.new.inner.over) (disk_of self.old.inner) (disk_of self.new.inner) }
+        ensures stopped { TellsOrStopped (Runs self.new.inner) (events_of self.new.inner.log self.new.inner.over) (disk_of self.new.inner) }
         ensures after { self.new.inner ≡ submitted (issued result content.now) self.old.inner }
     {
         self.inner.submit_write(first, content)
@@ -121,6 +122,7 @@ impl Store for Fuse {
         ensures told { Runs self.new.inner → Adds (asked_read result) (disk_of self.old.inner) (disk_of self.new.inner) }
         ensures new_number { Runs self.new.inner → self.old.inner.last < result.number }
         ensures recorded { Records (asked_read result ∷ []) (events_of self.old.inner.log self.old.inner.over) (events_of self.new.inner.log self.new.inner.over) (disk_of self.old.inner) (disk_of self.new.inner) }
+        ensures stopped { TellsOrStopped (Runs self.new.inner) (events_of self.new.inner.log self.new.inner.over) (disk_of self.new.inner) }
         ensures after { self.new.inner ≡ submitted (asked_read result) self.old.inner }
     {
         self.inner.submit_read(first, count)
@@ -139,6 +141,7 @@ impl Store for Fuse {
         ensures told { Runs self.new.inner → Adds (asked_flush result) (disk_of self.old.inner) (disk_of self.new.inner) }
         ensures new_number { Runs self.new.inner → self.old.inner.last < result.number }
         ensures recorded { Records (asked_flush result ∷ []) (events_of self.old.inner.log self.old.inner.over) (events_of self.new.inner.log self.new.inner.over) (disk_of self.old.inner) (disk_of self.new.inner) }
+        ensures stopped { TellsOrStopped (Runs self.new.inner) (events_of self.new.inner.log self.new.inner.over) (disk_of self.new.inner) }
         ensures after { self.new.inner ≡ submitted (asked_flush result) self.old.inner }
     {
         self.inner.submit_flush()
@@ -155,6 +158,7 @@ impl Store for Fuse {
         ensures told_before { Runs self.new.inner → Runs self.old.inner }
         ensures told { Runs self.new.inner → Tells result ticket out.new (disk_of self.old.inner) (disk_of self.new.inner) }
         ensures recorded { Records (settle_entries result ticket out.new) (events_of self.old.inner.log self.old.inner.over) (events_of self.new.inner.log self.new.inner.over) (disk_of self.old.inner) (disk_of self.new.inner) }
+        ensures stopped { TellsOrStopped (Runs self.new.inner) (events_of self.new.inner.log self.new.inner.over) (disk_of self.new.inner) }
         ensures answer { result ≡ settle_answer self.old.inner ticket }
         ensures after { self.new.inner ≡ polled_once ticket self.old.inner }
     {
@@ -172,6 +176,7 @@ impl Store for Fuse {
         ensures told_before { Runs self.new.inner → Runs self.old.inner }
         ensures told { Runs self.new.inner → Tells (settled_of result) ticket out.new (disk_of self.old.inner) (disk_of self.new.inner) }
         ensures recorded { Records (settle_entries (settled_of result) ticket out.new) (events_of self.old.inner.log self.old.inner.over) (events_of self.new.inner.log self.new.inner.over) (disk_of self.old.inner) (disk_of self.new.inner) }
+        ensures stopped { TellsOrStopped (Runs self.new.inner) (events_of self.new.inner.log self.new.inner.over) (disk_of self.new.inner) }
         ensures answer { settled_of result ≡ wait_answer self.old.inner ticket }
         ensures after { self.new.inner ≡ waited ticket self.old.inner }
     {

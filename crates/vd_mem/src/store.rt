@@ -4,7 +4,7 @@ ghost use Rattle.std.specs.Prelude.{◌≡◌, ◌≢◌, ◌+◌, ◌-◌, ◌<
 ghost use Rattle.vd_device.specs.declared.ticket.Ticket.{Ticket as AnyTicket};
 ghost use Rattle.vd_device.specs.declared.ticket.Kind.TheVariants.{Read, Write, Flush};
 ghost use Rattle.vd_device.specs.Tickets.{IsRange, HasPlace, IsFree, IsInFlight, Puts, IsTicket, reads};
-ghost use Rattle.vd_device.specs.Disks.{Adds, AreWrites, IsRunning, Records};
+ghost use Rattle.vd_device.specs.Disks.{Adds, AreWrites, IsRunning, Records, TellsOrStopped};
 ghost use Rattle.vd_device.specs.Calls.{IsCalm, Settles, Tells, IsCaused, next_number, asked_read, asked_flush, issued, settled_of, settle_entries};
 ghost use Rattle.vd_mem.specs.Tapes.{events_of};
 ghost use Rattle.vd_mem.specs.Memory.{Runs, disk_of, submitted, waited, wait_answer, polled_once, settle_answer, is_late};
@@ -91,6 +91,7 @@ impl Store for MemStore {
         ensures told { Runs self.new → Adds (issued result content.now) (disk_of self.old) (disk_of self.new) }
         ensures new_number { Runs self.new → self.old.last < result.number }
         ensures recorded { Records (issued result content.now ∷ []) (events_of self.old.log self.old.over) (events_of self.new.log self.new.over) (disk_of self.old) (disk_of self.new) }
+        ensures stopped { TellsOrStopped (Runs self.new) (events_of self.new.log self.new.over) (disk_of self.new) }
         // the store's new state, whole
         ensures after { self.new ≡ submitted (issued result content.now) self.old }
     {
@@ -115,6 +116,7 @@ impl Store for MemStore {
         ensures told { Runs self.new → Adds (asked_read result) (disk_of self.old) (disk_of self.new) }
         ensures new_number { Runs self.new → self.old.last < result.number }
         ensures recorded { Records (asked_read result ∷ []) (events_of self.old.log self.old.over) (events_of self.new.log self.new.over) (disk_of self.old) (disk_of self.new) }
+        ensures stopped { TellsOrStopped (Runs self.new) (events_of self.new.log self.new.over) (disk_of self.new) }
         ensures after { self.new ≡ submitted (asked_read result) self.old }
     {
         let number = self.tickets.submit();
@@ -138,6 +140,7 @@ impl Store for MemStore {
         ensures told { Runs self.new → Adds (asked_flush result) (disk_of self.old) (disk_of self.new) }
         ensures new_number { Runs self.new → self.old.last < result.number }
         ensures recorded { Records (asked_flush result ∷ []) (events_of self.old.log self.old.over) (events_of self.new.log self.new.over) (disk_of self.old) (disk_of self.new) }
+        ensures stopped { TellsOrStopped (Runs self.new) (events_of self.new.log self.new.over) (disk_of self.new) }
         ensures after { self.new ≡ submitted (asked_flush result) self.old }
     {
         let number = self.tickets.submit();
@@ -159,6 +162,7 @@ impl Store for MemStore {
         ensures told_before { Runs self.new → Runs self.old }
         ensures told { Runs self.new → Tells result ticket out.new (disk_of self.old) (disk_of self.new) }
         ensures recorded { Records (settle_entries result ticket out.new) (events_of self.old.log self.old.over) (events_of self.new.log self.new.over) (disk_of self.old) (disk_of self.new) }
+        ensures stopped { TellsOrStopped (Runs self.new) (events_of self.new.log self.new.over) (disk_of self.new) }
         // which answer, and the store's new state, whole
         ensures answer { result ≡ settle_answer self.old ticket }
         ensures after { self.new ≡ polled_once ticket self.old }
@@ -181,6 +185,7 @@ impl Store for MemStore {
         ensures told_before { Runs self.new → Runs self.old }
         ensures told { Runs self.new → Tells (settled_of result) ticket out.new (disk_of self.old) (disk_of self.new) }
         ensures recorded { Records (settle_entries (settled_of result) ticket out.new) (events_of self.old.log self.old.over) (events_of self.new.log self.new.over) (disk_of self.old) (disk_of self.new) }
+        ensures stopped { TellsOrStopped (Runs self.new) (events_of self.new.log self.new.over) (disk_of self.new) }
         // which answer, and the store's new state, whole
         ensures answer { settled_of result ≡ wait_answer self.old ticket }
         ensures after { self.new ≡ waited ticket self.old }

@@ -3,6 +3,7 @@
 ghost use Rattle.std.specs.Prelude.{ℕ, ◌≡◌, ◌≢◌, ◌⊎◌, ◌+◌, ◌<◌, ◌≤◌, true, false, None, Some, length};
 ghost use Rattle.vd_device.specs.declared.settled.Settled.{Settled as AnySettled};
 ghost use Rattle.vd_device.specs.Calls.{IsCalm, IsCaused, next_number};
+ghost use Rattle.vd_device.specs.Disks.{TellsOrStood};
 ghost use Rattle.vd_device.specs.Tickets.{HasPlace, IsFree};
 ghost use Rattle.vd_format.specs.Headers.{IsValid};
 ghost use Rattle.vd_format.specs.Layouts.{storage_start};
@@ -42,6 +43,7 @@ pub fn begin<S: Store>(
     ensures worn { result ≡ false → IsWornOut route pass keeper.old passes.old.items passes.new.items }
     ensures unchanged { result ≡ false → (store.new ≡ store.old) × (keeper.new ≡ keeper.old) }
     ensures recorded_before { S.records store.new → S.records store.old }
+    ensures stopped { result ≡ true → S.records store.new → TellsOrStood (S.tells store.new) (S.events store.new) (S.disk store.old) (S.disk store.new) }
     ensures calm { IsCalm (S.faults store.old) (S.faults store.new) (S.late store.old) (S.late store.new) }
     ensures stays { (S.sectors store.new ≡ S.sectors store.old) × (S.depth store.new ≡ S.depth store.old) × (S.events store.old ≤ S.events store.new) }
 {
@@ -72,6 +74,7 @@ pub fn put<S: Store>(
     ensures puts { (shape : Shape) → shape.storage_at ≡ storage_start keeper.old.header → PutsNext table.now shape pass keeper.old keeper.new passes.old.items passes.new.items (S.flies store.old) (S.flies store.new) (S.tells store.old) (S.tells store.new) (S.disk store.old) (S.disk store.new) (S.last store.old) (S.last store.new) }
     ensures number { IsAt passes.new.items pass (IsNumbered OfStore (S.last store.old) (S.last store.new)) }
     ensures recorded_before { S.records store.new → S.records store.old }
+    ensures stopped { S.records store.new → TellsOrStood (S.tells store.new) (S.events store.new) (S.disk store.old) (S.disk store.new) }
     ensures calm { IsCalm (S.faults store.old) (S.faults store.new) (S.late store.old) (S.late store.new) }
     ensures stays { (S.sectors store.new ≡ S.sectors store.old) × (S.depth store.new ≡ S.depth store.old) × (S.events store.old ≤ S.events store.new) }
 {
@@ -104,6 +107,7 @@ pub fn sync<S: Store>(store: &mut S, passes: &mut Vec<Pass>, pass: usize)
     ensures syncs { (shape : Shape) → SyncsPuts shape pass passes.old.items passes.new.items (S.flies store.old) (S.flies store.new) (S.tells store.old) (S.tells store.new) (S.disk store.old) (S.disk store.new) (S.last store.old) (S.last store.new) }
     ensures number { IsAt passes.new.items pass (IsNumbered OfStore (S.last store.old) (S.last store.new)) }
     ensures recorded_before { S.records store.new → S.records store.old }
+    ensures stopped { S.records store.new → TellsOrStood (S.tells store.new) (S.events store.new) (S.disk store.old) (S.disk store.new) }
     ensures calm { IsCalm (S.faults store.old) (S.faults store.new) (S.late store.old) (S.late store.new) }
     ensures stays { (S.sectors store.new ≡ S.sectors store.old) × (S.depth store.new ≡ S.depth store.old) × (S.events store.old ≤ S.events store.new) }
 {
@@ -125,6 +129,7 @@ pub fn settle<S: Store>(
     ensures settled { (answer : AnySettled) × (result ≡ outcome_of answer) × SettlesMeta answer pass keeper.old keeper.new passes.old.items passes.new.items (S.flies store.old) (S.flies store.new) (S.tells store.old) (S.tells store.new) (S.disk store.old) (S.disk store.new) (S.last store.old) (S.last store.new)
         × IsCaused answer (S.faults store.old) (S.faults store.new) (S.late store.old) (S.late store.new) }
     ensures recorded_before { S.records store.new → S.records store.old }
+    ensures stopped { S.records store.new → TellsOrStood (S.tells store.new) (S.events store.new) (S.disk store.old) (S.disk store.new) }
     ensures stays { (S.sectors store.new ≡ S.sectors store.old) × (S.depth store.new ≡ S.depth store.old) × (S.events store.old ≤ S.events store.new) }
 {
     let ticket = passes[pass].take_ticket();

@@ -1,5 +1,5 @@
 -- A core as it is made is one of which every image is safe.
-use Rattle.std.proofs.Common.{◌≡◌, ℕ, suc, ◌+◌, ◌<◌, ◌≤◌, inl, inr, List, [], ◌∷◌, ◌++◌, length, replicate, refl, sym, ◌∙◌, ap, subst, arith, Contains, Option, Some, None, slice_get}
+use Rattle.std.proofs.Common.{◌≡◌, ℕ, suc, ◌+◌, ◌<◌, ◌≤◌, inl, inr, List, [], ◌∷◌, ◌++◌, length, replicate, refl, sym, ◌∙◌, ap, subst, arith, Contains, Option, Some, None, slice_get, ◌⊎◌}
 use Rattle.std.proofs.lemmas.Bool.{cases_lt}
 use Rattle.std.proofs.lemmas.Option.{slice_get_within}
 use Rattle.vd_law.specs.declared.entry.Sector.{Sector}
@@ -35,7 +35,7 @@ use Rattle.vd_safety.specs.Mirrors.{opening_for, IsSecured}
 use Rattle.vd_safety.proofs.Opening.{IsStart as IsMadeFrom, opened-secured}
 use Rattle.vd_core.specs.Start.{opening_at, IsStart, WasSafe, image_at}
 use Rattle.vd_core.specs.Opening.{AreNew, shape_of, empty_history, new_keeping}
-use Rattle.vd_core.specs.Kept.{IsKept, IsTold, IsAccounted, IsLogged, IsRecorded, IsSafelyKept}
+use Rattle.vd_core.specs.Kept.{IsKept, IsTold, IsAccounted, IsLogged, IsRecorded, IsSafelyKept, IsSafelyStopped}
 use Rattle.vd_core.proofs.Starting.{all-told, clean-held}
 use Rattle.vd_core.proofs.StartingDisk.{disk-over}
 
@@ -119,7 +119,7 @@ opened-safely s whole version {passes} {count} {block} {events} {sectors} room d
 }
 
 -- The same of parts that equal those of which all this is known.
-module _ (s : State) (passes : List Pass) (count : ℕ) (room : Room) (sectors depth events base_sectors base_depth : ℕ) (flies base_flies : List Ticket → Type 0) (tells base_tells : Type 0) (disk : Disk) (last : ℕ) (base : List Sector)
+module _ (s : State) (passes : List Pass) (count : ℕ) (room : Room) (sectors depth events base_sectors base_depth : ℕ) (flies base_flies : List Ticket → Type 0) (records tells base_tells : Type 0) (disk : Disk) (last : ℕ) (base : List Sector)
     (base_last opened faults base_opened base_faults : ℕ) where
   -- what the type keeps, of a core with these parts
   abbrev pub AllKept : Shape → Keeping → List (Option Region) → Numbered → Room → Type 0
@@ -129,6 +129,7 @@ module _ (s : State) (passes : List Pass) (count : ℕ) (room : Room) (sectors d
       × (tells → IsLogged passes history disk)
       × IsRecorded shape s passes None k
       × (tells → base_tells → IsSafelyKept s.header s.map s.table s.fresh.bits k None passes history disk base sectors)
+      × (records → base_tells → tells ⊎ IsSafelyStopped s.header history events disk base)
 
   pub opened-parts : {shape : Shape} {k : Keeping} {regions : List (Option Region)} {history : Numbered} {spare : Room} → shape ≡ shape_of s.header base_sectors → k ≡ new_keeping s → regions ≡ replicate count None
       → history ≡ empty_history room events → spare ≡ room → AllKept (shape_of s.header base_sectors) (new_keeping s) (replicate count None) (empty_history room events) room → AllKept shape k regions history spare

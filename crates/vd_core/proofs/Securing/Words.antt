@@ -1,5 +1,5 @@
 -- What is kept says that every image at every moment is safe.
-use Rattle.std.proofs.Common.{◌≡◌, ℕ, suc, ◌<◌, ◌≤◌, inl, inr, List, [], ◌∷◌, length, take, drop, refl, sym, ◌∙◌, ap, subst, arith, Bool, Option, Some, slice_get}
+use Rattle.std.proofs.Common.{◌≡◌, ℕ, ◌<◌, ◌≤◌, inl, inr, List, length, take, drop, refl, sym, ◌∙◌, ap, subst, arith, Bool, Option, Some, slice_get}
 use Rattle.std.proofs.lemmas.Bool.{cases_lt}
 use Rattle.std.proofs.lemmas.List.{length-take, take-append-drop}
 use Rattle.vd_law.specs.declared.entry.Sector.{Sector}
@@ -26,7 +26,6 @@ use Rattle.vd_table.specs.Tables.{Given}
 use Rattle.vd_meta.specs.Keeping.{Keeping}
 use Rattle.vd_passes.specs.declared.pass.Pass.{Pass}
 use Rattle.vd_safety.proofs.Opening.{zeros-same}
-use Rattle.vd_safety.specs.Mirrors.{opening_for}
 use Rattle.vd_safety.specs.Held.{IsOpenAgain}
 use Rattle.vd_safety.proofs.Held.{held-sound}
 use Rattle.vd_safety.proofs.Words.{secured-safe}

@@ -6,6 +6,7 @@ use Rattle.vd_passes.specs.Passes.{spent, after_piece}
 use Rattle.vd_meta.specs.Moves.{owing}
 use Rattle.vd_core.proofs.Picked.{read-there}
 use Rattle.vd_core.proofs.Ended.{set-there, put-back, write-failed, tells-nothing-read, extends-none, broke-entry, done-entry, nothing-long}
+use Rattle.vd_device.proofs.Stopping.{stood-after}
 use Rattle.vd_core.proofs.issuing.settle_write.Goals as goal
 
 pub returns-in-NotYet-clause-settled : goal.returns-in-NotYet-clause-settled
@@ -87,3 +88,12 @@ returns-in-Done-clause-settled g c =
       done.cause,
       (q, there, c.owe.ensures ∙ ap (λ (x : Pass). owing x.block c.args.keeper.now) taken.rest),
     )
+
+pub returns-in-Done-clause-stopped : goal.returns-in-Done-clause-stopped
+returns-in-Done-clause-stopped g c recorded = let got = c.in-Done.ensures in stood-after _ _ _ _ _ _ (got.recorded recorded) (got.stopped recorded)
+
+pub returns-in-NotYet-clause-stopped : goal.returns-in-NotYet-clause-stopped
+returns-in-NotYet-clause-stopped g c recorded = let got = c.in-NotYet.ensures in stood-after _ _ _ _ _ _ (got.recorded recorded) (got.stopped recorded)
+
+pub returns-in-Failed-clause-stopped : goal.returns-in-Failed-clause-stopped
+returns-in-Failed-clause-stopped g c recorded = let got = c.in-Failed.ensures in stood-after _ _ _ _ _ _ (got.recorded recorded) (got.stopped recorded)

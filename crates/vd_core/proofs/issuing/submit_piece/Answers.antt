@@ -1,4 +1,5 @@
 use Rattle.std.proofs.Common.{refl, inl, inr, arith}
+use Rattle.vd_device.proofs.Stopping.{stood-after}
 use Rattle.vd_core.proofs.issuing.submit_piece.Goals as goal
 
 pub returns-in_default : goal.returns-in_default
@@ -20,6 +21,7 @@ returns-in_default g c =
         };
         number = done.number;
         recorded_before = done.recorded_before;
+        stopped = λ recorded. stood-after _ _ _ _ _ _ (done.recorded recorded) (done.stopped recorded);
         calm = done.calm;
         stays = record { sectors_same = done.sectors; depth_same = done.depth; events_rise = done.events };
       }

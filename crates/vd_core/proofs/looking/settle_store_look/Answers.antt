@@ -5,6 +5,7 @@ use Rattle.vd_passes.specs.Passes.{after_piece}
 use Rattle.vd_core.proofs.Picked.{read-there, picked}
 use Rattle.vd_core.proofs.Ended.{set-there, put-back, extends-none}
 use Rattle.vd_core.proofs.Seen.{part_of, part-long, part-kept, sees-part, extends-part, read-failed}
+use Rattle.vd_device.proofs.Stopping.{stood-after}
 use Rattle.vd_core.proofs.looking.settle_store_look.Goals as goal
 
 pub returns-in-Done-clause-settled : goal.returns-in-Done-clause-settled
@@ -82,3 +83,12 @@ returns-in-Failed-clause-settled g c =
       (q, there, extends-none c.args.history.now),
       c.in-Failed.ensures.cause,
     )
+
+pub returns-in-Done-clause-stopped : goal.returns-in-Done-clause-stopped
+returns-in-Done-clause-stopped g c recorded = let got = c.in-Done.ensures in stood-after _ _ _ _ _ _ (got.recorded recorded) (got.stopped recorded)
+
+pub returns-in-NotYet-clause-stopped : goal.returns-in-NotYet-clause-stopped
+returns-in-NotYet-clause-stopped g c recorded = let got = c.in-NotYet.ensures in stood-after _ _ _ _ _ _ (got.recorded recorded) (got.stopped recorded)
+
+pub returns-in-Failed-clause-stopped : goal.returns-in-Failed-clause-stopped
+returns-in-Failed-clause-stopped g c recorded = let got = c.in-Failed.ensures in stood-after _ _ _ _ _ _ (got.recorded recorded) (got.stopped recorded)

@@ -4,6 +4,7 @@ use Rattle.vd_meta.specs.Moves.{is_worn}
 use Rattle.vd_passes.specs.declared.pass.Pass.{Pass}
 use Rattle.vd_metadata.proofs.Members.{read-there, picked}
 use Rattle.vd_metadata.proofs.Submitting.{numbered, flush-no-write, flush-told}
+use Rattle.vd_device.proofs.Stopping.{stood-after}
 use Rattle.vd_metadata.proofs.steps.begin.Goals as goal
 
 pub returns-clause-begun : goal.returns-clause-begun
@@ -38,3 +39,6 @@ returns-clause-number g c began =
     let at = c.requires.asked in let q = c.index_mut-2.result.now in let got = c.submit_flush-ticket.ensures in
     numbered c.args.passes.now.items c.args.pass q c.begin_meta.new.self c.submit_flush-ticket.result (g.S.Store.last c.args.store.now) (g.S.Store.last c.submit_flush-ticket.new.self)
     (read-there c.args.passes.now.items c.args.pass at.0 q at.1 c.index_mut-2.ensures.value) c.begin_meta.ensures got.number got.last
+
+pub returns-clause-stopped : goal.returns-clause-stopped
+returns-clause-stopped g c began records = let got = c.submit_flush-ticket.ensures in stood-after _ _ _ _ _ _ (got.recorded records) (got.stopped records)

@@ -8,6 +8,7 @@ use Rattle.vd_metadata.proofs.Members.{read-there, picked}
 use Rattle.vd_metadata.proofs.Places.{put-inside}
 use Rattle.vd_metadata.proofs.Submitting.{numbered, write-told}
 use Rattle.vd_metadata.proofs.steps.put.Given.{Over}
+use Rattle.vd_device.proofs.Stopping.{stood-after}
 use Rattle.vd_metadata.proofs.steps.put.Goals as goal
 use Rattle.vd_metadata.proofs.steps.put.Goals.{After-put-put, After-placed-at}
 
@@ -75,3 +76,6 @@ returns-clause-number g c =
     let at = c.requires.under_way in let q = c.index_mut.result.now in let got = c.submit_write-ticket.ensures in
     numbered c.args.passes.now.items c.args.pass q c.begin_meta.new.self c.submit_write-ticket.result (g.S.Store.last c.args.store.now) (g.S.Store.last c.submit_write-ticket.new.self)
     (read-there c.args.passes.now.items c.args.pass at.0 q at.1 c.index_mut.ensures.value) c.begin_meta.ensures got.number got.last
+
+pub returns-clause-stopped : goal.returns-clause-stopped
+returns-clause-stopped g c records = let got = c.submit_write-ticket.ensures in stood-after _ _ _ _ _ _ (got.recorded records) (got.stopped records)

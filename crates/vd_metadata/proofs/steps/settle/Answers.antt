@@ -5,6 +5,7 @@ use Rattle.vd_passes.specs.declared.pass.Fault.TheVariants as fault
 use Rattle.vd_passes.specs.Passes.{after_fault}
 use Rattle.vd_metadata.proofs.Members.{read-there, read-back, picked, set-twice}
 use Rattle.vd_metadata.proofs.Submitting.{put-back, call-failed, tells-nothing}
+use Rattle.vd_device.proofs.Stopping.{stood-after}
 use Rattle.vd_metadata.proofs.steps.settle.Goals as goal
 
 pub returns-in-NotYet-clause-settled : goal.returns-in-NotYet-clause-settled
@@ -58,3 +59,12 @@ returns-in-Failed-clause-settled g c =
       },
       failed.cause,
     )
+
+pub returns-in-Done-clause-stopped : goal.returns-in-Done-clause-stopped
+returns-in-Done-clause-stopped g c records = let got = c.in-Done.ensures in stood-after _ _ _ _ _ _ (got.recorded records) (got.stopped records)
+
+pub returns-in-NotYet-clause-stopped : goal.returns-in-NotYet-clause-stopped
+returns-in-NotYet-clause-stopped g c records = let got = c.in-NotYet.ensures in stood-after _ _ _ _ _ _ (got.recorded records) (got.stopped records)
+
+pub returns-in-Failed-clause-stopped : goal.returns-in-Failed-clause-stopped
+returns-in-Failed-clause-stopped g c records = let got = c.in-Failed.ensures in stood-after _ _ _ _ _ _ (got.recorded records) (got.stopped records)

@@ -2,6 +2,7 @@ use Rattle.std.proofs.Common.{◌∙◌, sym, ap, inl, inr, slice_set}
 use Rattle.vd_passes.specs.declared.pass.Pass.{Pass}
 use Rattle.vd_metadata.proofs.Members.{read-there, picked}
 use Rattle.vd_metadata.proofs.Submitting.{numbered, flush-no-write, flush-told}
+use Rattle.vd_device.proofs.Stopping.{stood-after}
 use Rattle.vd_metadata.proofs.steps.sync.Goals as goal
 
 pub returns-clause-syncs : goal.returns-clause-syncs
@@ -33,3 +34,6 @@ returns-clause-number g c =
     let at = c.requires.under_way in let q = c.index_mut.result.now in let got = c.submit_flush-ticket.ensures in
     numbered c.args.passes.now.items c.args.pass q c.begin_meta.new.self c.submit_flush-ticket.result (g.S.Store.last c.args.store.now) (g.S.Store.last c.submit_flush-ticket.new.self)
     (read-there c.args.passes.now.items c.args.pass at.0 q at.1 c.index_mut.ensures.value) c.begin_meta.ensures got.number got.last
+
+pub returns-clause-stopped : goal.returns-clause-stopped
+returns-clause-stopped g c records = let got = c.submit_flush-ticket.ensures in stood-after _ _ _ _ _ _ (got.recorded records) (got.stopped records)

@@ -28,5 +28,5 @@ returns-in-Ok-clause-run g c =
     (λ t. c.requires.says (told t)) (λ t. c.look.ensures.running (told t)) (λ t. c.look.ensures.honest (told t)) opened serving.served serving.disk closing.closed closing.disk
     (λ t. closing.opening (closed_told t) ∙ serving.opening (served_told t))
     (λ t. ap (λ p. g.B.Base.content p.inner) f.base ∙ closing.base.content_same (closed_base t) ∙ serving.base.content_same (closing.base.told_before (closed_base t)) ∙ ap g.B.Base.content base_same)
-    (record { history_is = f.history; regular = f.regular; legal = f.legal; safe = f.safe; numbers = f.numbers; reopens = f.reopens; settled = f.settled; holds = λ t. may_hold (g.S.Store.disk c.finish-store.result.store.inner) (last.honest t) (last.order t) (last.size t); replied = f.replied; store_caused = f.store_faults; base_caused = f.base_faults; traced = f.traced; full = f.full })
+    (record { history_is = f.history; regular = f.regular; legal = f.legal; safe = λ t. f.safe (last.recorded t); numbers = f.numbers; reopens = f.reopens; settled = f.settled; holds = λ t. may_hold (g.S.Store.disk c.finish-store.result.store.inner) (last.honest t) (last.order t) (last.size t); replied = f.replied; store_caused = f.store_faults; base_caused = f.base_faults; traced = f.traced; full = f.full })
     old (λ t. since (told t)))

@@ -6,6 +6,7 @@ use Rattle.vd_core.proofs.Keeping.Asking.{can-ask, ask-kept, ask-told}
 use Rattle.vd_core.proofs.Keeping.Recording.{ask-recorded}
 use Rattle.vd_core.proofs.Keeping.Telling.{logged-here}
 use Rattle.vd_core.proofs.Securing.Asking.{ask-safely}
+use Rattle.vd_core.proofs.Securing.Stopping.{ask-still, stopped-same}
 use Rattle.vd_core.proofs.state.Core.ask.Goals as goal
 
 pub ask_in_room-requires : goal.ask_in_room-requires
@@ -25,6 +26,7 @@ invariant_of-self g c =
       λ told. let was = c.self.invariant.3 told in logged-here was (ask-opened done.ends) (ask-followed was.followed at done.ends (done.running told)),
       ask-recorded c.self.invariant.4 at done.ends,
       ask-safely c.self.invariant.0 c.self.invariant.4 c.self.invariant.1 c.self.invariant.5 c.args.pass at done.ends done.running,
+      stopped-same c.self.invariant.6 (ask-opened done.ends) (λ late start. ask-still done.ends kept.roomy.later late),
     )
 
 pub returns-clause-ends : goal.returns-clause-ends

@@ -3,6 +3,7 @@ use Rattle.vd_core.proofs.Keeping.FlushingReady.{asked-flush, flush-place, begin
 use Rattle.vd_core.proofs.Keeping.Flushing.{stays-by, submit-kept, submit-told, submit-accounted, submit-logged, submit-opening, end-kept, end-told, end-accounted, end-logged}
 use Rattle.vd_core.proofs.Keeping.Telling.{same-opening}
 use Rattle.vd_core.proofs.Securing.Flushing.{begin-safely, worn-safely}
+use Rattle.vd_core.proofs.Securing.Stopping.{stopped-on}
 use Rattle.vd_core.proofs.state.Core.begin_flush.Goals as goal
 
 pub begin-going-requires : goal.begin-going-requires
@@ -24,6 +25,7 @@ invariant_of-self g c =
       submit-logged step c.self.invariant.3,
       begin-recorded c.self.invariant.4 c.in_default.is tracked begun,
       begin-safely c.self.invariant.0 c.self.invariant.4 c.self.invariant.1 c.self.invariant.3 c.self.invariant.5 c.args.pass c.in_default.is tracked begun (stays-by done.stays),
+      stopped-on c.self.invariant.5 c.self.invariant.6 done.recorded_before (done.stopped c.if-going.true) refl (λ late start before. before),
     )
 
 pub invariant_of-self-else-going : goal.invariant_of-self-else-going
@@ -36,6 +38,7 @@ invariant_of-self-else-going g c =
       (λ told. end-logged worn.ends (c.self.invariant.3 told)),
       worn-recorded c.self.invariant.4 worn,
       worn-safely c.self.invariant.0 c.self.invariant.4 c.self.invariant.1 c.self.invariant.3 c.self.invariant.5 c.args.pass c.in_default.is worn,
+      c.self.invariant.6,
     )
 
 pub returns-then-going-clause-going : goal.returns-then-going-clause-going

@@ -6,6 +6,7 @@ use Rattle.vd_core.proofs.Keeping.Fetching.{fetch-kept, fetch-told}
 use Rattle.vd_core.proofs.Keeping.Recording.{fetch-recorded}
 use Rattle.vd_core.proofs.Keeping.Telling.{logged-here}
 use Rattle.vd_core.proofs.Securing.Entering.{fetch-safely}
+use Rattle.vd_core.proofs.Securing.Stopping.{stopped-here}
 use Rattle.vd_core.proofs.state.Core.fetch.Goals as goal
 
 pub fetch_block-requires : goal.fetch_block-requires
@@ -22,6 +23,7 @@ invariant_of-self g c =
       λ told. let was = c.self.invariant.3 told in logged-here was refl (fetch-followed was.followed c.args.pass (at.0, at.1, at.2.0) done.fetches),
       fetch-recorded c.self.invariant.4 c.args.pass (at.0, at.1, at.2.0) done.fetches,
       fetch-safely c.self.invariant.0 c.self.invariant.4 c.self.invariant.1 c.self.invariant.5 c.args.pass (at.0, at.1, at.2.0) done.fetches done.stays,
+      stopped-here c.self.invariant.6 done.stays,
     )
 
 pub returns-clause-fetches : goal.returns-clause-fetches

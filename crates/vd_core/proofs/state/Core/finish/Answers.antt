@@ -1,5 +1,4 @@
-use Rattle.std.proofs.Common.{◌≤◌, ◌≡◌, length, sym, arith}
-use Rattle.vd_law.specs.Histories.{last_number}
+use Rattle.std.proofs.Common.{sym, arith}
 use Rattle.vd_passes.proofs.Answered.{coherent-replied}
 use Rattle.vd_passes.proofs.Blaming.{blamed-caused}
 use Rattle.vd_passes.proofs.Tracing.{followed-traced}
@@ -9,7 +8,8 @@ use Rattle.vd_core.proofs.Keeping.Ending.{calm, base-calm}
 use Rattle.vd_core.proofs.Keeping.Telling.{told-legal}
 use Rattle.vd_core.proofs.Agreeing.{told-agrees}
 use Rattle.vd_core.proofs.Showing.{shows-could}
-use Rattle.vd_core.proofs.Securing.Words.{safely-words, safely-again}
+use Rattle.vd_core.proofs.Securing.Words.{safely-again}
+use Rattle.vd_core.proofs.Securing.Stopping.{still-safe}
 use Rattle.vd_core.proofs.state.Core.finish.Goals as goal
 
 pub returns-clause-calm : goal.returns-clause-calm
@@ -40,7 +40,7 @@ pub returns-clause-legal : goal.returns-clause-legal
 returns-clause-legal g c = rw (sym c.self.view_is) (λ told base_told. told-legal c.self.invariant.0.coherent.regular (c.self.invariant.1 told base_told))
 
 pub returns-clause-safe : goal.returns-clause-safe
-returns-clause-safe g c = rw (sym c.self.view_is) (λ told base_told start is safe. safely-words (c.self.invariant.5 told base_told) start is safe)
+returns-clause-safe g c = rw (sym c.self.view_is) (λ recorded base_told start is safe. (still-safe c.self.invariant.5 c.self.invariant.6 recorded base_told start is safe).crash_safe)
 
 pub returns-clause-reopens : goal.returns-clause-reopens
 returns-clause-reopens g c = rw (sym c.self.view_is) (λ told base_told start is safe image left. safely-again c.self.invariant.0 c.self.invariant.4 (c.self.invariant.5 told base_told) start is safe image left)

@@ -2,8 +2,8 @@ use Rattle.std.proofs.Common.{sym}
 use Rattle.vd_passes.proofs.Blaming.{blamed-caused}
 use Rattle.vd_passes.proofs.Tracing.{followed-traced}
 use Rattle.vd_core.proofs.Storing.{stored-fulls}
-use Rattle.vd_core.proofs.Securing.Words.{safely-words}
 use Rattle.vd_core.proofs.Agreeing.{told-agrees}
+use Rattle.vd_core.proofs.Securing.Stopping.{still-safe}
 use Rattle.vd_core.proofs.state.Core.history.Goals as goal
 
 pub returns-clause-store_faults : goal.returns-clause-store_faults
@@ -22,7 +22,7 @@ pub returns-clause-local : goal.returns-clause-local
 returns-clause-local g c = rw (sym c.self.view_is) c.self.invariant.2.local
 
 pub returns-clause-safe : goal.returns-clause-safe
-returns-clause-safe g c = rw (sym c.self.view_is) (λ told base_told start is safe. safely-words (c.self.invariant.5 told base_told) start is safe)
+returns-clause-safe g c = rw (sym c.self.view_is) (λ recorded base_told start is safe. (still-safe c.self.invariant.5 c.self.invariant.6 recorded base_told start is safe).crash_safe)
 
 pub returns-clause-agrees : goal.returns-clause-agrees
 returns-clause-agrees g c = rw (sym c.self.view_is) (λ told base_told. told-agrees c.self.invariant.0.coherent (c.self.invariant.1 told base_told))

@@ -5,6 +5,7 @@ use Rattle.vd_core.proofs.Keeping.Issuing.{writing-at, issuer-not, can-issue, is
 use Rattle.vd_core.proofs.Keeping.Recording.{issue-recorded}
 use Rattle.vd_core.proofs.Keeping.Telling.{logged-on, same-opening}
 use Rattle.vd_core.proofs.Securing.Issuing.{issue-safely}
+use Rattle.vd_core.proofs.Securing.Stopping.{issue-still, stopped-on}
 use Rattle.vd_core.proofs.state.Core.issue.Goals as goal
 
 pub issue_piece-requires-clause-ready : goal.issue_piece-requires-clause-ready
@@ -22,6 +23,7 @@ invariant_of-self g c =
           logged-on was (_, adds) done.extends.2.opened (issues-followed was.followed (writing-at c.self.inside.passes.items c.args.pass at) done.issues done.extends.2.numbers (done.running before) adds),
       issue-recorded c.self.invariant.4 c.args.pass done.issues (issuer-not c.self.inside.passes.items c.args.pass at done.issues.pass done.issues.there),
       issue-safely c.self.invariant.0 c.self.invariant.4 c.self.invariant.1 c.self.invariant.3 c.self.invariant.5 c.args.pass at asked done.issues done.extends done.running done.stays,
+      stopped-on c.self.invariant.5 c.self.invariant.6 done.recorded_before done.stopped done.extends.2.opened (λ late start. issue-still done.issues done.extends.2 c.self.invariant.0.roomy.later),
     )
 
 pub returns-clause-stays : goal.returns-clause-stays

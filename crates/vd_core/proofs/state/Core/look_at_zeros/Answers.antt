@@ -6,6 +6,7 @@ use Rattle.vd_core.proofs.Keeping.Looking.{can-see-zeros, zeros-seen, zeros-kept
 use Rattle.vd_core.proofs.Keeping.Recording.{held-not, sees-recorded}
 use Rattle.vd_core.proofs.Keeping.Telling.{logged-here}
 use Rattle.vd_core.proofs.Securing.Looking.{zeros-safely}
+use Rattle.vd_core.proofs.Securing.Stopping.{late-one, stopped-same}
 use Rattle.vd_core.proofs.state.Core.look_at_zeros.Goals as goal
 
 pub see_zeros-requires-clause-ready : goal.see_zeros-requires-clause-ready
@@ -29,4 +30,5 @@ invariant_of-self g c =
           logged-here was seen.2.1.opened (sees_zeros-followed c.self.invariant.0.coherent (g.S.Store.events c.self.inside.store) was.followed (at.0, at.1, at.2.0.phase) step seen.2.1.numbers),
       sees-recorded c.self.invariant.4 c.args.pass held-not (at.0, at.1, at.2.0.phase) step.sees,
       zeros-safely c.self.invariant.0 c.self.invariant.4 c.self.invariant.1 c.self.invariant.3 c.self.invariant.5 c.args.pass (at.0, at.1, at.2.0.phase) step seen.2.1 c.see_zeros.ensures.running,
+      stopped-same c.self.invariant.6 seen.2.1.opened (λ late start. late-one _ seen.2.1 step.sees.event c.self.invariant.0.roomy.later late),
     )

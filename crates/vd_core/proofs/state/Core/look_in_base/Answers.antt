@@ -5,6 +5,7 @@ use Rattle.vd_core.proofs.Keeping.Looking.{can-look-in-base, base_look-kept, bas
 use Rattle.vd_core.proofs.Keeping.Recording.{base_look-recorded}
 use Rattle.vd_core.proofs.Keeping.Telling.{logged-here}
 use Rattle.vd_core.proofs.Securing.Looking.{base_look-safely}
+use Rattle.vd_core.proofs.Securing.Stopping.{stopped-here}
 use Rattle.vd_core.proofs.state.Core.look_in_base.Goals as goal
 
 pub look_at_base-requires : goal.look_at_base-requires
@@ -21,6 +22,7 @@ invariant_of-self g c =
       λ told. let was = c.self.invariant.3 told in logged-here was refl (base_looks-followed c.self.invariant.0.coherent was.followed (at.0, at.1, at.2.0.phase) done.looks),
       base_look-recorded c.self.invariant.4 c.args.pass (at.0, at.1, at.2.0.phase) done.looks,
       base_look-safely c.self.invariant.0 c.self.invariant.4 c.self.invariant.1 c.self.invariant.3 c.self.invariant.5 c.args.pass (at.0, at.1, at.2.0.phase) done.looks done.stays,
+      stopped-here c.self.invariant.6 done.stays,
     )
 
 pub returns-clause-looks : goal.returns-clause-looks

@@ -5,6 +5,7 @@ use Rattle.vd_core.proofs.Keeping.Looking.{can-look, look-kept, look-told}
 use Rattle.vd_core.proofs.Keeping.Recording.{look-recorded}
 use Rattle.vd_core.proofs.Keeping.Telling.{logged-on, same-opening}
 use Rattle.vd_core.proofs.Securing.Looking.{look-safely}
+use Rattle.vd_core.proofs.Securing.Stopping.{stopped-on}
 use Rattle.vd_core.proofs.state.Core.look_in_store.Goals as goal
 
 pub look_at_store-requires : goal.look_at_store-requires
@@ -21,6 +22,7 @@ invariant_of-self g c =
       λ told. let was = c.self.invariant.3 (done.looks.told_before told) in let adds = (done.looks.told told).0 in logged-on was (_, adds) refl (looks-followed was.followed (at.0, at.1, at.2.0.phase) done.looks adds),
       look-recorded c.self.invariant.4 c.args.pass (at.0, at.1, at.2.0.phase) done.looks,
       look-safely c.self.invariant.0 c.self.invariant.4 c.self.invariant.1 c.self.invariant.3 c.self.invariant.5 c.args.pass (at.0, at.1, at.2.0.phase) done.looks done.stays,
+      stopped-on c.self.invariant.5 c.self.invariant.6 done.recorded_before done.stopped refl (λ late start before. before),
     )
 
 pub returns-clause-looks : goal.returns-clause-looks

@@ -3,6 +3,7 @@ use Rattle.vd_core.proofs.Keeping.FlushingReady.{between-calls, between-due, bet
 use Rattle.vd_core.proofs.Keeping.Flushing.{stays-by, submit-kept, submit-told, submit-accounted, submit-logged, submit-opening}
 use Rattle.vd_core.proofs.Keeping.Telling.{same-opening}
 use Rattle.vd_core.proofs.Securing.Flushing.{put-safely}
+use Rattle.vd_core.proofs.Securing.Stopping.{stopped-on}
 use Rattle.vd_core.proofs.state.Core.put.Goals as goal
 
 pub put-requires-clause-under_way : goal.put-requires-clause-under_way
@@ -29,6 +30,7 @@ invariant_of-self g c =
       submit-logged step c.self.invariant.3,
       put-recorded c.self.invariant.4 stage puts,
       put-safely c.self.invariant.0 c.self.invariant.4 c.self.invariant.1 c.self.invariant.3 c.self.invariant.5 c.args.pass stage puts (stays-by done.stays),
+      stopped-on c.self.invariant.5 c.self.invariant.6 done.recorded_before done.stopped refl (λ late start before. before),
     )
 
 pub returns-clause-puts : goal.returns-clause-puts

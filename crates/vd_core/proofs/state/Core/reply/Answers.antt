@@ -5,6 +5,7 @@ use Rattle.vd_core.proofs.Keeping.Replying.{can-reply, reply-ok, reply-kept, rep
 use Rattle.vd_core.proofs.Keeping.Recording.{reply-recorded}
 use Rattle.vd_core.proofs.Keeping.Telling.{logged-here}
 use Rattle.vd_core.proofs.Securing.Asking.{reply-safely}
+use Rattle.vd_core.proofs.Securing.Stopping.{late-one, stopped-same}
 use Rattle.vd_core.proofs.state.Core.reply.Goals as goal
 
 pub reply_in_room-requires : goal.reply_in_room-requires
@@ -21,6 +22,7 @@ invariant_of-self g c =
       λ told. let was = c.self.invariant.3 told in logged-here was done.extends.opened (replies-followed was.followed at done.replies done.extends.numbers (done.running told)),
       reply-recorded c.self.invariant.4 c.args.pass at done.replies,
       reply-safely c.self.invariant.0 c.self.invariant.4 c.self.invariant.1 c.self.invariant.5 c.args.pass at done.replies done.extends done.running,
+      stopped-same c.self.invariant.6 done.extends.opened (λ late start. late-one _ done.extends done.replies.event c.self.invariant.0.roomy.later late),
     )
 
 pub returns-clause-ok : goal.returns-clause-ok

@@ -8,6 +8,7 @@ use Rattle.vd_core.proofs.Keeping.Seeing.{waiting-for-base-look, settle_base_loo
 use Rattle.vd_core.proofs.Keeping.Recording.{settle_base_look-recorded}
 use Rattle.vd_core.proofs.Keeping.Telling.{logged-here}
 use Rattle.vd_core.proofs.Securing.Looking.{settle_base_look-safely}
+use Rattle.vd_core.proofs.Securing.Stopping.{base_look-still, stopped-same, stopped-here}
 use Rattle.vd_core.proofs.state.Core.settle_base.Goals as goal
 
 pub settle_base_look-outcome-requires-clause-waiting : goal.settle_base_look-outcome-requires-clause-waiting
@@ -31,4 +32,5 @@ invariant_of-self g c =
           logged-here was done.settled.3.2.opened (base_look_settled-followed c.self.invariant.0.coherent (g.S.Store.events c.self.inside.store) was.followed (at.0, at.1, at.2.0) done.settled.2 done.settled.3.2.numbers),
       settle_base_look-recorded c.self.invariant.4 c.args.pass (at.0, at.1, at.2.0) done.settled.2,
       settle_base_look-safely c.self.invariant.0 c.self.invariant.4 c.self.invariant.1 c.self.invariant.3 c.self.invariant.5 c.args.pass (at.0, at.1, at.2.0) done.settled.2 done.settled.3.2 done.running done.stays,
+      stopped-here (stopped-same c.self.invariant.6 done.settled.3.2.opened (λ late start. base_look-still done.settled.2 done.settled.3.2 c.self.invariant.0.roomy.later late)) done.stays,
     )

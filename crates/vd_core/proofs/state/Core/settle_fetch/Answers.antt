@@ -8,6 +8,7 @@ use Rattle.vd_core.proofs.Keeping.Fetching.{waiting-block, settle_fetch-kept, se
 use Rattle.vd_core.proofs.Keeping.Recording.{settle_fetch-recorded}
 use Rattle.vd_core.proofs.Keeping.Telling.{logged-here}
 use Rattle.vd_core.proofs.Securing.Entering.{settle_fetch-safely}
+use Rattle.vd_core.proofs.Securing.Stopping.{stopped-here}
 use Rattle.vd_core.proofs.state.Core.settle_fetch.Goals as goal
 
 pub settle_block-outcome-requires : goal.settle_block-outcome-requires
@@ -30,4 +31,5 @@ invariant_of-self g c =
       λ told. let was = c.self.invariant.3 told in logged-here was refl (fetch_settled-followed was.followed at done.settled.2),
       settle_fetch-recorded c.self.invariant.4 c.args.pass at done.settled.2,
       settle_fetch-safely c.self.invariant.0 c.self.invariant.4 c.self.invariant.1 c.self.invariant.5 c.args.pass at done.settled.2 done.stays,
+      stopped-here c.self.invariant.6 done.stays,
     )

@@ -7,6 +7,7 @@ use Rattle.vd_core.proofs.Keeping.FlushingReady.{away-call, away-settling, still
 use Rattle.vd_core.proofs.Keeping.Flushing.{stays-by, settle_meta-kept, settle_meta-told, settle_meta-accounted, settle_meta-logged}
 use Rattle.vd_core.proofs.Keeping.Telling.{same-opening}
 use Rattle.vd_core.proofs.Securing.Flushing.{settle_meta-safely}
+use Rattle.vd_core.proofs.Securing.Stopping.{stopped-on}
 use Rattle.vd_core.proofs.state.Core.settle_meta.Goals as goal
 
 pub settle-outcome-requires-clause-waiting : goal.settle-outcome-requires-clause-waiting
@@ -25,6 +26,7 @@ invariant_of-self g c =
       settle_meta-logged c.self.invariant.0 c.args.pass step c.self.invariant.3,
       (rw flusher (settle_meta-recorded settled.0 c.self.invariant.4 settled.2)),
       (rw flusher (settle_meta-safely c.self.invariant.0 c.self.invariant.4 c.self.invariant.1 c.self.invariant.3 c.self.invariant.5 c.args.pass settled.2 (stays-by done.stays))),
+      stopped-on c.self.invariant.5 c.self.invariant.6 done.recorded_before done.stopped refl (λ late start before. before),
     )
 
 pub returns-clause-settled : goal.returns-clause-settled

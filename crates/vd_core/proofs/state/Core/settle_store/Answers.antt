@@ -9,6 +9,7 @@ use Rattle.vd_core.proofs.Starting.{settle-goes-on}
 use Rattle.vd_core.proofs.Keeping.Recording.{settle_look-recorded}
 use Rattle.vd_core.proofs.Keeping.Telling.{logged-on, same-opening}
 use Rattle.vd_core.proofs.Securing.Looking.{settle_look-safely}
+use Rattle.vd_core.proofs.Securing.Stopping.{look-still, later-still, stopped-on}
 use Rattle.vd_core.proofs.state.Core.settle_store.Goals as goal
 
 pub settle_store_look-outcome-requires-clause-waiting : goal.settle_store_look-outcome-requires-clause-waiting
@@ -33,6 +34,8 @@ invariant_of-self g c =
           (look_settled-followed c.self.invariant.0.coherent (g.S.Store.events c.settle_store_look-outcome.new.store) was.followed (at.0, at.1, at.2.0) done.settled.2 done.settled.3.2.numbers (done.settled.2.told told)),
       settle_look-recorded c.self.invariant.4 c.args.pass (at.0, at.1, at.2.0) done.settled.2,
       settle_look-safely c.self.invariant.0 c.self.invariant.4 c.self.invariant.1 c.self.invariant.3 c.self.invariant.5 c.args.pass (at.0, at.1, at.2.0) done.settled.2 done.settled.3.2 done.running done.stays,
+      stopped-on c.self.invariant.5 c.self.invariant.6 done.recorded_before done.stopped done.settled.3.2.opened
+          (λ late start. look-still done.settled.2 done.settled.3.2 (later-still c.self.invariant.0.roomy done.stays) late),
     )
 
 pub returns-clause-opening : goal.returns-clause-opening

@@ -3,6 +3,7 @@ use Rattle.vd_core.proofs.Keeping.FlushingReady.{between-calls, flush-place, syn
 use Rattle.vd_core.proofs.Keeping.Flushing.{stays-by, submit-kept, submit-told, submit-accounted, submit-logged, submit-opening}
 use Rattle.vd_core.proofs.Keeping.Telling.{same-opening}
 use Rattle.vd_core.proofs.Securing.Flushing.{sync-safely}
+use Rattle.vd_core.proofs.Securing.Stopping.{stopped-on}
 use Rattle.vd_core.proofs.state.Core.sync.Goals as goal
 
 pub sync-requires-clause-under_way : goal.sync-requires-clause-under_way
@@ -21,6 +22,7 @@ invariant_of-self g c =
       submit-logged step c.self.invariant.3,
       sync-recorded c.self.invariant.4 stage syncs,
       sync-safely c.self.invariant.0 c.self.invariant.4 c.self.invariant.1 c.self.invariant.3 c.self.invariant.5 c.args.pass stage syncs (stays-by done.stays),
+      stopped-on c.self.invariant.5 c.self.invariant.6 done.recorded_before done.stopped refl (λ late start before. before),
     )
 
 pub returns-clause-syncs : goal.returns-clause-syncs

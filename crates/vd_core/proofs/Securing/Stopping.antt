@@ -1,0 +1,208 @@
+-- What is kept of a store that has stopped goes on with the core: its log stands, and each further entry of the history is harmless.
+use Rattle.std.proofs.Common.{◌≡◌, ℕ, ◌-◌, ◌<◌, ◌≤◌, ◌⊎◌, inl, inr, Bool, List, [], ◌∷◌, ◌++◌, length, take, replicate, Contains, refl, sym, ◌∙◌, ap, subst, arith, Option}
+use Rattle.std.proofs.lemmas.List.{append_assoc, append-nil}
+use Rattle.vd_law.specs.declared.entry.Sector.{Sector}
+use Rattle.vd_law.specs.declared.entry.Answer.{Answer}
+use Rattle.vd_law.specs.declared.entry.Room.{Room}
+use Rattle.vd_law.specs.Contents.{may}
+use Rattle.vd_law.specs.Entries.{Asked, Entry}
+use Rattle.vd_law.specs.Histories.{Numbered, IsRising, last_number, up_to, entries_up_to}
+use Rattle.vd_law.proofs.Numbers.{rising-push, last_number-push}
+use Rattle.vd_device.specs.declared.settled.Settled.{Settled}
+use Rattle.vd_device.specs.declared.settled.Settled.TheVariants.{Done, NotYet, Failed}
+use Rattle.vd_device.specs.declared.ticket.Ticket.{Ticket}
+use Rattle.vd_device.specs.Disks.{Disk, TellsOrStopped, HasStood, TellsOrStood}
+use Rattle.vd_format.specs.declared.header.Header.{Header}
+use Rattle.vd_format.specs.declared.map.Entry.{Entry as MapEntry}
+use Rattle.vd_image.specs.Layouts.{layout_of}
+use Rattle.vd_image.specs.Decoders.{format_of}
+use Rattle.vd_image.specs.CrashImages.{base_at}
+use Rattle.vd_image.proofs.Logs.{length_push}
+use Rattle.vd_crash.specs.CrashSafe.{IsCrashSafe}
+use Rattle.vd_reading.specs.Background.{zero_sector}
+use Rattle.vd_table.specs.Tables.{Given}
+use Rattle.vd_meta.specs.Keeping.{Keeping}
+use Rattle.vd_passes.specs.declared.shape.Shape.{Shape}
+use Rattle.vd_passes.specs.declared.pass.Pass.{Pass}
+use Rattle.vd_passes.specs.declared.pass.Fault.{Fault}
+use Rattle.vd_passes.specs.declared.pass.Fault.TheVariants as fault
+use Rattle.vd_passes.specs.Steps.{Issues, EndsWrite, WriteSettled, EndsRead, LookSettled, BaseLookSettled}
+use Rattle.vd_safety.specs.Mirrors.{opening_for}
+use Rattle.vd_safety.proofs.Words.{IsHarmless, secured-rising, stopped-crash-safe}
+use Rattle.vd_core.specs.Adding.{Extends}
+use Rattle.vd_core.specs.Asking.{AskEnds}
+use Rattle.vd_core.specs.Devices.{Stays, BaseStays}
+use Rattle.vd_core.specs.Outcomes.{numbers_of, read_numbers_of}
+use Rattle.vd_core.specs.Opening.{empty_history}
+use Rattle.vd_core.specs.Start.{Opening, opening_at, IsStart, WasSafe}
+use Rattle.vd_core.specs.Kept.{IsRoomy, IsSafelyKept, IsStillSafe, IsSafelyStopped}
+use Rattle.vd_core.proofs.Securing.Words.{safely-words}
+
+-- the numbers are not above the events that there are after a call
+pub later-still : {block events events' sectors sectors' depth depth' : ℕ} {passes : List Pass} {history : Numbered} {spare : Room} → IsRoomy block passes history spare events → Stays sectors sectors' depth depth' events events' → last_number history.opened history.numbers ≤ events'
+later-still roomy stays = let later = roomy.later in let rise = stays.events_rise in omega (arith, later, rise)
+
+-- ---- the history grows
+
+module _ {h : Header} {base start : List Sector} {disk : Disk} where
+  -- by one harmless entry
+  pub one-more : {history history' : Numbered} {e : Entry} {n : ℕ} → IsHarmless disk.log e n → history'.log.entries ≡ history.log.entries ++ e ∷ [] → history'.numbers ≡ history.numbers ++ n ∷ [] → history'.opened ≡ history.opened
+      → last_number history.opened history.numbers ≤ n → IsStillSafe h base start disk history → IsStillSafe h base start disk history'
+  one-more {history} {history'} {e} {n} harmless entries numbers opened later was = record {
+    each = let a = ap length numbers in let b = ap length entries in let c = length_push history.numbers n in let d = length_push history.log.entries e in let w = was.each in omega (arith, a, b, c, d, w);
+    rising = subst (λ (o : ℕ). IsRising o history'.numbers) (sym opened) (subst (IsRising history.opened) (sym numbers) (rising-push history.opened history.numbers n was.rising later));
+    crash_safe = stopped-crash-safe (format_of h) (layout_of h) (base_at zero_sector base) zero_sector disk.start disk.log start history history' e n harmless entries numbers opened was.each was.rising later was.crash_safe;
+  }
+
+  -- by one entry that is numbered above the log's length
+  pub late-one : {history history' : Numbered} {n sectors : ℕ} (e : Entry) → Extends (n ∷ []) sectors history history' → history'.log.entries ≡ history.log.entries ++ e ∷ [] → last_number history.opened history.numbers ≤ n
+      → length disk.log < n → IsStillSafe h base start disk history → IsStillSafe h base start disk history'
+  late-one e extends entries later late was = one-more (inl late) entries extends.numbers extends.opened later was
+
+  -- by two such entries
+  pub late-two : {history history' : Numbered} {n sectors : ℕ} (a b : Entry) → Extends (n ∷ n ∷ []) sectors history history' → history'.log.entries ≡ history.log.entries ++ a ∷ b ∷ [] → last_number history.opened history.numbers ≤ n
+      → length disk.log < n → IsStillSafe h base start disk history → IsStillSafe h base start disk history'
+  late-two {history} {history'} {n} a b extends entries later late was =
+      let mid : Numbered = record { log = record { entries = history.log.entries ++ a ∷ []; left = history.log.left; room = history.log.room }; numbers = history.numbers ++ n ∷ []; opened = history.opened } in
+      let last = last_number-push history.opened history.numbers n in
+      one-more {history = mid} (inl late) (entries ∙ sym (append_assoc history.log.entries (a ∷ []) (b ∷ []))) (extends.numbers ∙ sym (append_assoc history.numbers (n ∷ []) (n ∷ []))) extends.opened (omega (arith, last))
+      (one-more {history = history} {history' = mid} (inl late) refl refl refl later was)
+
+  -- by none
+  pub none-more : {history history' : Numbered} {sectors : ℕ} → Extends [] sectors history history' → history'.log.entries ≡ history.log.entries → IsStillSafe h base start disk history → IsStillSafe h base start disk history'
+  none-more {history} {history'} extends entries was =
+      let numbers : history'.numbers ≡ history.numbers = extends.numbers ∙ append-nil history.numbers in
+      let moments : (k : ℕ) → entries_up_to k history' ≡ entries_up_to k history = λ k. ap (λ (ns : List ℕ). take (up_to k ns) history'.log.entries) numbers ∙ ap (take (up_to k history.numbers)) entries in
+      let opened = extends.opened in
+      record {
+        each = ap length numbers ∙ was.each ∙ sym (ap length entries);
+        rising = subst (λ (o : ℕ). IsRising o history'.numbers) (sym opened) (subst (IsRising history.opened) (sym numbers) was.rising);
+        crash_safe = record {
+          sound = λ k image low within left. was.crash_safe.sound k image (omega (arith, low, opened)) within left;
+          allowed = λ k image low within left s v inside has. subst (λ (es : List Entry). Contains (may start es s) v) (sym (moments k)) (was.crash_safe.allowed k image (omega (arith, low, opened)) within left s v inside has);
+        };
+      }
+
+  -- as a write's piece is issued
+  pub issue-still : {fresh : List Bool} {content : List Sector} {i last last' n sectors : ℕ} {passes passes' : List Pass} {history history' : Numbered} {flies flies' : List Ticket → Type 0} {tells tells' : Type 0} {old new : Disk} {shape : Shape}
+      → Issues shape fresh content i passes passes' history.log.entries history'.log.entries flies flies' tells tells' old new last last' → Extends (n ∷ []) sectors history history' → last_number history.opened history.numbers ≤ n
+      → IsStillSafe h base start disk history → IsStillSafe h base start disk history'
+  issue-still step extends later was = one-more (inr (λ id is. cc)) step.event extends.numbers extends.opened later was
+
+  -- as the write ends
+  write-ends : (answer : Settled) (pass : Pass) (ticket : Ticket) (i : ℕ) (fresh fresh' : List Bool) (passes passes' : List Pass) {n sectors : ℕ} {history history' : Numbered} → EndsWrite answer pass ticket i fresh fresh' passes passes' history.log.entries history'.log.entries
+      → Extends (numbers_of answer n) sectors history history' → last_number history.opened history.numbers ≤ n → length disk.log < n → IsStillSafe h base start disk history → IsStillSafe h base start disk history'
+  write-ends Done pass ticket i fresh fresh' passes passes' ends extends later late was = late-one _ extends ends.2 later late was
+  write-ends (NotYet same) pass ticket i fresh fresh' passes passes' ends extends later late was = none-more extends ends.2 was
+  write-ends (Failed number) pass ticket i fresh fresh' passes passes' ends extends later late was = late-one _ extends ends.2 later late was
+
+  pub write-still : {answer : Settled} {i n last last' sectors : ℕ} {fresh fresh' : List Bool} {passes passes' : List Pass} {history history' : Numbered} {flies flies' : List Ticket → Type 0} {tells tells' : Type 0} {old new : Disk}
+      → WriteSettled answer i fresh fresh' passes passes' history.log.entries history'.log.entries flies flies' tells tells' old new last last' → Extends (numbers_of answer n) sectors history history' → last_number history.opened history.numbers ≤ n → length disk.log < n
+      → IsStillSafe h base start disk history → IsStillSafe h base start disk history'
+  write-still {answer} {i} {fresh = fresh} {fresh'} {passes} {passes'} step = write-ends answer step.pass step.ticket i fresh fresh' passes passes' step.effect
+
+  -- as a read ends
+  read-ends : (answer : Settled) (pass : Pass) (why : Fault) (content : List Sector) (i : ℕ) (passes passes' : List Pass) (out out' : List Sector) {n sectors : ℕ} {history history' : Numbered} → EndsRead answer pass why content i passes passes' history.log.entries history'.log.entries out out'
+      → Extends (read_numbers_of answer n) sectors history history' → last_number history.opened history.numbers ≤ n → length disk.log < n → IsStillSafe h base start disk history → IsStillSafe h base start disk history'
+  read-ends Done pass why content i passes passes' out out' ends extends later late was = late-one _ extends ends.event later late was
+  read-ends (NotYet same) pass why content i passes passes' out out' ends extends later late was = none-more extends ends.1 was
+  read-ends (Failed number) pass why content i passes passes' out out' ends extends later late was = none-more extends ends.1 was
+
+  pub look-still : {answer : Settled} {i n last last' sectors : ℕ} {passes passes' : List Pass} {history history' : Numbered} {flies flies' : List Ticket → Type 0} {tells tells' : Type 0} {old new : Disk} {out out' : List Sector}
+      → LookSettled answer i passes passes' history.log.entries history'.log.entries flies flies' tells tells' old new last last' out out' → Extends (read_numbers_of answer n) sectors history history' → last_number history.opened history.numbers ≤ n → length disk.log < n
+      → IsStillSafe h base start disk history → IsStillSafe h base start disk history'
+  look-still {answer} {i} {passes = passes} {passes'} {out = out} {out'} step = read-ends answer step.pass (fault.Store step.ticket.number) step.content i passes passes' out out' step.effect
+
+  pub base_look-still : {answer : Settled} {shape : Shape} {i n sectors : ℕ} {passes passes' : List Pass} {history history' : Numbered} {flies flies' : List Ticket → Type 0} {tells : Type 0} {content out out' : List Sector}
+      → BaseLookSettled answer shape i passes passes' history.log.entries history'.log.entries flies flies' tells content out out' → Extends (read_numbers_of answer n) sectors history history' → last_number history.opened history.numbers ≤ n → length disk.log < n
+      → IsStillSafe h base start disk history → IsStillSafe h base start disk history'
+  base_look-still {answer} {i = i} {passes = passes} {passes'} {out = out} {out'} step =
+      read-ends answer step.pass (fault.Base step.ticket.number) (step.content ++ replicate (step.pass.piece - step.ticket.count) zero_sector) i passes passes' out out' step.effect
+
+  -- as a request is asked, or answered at once
+  pub ask-still : {result : Option Answer} {request : Asked} {shape : Shape} {i events : ℕ} {table table' : Given} {passes passes' : List Pass} {history history' : Numbered} {spare spare' : Room} → AskEnds result request shape i table table' passes passes' history history' spare spare' events
+      → last_number history.opened history.numbers ≤ events → length disk.log < events → IsStillSafe h base start disk history → IsStillSafe h base start disk history'
+  ask-still (inl none) later late was = subst (IsStillSafe h base start disk) (sym none.2.history_same) was
+  ask-still (inr (inl full)) later late was = late-two _ _ full.3.extends full.3.asks.event later late was
+  ask-still (inr (inr asked)) later late was = late-one _ asked.1.extends asked.1.asks.event later late was
+
+-- ---- the store stands
+
+-- A core is made. Where its store has stopped, no moment of the log has come since.
+pub opened-stopped : {h : Header} {room : Room} {events : ℕ} {disk : Disk} {base : List Sector} {records tells base_tells : Type 0} → (records → TellsOrStopped tells events disk)
+    → records → base_tells → tells ⊎ IsSafelyStopped h (empty_history room events) events disk base
+opened-stopped {disk = disk} stands recorded base_told = elim (stands recorded) [
+  | inl told ↦ inl told
+  | inr stopped ↦ inr (record {
+    stopped = stopped;
+    safe = λ start is safe. record {
+      each = refl;
+      rising = tt;
+      crash_safe = record {
+        sound = λ k image low within left. absurd (omega (arith, low, within, stopped));
+        allowed = λ k image low within left. absurd (omega (arith, low, within, stopped));
+      };
+    };
+  })
+]
+
+-- nothing of the store and the base has changed
+pub stopped-same : {h : Header} {history history' : Numbered} {events : ℕ} {disk : Disk} {base : List Sector} {records tells base_tells : Type 0} → (records → base_tells → tells ⊎ IsSafelyStopped h history events disk base)
+    → history'.opened ≡ history.opened → (length disk.log < events → (start : List Sector) → IsStillSafe h base start disk history → IsStillSafe h base start disk history')
+    → records → base_tells → tells ⊎ IsSafelyStopped h history' events disk base
+stopped-same {h} {history} {history'} {events} {disk} {base} was opened next recorded base_told = elim (was recorded base_told) [
+  | inl told ↦ inl told
+  | inr before ↦ inr (record {
+    stopped = before.stopped;
+    safe = λ start is safe. next before.stopped start (before.safe start (subst (λ (n : ℕ). IsStart (opening_at n disk) base h start) opened is) (subst (λ (n : ℕ). WasSafe (opening_at n disk) h) opened safe));
+  })
+]
+
+-- the base has had a call
+pub stopped-here : {h : Header} {history : Numbered} {events base_sectors base_sectors' base_depth base_depth' : ℕ} {disk : Disk} {base base' : List Sector} {records tells base_tells base_tells' : Type 0}
+    → (records → base_tells → tells ⊎ IsSafelyStopped h history events disk base) → BaseStays base_sectors base_sectors' base_depth base_depth' base_tells base_tells' base base'
+    → records → base_tells' → tells ⊎ IsSafelyStopped h history events disk base'
+stopped-here {h} {history} {events} {disk = disk} {base} {base'} {tells = tells} was stays recorded base_told =
+    subst (λ (b : List Sector). tells ⊎ IsSafelyStopped h history events disk b) (sym (stays.content_same base_told)) (was recorded (stays.told_before base_told))
+
+module _ {h : Header} {entries : List MapEntry} {table : Given} {fresh : List Bool} {k : Keeping} {flusher : Option ℕ} {passes : List Pass} {history : Numbered} {events sectors : ℕ} {disk : Disk} {base : List Sector} {records tells base_tells : Type 0}
+    (safely : tells → base_tells → IsSafelyKept h entries table fresh k flusher passes history disk base sectors) (was : records → base_tells → tells ⊎ IsSafelyStopped h history events disk base) where
+  -- whether it tells or has stopped, the history is crash safe by the log as it stands
+  pub still-safe : records → base_tells → (start : List Sector) → IsStart (opening_at history.opened disk) base h start → WasSafe (opening_at history.opened disk) h → IsStillSafe h base start disk history
+  still-safe recorded base_told start is safe = elim (was recorded base_told) [
+    | inl told ↦
+        let here = safely told base_told in
+        let secured = here.secured start is safe in
+        record {
+          each = secured.1.mirrors.many;
+          rising = secured-rising (opening_for h entries disk.start secured.0 base start history.opened) table fresh k flusher passes history disk.log secured.1;
+          crash_safe = safely-words here start is safe;
+        }
+    | inr stopped ↦ stopped.safe start is safe
+  ]
+
+  -- The store has had a call. If it has stopped, in it or before, its log stands as it stood.
+  pub stopped-on : {history' : Numbered} {events' : ℕ} {disk' : Disk} {records' tells' : Type 0} → (records' → records) → (records' → TellsOrStood tells' events' disk disk') → history'.opened ≡ history.opened
+      → (length disk.log < events' → (start : List Sector) → IsStillSafe h base start disk history → IsStillSafe h base start disk history')
+      → records' → base_tells → tells' ⊎ IsSafelyStopped h history' events' disk' base
+  stopped-on {history'} {events'} {disk'} recorded_before stands opened next recorded base_told = elim (stands recorded) [
+    | inl told ↦ inl told
+    | inr stood ↦ inr (record {
+      stopped = stood.stopped;
+      safe = λ start is safe.
+          let same : opening_at history'.opened disk' ≡ opening_at history.opened disk =
+          ap (λ (n : ℕ). opening_at n disk') opened ∙ ap (λ (xs : List Sector). opening_at history.opened (record { start = xs; log = disk'.log; held = disk'.held })) stood.start
+          ∙ ap (λ (xs : List Entry). opening_at history.opened (record { start = disk.start; log = xs; held = disk'.held })) stood.log in
+          let late : length disk.log < events' = (let long = ap length stood.log in omega (arith, long, stood.stopped)) in
+          let before = still-safe (recorded_before recorded) base_told start (subst (λ (o : Opening). IsStart o base h start) same is) (subst (λ (o : Opening). WasSafe o h) same safe) in
+          as_before stood (next late start before);
+    })
+  ]
+    where
+      as_before : {start : List Sector} → HasStood events' disk disk' → IsStillSafe h base start disk history' → IsStillSafe h base start disk' history'
+      as_before {start} stood still = record {
+        each = still.each;
+        rising = still.rising;
+        crash_safe = subst (λ (xs : List Sector). IsCrashSafe (format_of h) (layout_of h) (base_at zero_sector base) zero_sector xs disk'.log start history') (sym stood.start)
+            (subst (λ (xs : List Entry). IsCrashSafe (format_of h) (layout_of h) (base_at zero_sector base) zero_sector disk.start xs start history') (sym stood.log) still.crash_safe);
+      }
