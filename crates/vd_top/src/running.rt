@@ -286,14 +286,7 @@ pub fn run<S: Store, B: Base, I: Source, O: Sink>(
         Ok(state) => state,
         Err(line) => return unserved(say(out, line), store, base),
     };
-    match serve_trace(
-        alloc,
-        &trace,
-        state,
-        sectors.as_mut_slice(),
-        store,
-        base,
-    ) {
+    match serve_trace(alloc, &trace, state, sectors.as_mut_slice(), store, base) {
         Ok(served) => leave(out, &trace, served, sectors.as_mut_slice()),
         Err(Unopened { store, base }) => unserved(say(out, Line::NoMemory), store, base),
     }
