@@ -168,6 +168,24 @@ fn front_of(sectors: &[Sector], run: Stretch, first: &Sector, count: usize) -> O
     }
 }
 
+/// Puts a run of copies of a sector behind the sectors, one by one: a function pays at each call for a local array of them.
+fn keep_run(sectors: &mut Vec<Sector>, first: &Sector) -> Stretch
+    requires { length sectors.old.items + 64 ≤ vec_capacity sectors.old }
+    ensures place { result.start ≡ length sectors.old.items }
+    ensures count { result.count ≡ 64 }
+    ensures sectors { sectors.new.items ≡ sectors.old.items ++ replicate 64 first.now }
+    ensures room { vec_capacity sectors.old ≤ vec_capacity sectors.new }
+{
+    let run = Stretch {
+        start: sectors.len(),
+        count: RUN,
+    };
+    for _ in 0..RUN {
+        let _ = sectors.push(*first);
+    }
+    run
+}
+
 /// The place of a run of copies of this sector.
 fn run_place(sector: &Sector) -> usize
     ensures { result < 256 }
@@ -198,7 +216,7 @@ fn share_copies(
     if found.is_some() || count < 2 || count > RUN || shared.spare < RUN {
         return found;
     }
-    let run = keep(sectors, &[*first; RUN]);
+    let run = keep_run(sectors, first);
     shared.runs[place] = run;
     shared.spare -= RUN;
     Some(Stretch {

@@ -16,18 +16,18 @@ front_of-found-requires-clause-run c =
 
 pub returns-clause-content : goal.returns-clause-content
 returns-clause-content c =
-    let kept = c.keep-run.ensures in let most = c.if-count-gt-RUN.false in
-    ap (λ (zs : List Sector). content_at zs (record { start = c.keep-run.result.start; count = c.args.count })) kept.sectors
-    ∙ kept-copies c.args.sectors.now.items c.args.first.now 64 c.args.count c.keep-run.result kept.place (omega (arith, most))
+    let kept = c.keep_run-run.ensures in let most = c.if-count-gt-RUN.false in
+    ap (λ (zs : List Sector). content_at zs (record { start = c.keep_run-run.result.start; count = c.args.count })) kept.sectors
+    ∙ kept-copies c.args.sectors.now.items c.args.first.now 64 c.args.count c.keep_run-run.result kept.place (omega (arith, most))
 
 pub returns-clause-shared : goal.returns-clause-shared
 returns-clause-shared c =
-    let kept = c.keep-run.ensures in let copies : List Sector = replicate 64 c.args.first.now in
+    let kept = c.keep_run-run.ensures in let copies : List Sector = replicate 64 c.args.first.now in
     let is = subst (λ (zs : List Sector). IsShared zs c.args.shared.now) (sym kept.sectors) (shared-append c.args.sectors.now.items copies c.args.shared.now c.requires.shared) in record {
       next = is.next;
       places = is.places;
       each_place = is.each_place;
       runs = length-set _ _ _ ∙ is.runs;
-      each_run = All-set (IsRun c.keep-run.new.sectors.items) c.args.shared.now.runs.items c.run_place-place.result c.keep-run.result
-          (subst (λ (zs : List Sector). IsRun zs c.keep-run.result) (sym kept.sectors) (kept-run c.args.sectors.now.items c.args.first.now 64 c.keep-run.result kept.place kept.count)) is.each_run;
+      each_run = All-set (IsRun c.keep_run-run.new.sectors.items) c.args.shared.now.runs.items c.run_place-place.result c.keep_run-run.result
+          (subst (λ (zs : List Sector). IsRun zs c.keep_run-run.result) (sym kept.sectors) (kept-run c.args.sectors.now.items c.args.first.now 64 c.keep_run-run.result kept.place kept.count)) is.each_run;
     }
