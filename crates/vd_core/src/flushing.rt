@@ -62,6 +62,7 @@ impl<S: Store, B: Base> Core<S, B> {
         ensures told_before { S.tells self.new.store → S.tells self.old.store }
         ensures others { self.new ≡ record self.old { store = self.new.store; keeping = self.new.keeping; flusher = self.new.flusher; passes = self.new.passes; opening = self.new.opening } }
         ensures opening { S.tells self.new.store → self.new.opening ≡ self.old.opening }
+        ensures opening_stands { S.records self.new.store → self.new.opening ≡ self.old.opening }
     {
         if let Some(by) = self.flusher {
             return Begun::Busy { by };
@@ -93,6 +94,7 @@ impl<S: Store, B: Base> Core<S, B> {
         ensures stays { Stays (S.sectors self.old.store) (S.sectors self.new.store) (S.depth self.old.store) (S.depth self.new.store) (S.events self.old.store) (S.events self.new.store) }
         ensures others { self.new ≡ record self.old { store = self.new.store; keeping = self.new.keeping; passes = self.new.passes; opening = self.new.opening } }
         ensures opening { S.tells self.new.store → self.new.opening ≡ self.old.opening }
+        ensures opening_stands { S.records self.new.store → self.new.opening ≡ self.old.opening }
     {
         metadata::put(
             &mut self.store,
@@ -115,6 +117,7 @@ impl<S: Store, B: Base> Core<S, B> {
         ensures stays { Stays (S.sectors self.old.store) (S.sectors self.new.store) (S.depth self.old.store) (S.depth self.new.store) (S.events self.old.store) (S.events self.new.store) }
         ensures others { self.new ≡ record self.old { store = self.new.store; passes = self.new.passes; opening = self.new.opening } }
         ensures opening { S.tells self.new.store → self.new.opening ≡ self.old.opening }
+        ensures opening_stands { S.records self.new.store → self.new.opening ≡ self.old.opening }
     {
         metadata::sync(&mut self.store, &mut self.passes, pass as usize);
     }
@@ -131,6 +134,7 @@ impl<S: Store, B: Base> Core<S, B> {
         ensures recorded_before { S.records self.new.store → S.records self.old.store }
         ensures others { self.new ≡ record self.old { store = self.new.store; keeping = self.new.keeping; flusher = self.new.flusher; passes = self.new.passes; opening = self.new.opening } }
         ensures opening { S.tells self.new.store → self.new.opening ≡ self.old.opening }
+        ensures opening_stands { S.records self.new.store → self.new.opening ≡ self.old.opening }
     {
         let outcome = metadata::settle(
             &mut self.store,

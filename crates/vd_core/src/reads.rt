@@ -30,6 +30,7 @@ impl<S: Store, B: Base> Core<S, B> {
         ensures stays { Stays (S.sectors self.old.store) (S.sectors self.new.store) (S.depth self.old.store) (S.depth self.new.store) (S.events self.old.store) (S.events self.new.store) }
         ensures others { self.new ≡ record self.old { store = self.new.store; passes = self.new.passes; opening = self.new.opening } }
         ensures opening { S.tells self.new.store → self.new.opening ≡ self.old.opening }
+        ensures opening_stands { S.records self.new.store → self.new.opening ≡ self.old.opening }
     {
         look_at_store(
             &mut self.store,
@@ -86,6 +87,7 @@ impl<S: Store, B: Base> Core<S, B> {
         ensures base_same { IsAt self.old.passes pass (λ p. (slice_get self.old.fresh p.block ≡ Some true) ⊎ (below self.old.shape.limit (p.first + p.done) p.piece ≡ 0) → self.new.base ≡ self.old.base) }
         ensures others { self.new ≡ record self.old { store = self.new.store; base = self.new.base; passes = self.new.passes; history = self.new.history; opening = self.new.opening } }
         ensures opening { S.tells self.new.store → self.new.opening ≡ self.old.opening }
+        ensures opening_stands { S.records self.new.store → self.new.opening ≡ self.old.opening }
         ensures told_before { S.tells self.new.store → S.tells self.old.store }
         ensures base_told_before { B.tells self.new.base → B.tells self.old.base }
     {
@@ -111,6 +113,7 @@ impl<S: Store, B: Base> Core<S, B> {
         ensures recorded_before { S.records self.new.store → S.records self.old.store }
         ensures others { self.new ≡ record self.old { store = self.new.store; passes = self.new.passes; history = self.new.history; opening = self.new.opening } }
         ensures opening { S.tells self.new.store → self.new.opening ≡ self.old.opening }
+        ensures opening_stands { S.records self.new.store → self.new.opening ≡ self.old.opening }
     {
         let outcome = settle_store_look(
             &mut self.store,
@@ -165,6 +168,7 @@ impl<S: Store, B: Base> Core<S, B> {
         ensures base_same { IsAt self.old.passes pass (λ p. IsSome p.ticket → self.new.base ≡ self.old.base) }
         ensures others { self.new ≡ record self.old { store = self.new.store; base = self.new.base; passes = self.new.passes; history = self.new.history; opening = self.new.opening } }
         ensures opening { S.tells self.new.store → self.new.opening ≡ self.old.opening }
+        ensures opening_stands { S.records self.new.store → self.new.opening ≡ self.old.opening }
         ensures told_before { S.tells self.new.store → S.tells self.old.store }
         ensures base_told_before { B.tells self.new.base → B.tells self.old.base }
     {

@@ -87,6 +87,7 @@ impl<S: Store, B: Base> Core<S, B> {
         ensures stays { Stays (S.sectors self.old.store) (S.sectors self.new.store) (S.depth self.old.store) (S.depth self.new.store) (S.events self.old.store) (S.events self.new.store) }
         ensures others { self.new ≡ record self.old { store = self.new.store; passes = self.new.passes; history = self.new.history; opening = self.new.opening } }
         ensures opening { S.tells self.new.store → self.new.opening ≡ self.old.opening }
+        ensures opening_stands { S.records self.new.store → self.new.opening ≡ self.old.opening }
     {
         issue_piece(
             &mut self.store,
@@ -111,6 +112,7 @@ impl<S: Store, B: Base> Core<S, B> {
         ensures recorded_before { S.records self.new.store → S.records self.old.store }
         ensures others { self.new ≡ record self.old { store = self.new.store; fresh = self.new.fresh; keeping = self.new.keeping; passes = self.new.passes; history = self.new.history; opening = self.new.opening } }
         ensures opening { S.tells self.new.store → self.new.opening ≡ self.old.opening }
+        ensures opening_stands { S.records self.new.store → self.new.opening ≡ self.old.opening }
     {
         let outcome = settle_write(
             &mut self.store,

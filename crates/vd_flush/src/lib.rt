@@ -26,6 +26,7 @@ fn go_on<S: Store, B: Base>(core: &mut Core<S, B>, pass: u32) -> Step
     ensures store { LeavesStore (S.sectors core.old.store) (S.sectors core.new.store) (S.depth core.old.store) (S.depth core.new.store) (S.events core.old.store) (S.events core.new.store) (S.faults core.old.store) (S.faults core.new.store) (S.late core.old.store) (S.late core.new.store) (S.tells core.old.store) (S.tells core.new.store) (S.records core.old.store) (S.records core.new.store) }
     ensures base { core.new.base ≡ core.old.base }
     ensures opening { S.tells core.new.store → core.new.opening ≡ core.old.opening }
+    ensures opening_stands { S.records core.new.store → core.new.opening ≡ core.old.opening }
 {
     if core.is_waiting(pass) {
         return core.settle_meta(pass);
@@ -62,6 +63,7 @@ impl Flusher {
         ensures store { LeavesStore (S.sectors core.old.store) (S.sectors core.new.store) (S.depth core.old.store) (S.depth core.new.store) (S.events core.old.store) (S.events core.new.store) (S.faults core.old.store) (S.faults core.new.store) (S.late core.old.store) (S.late core.new.store) (S.tells core.old.store) (S.tells core.new.store) (S.records core.old.store) (S.records core.new.store) }
         ensures base { core.new.base ≡ core.old.base }
         ensures opening { S.tells core.new.store → core.new.opening ≡ core.old.opening }
+        ensures opening_stands { S.records core.new.store → core.new.opening ≡ core.old.opening }
     {
         match core.phase(pass) {
             Phase::Asked => match core.begin_flush(pass, Route::Owed) {

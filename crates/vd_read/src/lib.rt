@@ -38,6 +38,7 @@ impl Reader {
         ensures store { LeavesStore (S.sectors core.old.store) (S.sectors core.new.store) (S.depth core.old.store) (S.depth core.new.store) (S.events core.old.store) (S.events core.new.store) (S.faults core.old.store) (S.faults core.new.store) (S.late core.old.store) (S.late core.new.store) (S.tells core.old.store) (S.tells core.new.store) (S.records core.old.store) (S.records core.new.store) }
         ensures base { LeavesBase (B.sectors core.old.base) (B.sectors core.new.base) (B.depth core.old.base) (B.depth core.new.base) (B.faults core.old.base) (B.faults core.new.base) (B.late core.old.base) (B.late core.new.base) (B.tells core.old.base) (B.tells core.new.base) (B.content core.old.base) (B.content core.new.base) }
         ensures opening { S.tells core.new.store → core.new.opening ≡ core.old.opening }
+        ensures opening_stands { S.records core.new.store → core.new.opening ≡ core.old.opening }
         ensures room { length out.new ≡ length out.old }
     {
         match core.phase(pass) {

@@ -30,6 +30,7 @@ fn serve_write<S: Store, B: Base>(
     ensures serves { Serves (Write first content.now) core.old.shape.block core.old.history.log.entries core.new.history.log.entries core.old.spare core.new.spare }
     ensures disk { IsSameDisk core.old core.new }
     ensures opening { S.tells core.new.store.inner → core.new.opening ≡ core.old.opening }
+    ensures opening_stands { S.records core.new.store.inner → core.new.opening ≡ core.old.opening }
     ensures store { KeepsStore S.sectors S.depth S.events S.faults S.tells S.records core.old.store.inner core.new.store.inner }
     ensures base { KeepsBase B.sectors B.depth B.faults B.tells B.content core.old.base.inner core.new.base.inner }
 {
@@ -51,6 +52,7 @@ fn serve_read<S: Store, B: Base>(
     ensures serves { Serves (Read first (length out.old)) core.old.shape.block core.old.history.log.entries core.new.history.log.entries core.old.spare core.new.spare }
     ensures disk { IsSameDisk core.old core.new }
     ensures opening { S.tells core.new.store.inner → core.new.opening ≡ core.old.opening }
+    ensures opening_stands { S.records core.new.store.inner → core.new.opening ≡ core.old.opening }
     ensures store { KeepsStore S.sectors S.depth S.events S.faults S.tells S.records core.old.store.inner core.new.store.inner }
     ensures base { KeepsBase B.sectors B.depth B.faults B.tells B.content core.old.base.inner core.new.base.inner }
 {
@@ -71,6 +73,7 @@ fn flush<S: Store, B: Base>(core: &mut Core<Patient<S>, Patient<B>>, pass: u32) 
     ensures room { (core.old.spare.events ≤ core.new.spare.events + 2) × (core.old.spare.sectors ≤ core.new.spare.sectors) }
     ensures disk { IsSameDisk core.old core.new }
     ensures opening { S.tells core.new.store.inner → core.new.opening ≡ core.old.opening }
+    ensures opening_stands { S.records core.new.store.inner → core.new.opening ≡ core.old.opening }
     ensures store { KeepsStore S.sectors S.depth S.events S.faults S.tells S.records core.old.store.inner core.new.store.inner }
     ensures base { KeepsBase B.sectors B.depth B.faults B.tells B.content core.old.base.inner core.new.base.inner }
 {
@@ -102,6 +105,7 @@ fn serve_one<S: Store, B: Base>(
     ensures serves { Serves (request_of asked sectors.old) core.old.shape.block core.old.history.log.entries core.new.history.log.entries core.old.spare core.new.spare }
     ensures disk { IsSameDisk core.old core.new }
     ensures opening { S.tells core.new.store.inner → core.new.opening ≡ core.old.opening }
+    ensures opening_stands { S.records core.new.store.inner → core.new.opening ≡ core.old.opening }
     ensures store { KeepsStore S.sectors S.depth S.events S.faults S.tells S.records core.old.store.inner core.new.store.inner }
     ensures base { KeepsBase B.sectors B.depth B.faults B.tells B.content core.old.base.inner core.new.base.inner }
 {
@@ -131,6 +135,7 @@ pub fn serve<S: Store, B: Base>(
     ensures room { Suffices (pass_need_of core.new.shape.block Flush) core.new.spare }
     ensures disk { IsSameDisk core.old core.new }
     ensures opening { S.tells core.new.store.inner → core.new.opening ≡ core.old.opening }
+    ensures opening_stands { S.records core.new.store.inner → core.new.opening ≡ core.old.opening }
     ensures store { KeepsStore S.sectors S.depth S.events S.faults S.tells S.records core.old.store.inner core.new.store.inner }
     ensures base { KeepsBase B.sectors B.depth B.faults B.tells B.content core.old.base.inner core.new.base.inner }
 {
@@ -150,6 +155,7 @@ pub fn close<S: Store, B: Base>(core: &mut Core<Patient<S>, Patient<B>>) -> Answ
     ensures closed { Closes result core.old.history.log.entries core.new.history.log.entries }
     ensures disk { IsSameDisk core.old core.new }
     ensures opening { S.tells core.new.store.inner → core.new.opening ≡ core.old.opening }
+    ensures opening_stands { S.records core.new.store.inner → core.new.opening ≡ core.old.opening }
     ensures store { KeepsStore S.sectors S.depth S.events S.faults S.tells S.records core.old.store.inner core.new.store.inner }
     ensures base { KeepsBase B.sectors B.depth B.faults B.tells B.content core.old.base.inner core.new.base.inner }
 {

@@ -35,7 +35,9 @@ use Rattle.vd_core.specs.Devices.{Stays, BaseStays}
 use Rattle.vd_core.specs.Outcomes.{numbers_of, read_numbers_of}
 use Rattle.vd_core.specs.Opening.{empty_history}
 use Rattle.vd_core.specs.Start.{Opening, opening_at, IsStart, WasSafe}
-use Rattle.vd_core.specs.Kept.{IsRoomy, IsSafelyKept, IsStillSafe, IsSafelyStopped}
+use Rattle.vd_core.specs.Kept.{IsRoomy, IsLogged, IsSafelyKept, IsStillSafe, IsSafelyStopped}
+use Rattle.vd_core.proofs.Starting.{GoesOn}
+use Rattle.vd_core.proofs.Keeping.Telling.{same-opening}
 use Rattle.vd_core.proofs.Securing.Words.{safely-words}
 
 -- the numbers are not above the events that there are after a call
@@ -128,6 +130,20 @@ module _ {h : Header} {base start : List Sector} {disk : Disk} where
 
 -- ---- the store stands
 
+-- It told at opening what it had told, since its log stands.
+stood-opening : {events' opened opened' : ℕ} {disk disk' : Disk} → HasStood events' disk disk' → opened' ≡ opened → opening_at opened' disk' ≡ opening_at opened disk
+stood-opening {opened = opened} {disk = disk} {disk'} stood same =
+    ap (λ (n : ℕ). opening_at n disk') same ∙ ap (λ (xs : List Sector). opening_at opened (record { start = xs; log = disk'.log; held = disk'.held })) stood.start
+    ∙ ap (λ (xs : List Entry). opening_at opened (record { start = disk.start; log = xs; held = disk'.held })) stood.log
+
+-- What the store had told at opening is the same after a call, whether the store tells then or has stopped.
+pub opening-stands : {passes : List Pass} {history : Numbered} {events' opened : ℕ} {disk disk' : Disk} {tells records' tells' : Type 0} → (tells → IsLogged passes history disk) → (tells' → tells) → (tells' → GoesOn disk disk')
+    → (records' → TellsOrStood tells' events' disk disk') → opened ≡ history.opened → records' → opening_at opened disk' ≡ opening_at history.opened disk
+opening-stands logged told_before on stands same recorded = elim (stands recorded) [
+  | inl told ↦ same-opening (logged (told_before told)) (on told) same
+  | inr stood ↦ stood-opening stood same
+]
+
 -- A core is made. Where its store has stopped, no moment of the log has come since.
 pub opened-stopped : {h : Header} {room : Room} {events : ℕ} {disk : Disk} {base : List Sector} {records tells base_tells : Type 0} → (records → TellsOrStopped tells events disk)
     → records → base_tells → tells ⊎ IsSafelyStopped h (empty_history room events) events disk base
@@ -190,9 +206,7 @@ module _ {h : Header} {entries : List MapEntry} {table : Given} {fresh : List Bo
     | inr stood ↦ inr (record {
       stopped = stood.stopped;
       safe = λ start is safe.
-          let same : opening_at history'.opened disk' ≡ opening_at history.opened disk =
-          ap (λ (n : ℕ). opening_at n disk') opened ∙ ap (λ (xs : List Sector). opening_at history.opened (record { start = xs; log = disk'.log; held = disk'.held })) stood.start
-          ∙ ap (λ (xs : List Entry). opening_at history.opened (record { start = disk.start; log = xs; held = disk'.held })) stood.log in
+          let same = stood-opening stood opened in
           let late : length disk.log < events' = (let long = ap length stood.log in omega (arith, long, stood.stopped)) in
           let before = still-safe (recorded_before recorded) base_told start (subst (λ (o : Opening). IsStart o base h start) same is) (subst (λ (o : Opening). WasSafe o h) same safe) in
           as_before stood (next late start before);

@@ -18,6 +18,7 @@ loop-answer-init g c =
       room = (asked.1, asked.2);
       disk = ask-disk c.args.core.now c.ask.new.self c.ask.result c.ask.ensures.ends others;
       opening = λ told. ask-opening c.args.core.now c.ask.new.self others;
+      opening_stands = λ recorded. ask-opening c.args.core.now c.ask.new.self others;
       store = store-same g.S.Store.sectors g.S.Store.depth g.S.Store.events g.S.Store.faults g.S.Store.tells g.S.Store.records (ap (λ (p : Patient _). p.inner) (ask-store c.args.core.now c.ask.new.self others));
       base = base-same g.B.Base.sectors g.B.Base.depth g.B.Base.faults g.B.Base.tells g.B.Base.content (ap (λ (p : Patient _). p.inner) (ask-base c.args.core.now c.ask.new.self others));
     }
@@ -32,6 +33,7 @@ loop-answer-preserved g c =
       room = flush-spends drives now.room;
       disk = disk-then now.disk (flush-disk c.loop-answer.core c.next.new.core next.disk next.counted);
       opening = λ told. next.opening told ∙ now.opening (next.store.told_before told);
+      opening_stands = λ recorded. next.opening_stands recorded ∙ now.opening_stands (next.store.recorded_before recorded);
       store = store-then now.store next.store;
       base = base-then now.base (base-same g.B.Base.sectors g.B.Base.depth g.B.Base.faults g.B.Base.tells g.B.Base.content (ap (λ (p : Patient _). p.inner) next.base));
     }
@@ -44,6 +46,7 @@ returns-in-Ended g c =
       room = flush-spends drives now.room;
       disk = disk-then now.disk (flush-disk c.loop-answer.core c.next.new.core next.disk next.counted);
       opening = λ told. next.opening told ∙ now.opening (next.store.told_before told);
+      opening_stands = λ recorded. next.opening_stands recorded ∙ now.opening_stands (next.store.recorded_before recorded);
       store = store-then now.store next.store;
       base = base-then now.base (base-same g.B.Base.sectors g.B.Base.depth g.B.Base.faults g.B.Base.tells g.B.Base.content (ap (λ (p : Patient _). p.inner) next.base));
     }

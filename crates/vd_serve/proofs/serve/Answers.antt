@@ -15,6 +15,7 @@ loop-at-init g c = record {
   serving = none-served c.requires.unused (guest-suffices c.args.core.now.shape.block 1 c.args.trace.now.asks c.args.core.now.spare c.requires.room);
   disk = same-disk;
   opening = λ told. refl;
+  opening_stands = λ recorded. refl;
   store = store-same g.S.Store.sectors g.S.Store.depth g.S.Store.events g.S.Store.faults g.S.Store.tells g.S.Store.records refl;
   base = base-same g.B.Base.sectors g.B.Base.depth g.B.Base.faults g.B.Base.tells g.B.Base.content refl;
 }
@@ -38,6 +39,7 @@ loop-at-preserved g c =
       serving = one-served asked c.request-asked.ensures.request one.resting serves now.serving;
       disk = disk-then now.disk one.disk;
       opening = λ told. one.opening told ∙ now.opening (one.store.told_before told);
+      opening_stands = λ recorded. one.opening_stands recorded ∙ now.opening_stands (one.store.recorded_before recorded);
       store = store-then now.store one.store;
       base = base-then now.base one.base;
     }

@@ -17,6 +17,7 @@ loop-init g c =
       serves = ask-serves c.ask.result c.requires.can.room ends;
       disk = ask-disk c.args.core.now c.ask.new.self c.ask.result ends others;
       opening = λ told. ask-opening c.args.core.now c.ask.new.self others;
+      opening_stands = λ recorded. ask-opening c.args.core.now c.ask.new.self others;
       store = store-same g.S.Store.sectors g.S.Store.depth g.S.Store.events g.S.Store.faults g.S.Store.tells g.S.Store.records (ap (λ (p : Patient _). p.inner) (ask-store c.args.core.now c.ask.new.self others));
       base = base-same g.B.Base.sectors g.B.Base.depth g.B.Base.faults g.B.Base.tells g.B.Base.content (ap (λ (p : Patient _). p.inner) (ask-base c.args.core.now c.ask.new.self others));
     }
@@ -31,6 +32,7 @@ loop-preserved g c =
       serves = serves-on drives now.serves;
       disk = disk-then now.disk (step-disk c.loop.core c.next.new.core next.shape next.storage);
       opening = λ told. next.opening told ∙ now.opening (next.store.told_before told);
+      opening_stands = λ recorded. next.opening_stands recorded ∙ now.opening_stands (next.store.recorded_before recorded);
       store = store-then now.store next.store;
       base = base-then now.base next.base;
     }
@@ -42,6 +44,7 @@ returns g c =
       serves = serves-on next.drives now.serves;
       disk = disk-then now.disk (step-disk c.loop.core c.next.new.core next.shape next.storage);
       opening = λ told. next.opening told ∙ now.opening (next.store.told_before told);
+      opening_stands = λ recorded. next.opening_stands recorded ∙ now.opening_stands (next.store.recorded_before recorded);
       store = store-then now.store next.store;
       base = base-then now.base next.base;
     }

@@ -10,6 +10,7 @@ invariant-loop g l = record {
   serves : Serves (Read l.first (length l.fn.out)) l.fn.core.shape.block l.fn.core.history.log.entries l.core.history.log.entries l.fn.core.spare l.core.spare;
   disk : IsSameDisk l.fn.core l.core;
   opening : g.S.Store.tells l.core.store.inner → l.core.opening ≡ l.fn.core.opening;
+  opening_stands : g.S.Store.records l.core.store.inner → l.core.opening ≡ l.fn.core.opening;
   store : KeepsStore g.S.Store.sectors g.S.Store.depth g.S.Store.events g.S.Store.faults g.S.Store.tells g.S.Store.records l.fn.core.store.inner l.core.store.inner;
   base : KeepsBase g.B.Base.sectors g.B.Base.depth g.B.Base.faults g.B.Base.tells g.B.Base.content l.fn.core.base.inner l.core.base.inner;
 }

@@ -3,7 +3,7 @@ use Rattle.vd_core.proofs.Keeping.FlushingReady.{asked-flush, flush-place, begin
 use Rattle.vd_core.proofs.Keeping.Flushing.{stays-by, submit-kept, submit-told, submit-accounted, submit-logged, submit-opening, end-kept, end-told, end-accounted, end-logged}
 use Rattle.vd_core.proofs.Keeping.Telling.{same-opening}
 use Rattle.vd_core.proofs.Securing.Flushing.{begin-safely, worn-safely}
-use Rattle.vd_core.proofs.Securing.Stopping.{stopped-on}
+use Rattle.vd_core.proofs.Securing.Stopping.{stopped-on, opening-stands}
 use Rattle.vd_core.proofs.state.Core.begin_flush.Goals as goal
 
 pub begin-going-requires : goal.begin-going-requires
@@ -50,3 +50,7 @@ returns-then-going-clause-told_before g c = rw (sym c.self.view_is) (c.begin-goi
 pub returns-then-going-clause-opening : goal.returns-then-going-clause-opening
 returns-then-going-clause-opening g c = let step = (c.begin-going.ensures.begun c.if-going.true c.self.inside.shape).sends in
     rw (sym c.self.view_is) (λ told. same-opening (c.self.invariant.3 (step.told_before told)) (submit-opening step told) refl)
+
+pub returns-then-going-clause-opening_stands : goal.returns-then-going-clause-opening_stands
+returns-then-going-clause-opening_stands g c = let done = c.begin-going.ensures in let step = (done.begun c.if-going.true c.self.inside.shape).sends in
+    rw (sym c.self.view_is) (opening-stands c.self.invariant.3 step.told_before (submit-opening step) (done.stopped c.if-going.true) refl)

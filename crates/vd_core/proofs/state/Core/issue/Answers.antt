@@ -5,7 +5,7 @@ use Rattle.vd_core.proofs.Keeping.Issuing.{writing-at, issuer-not, can-issue, is
 use Rattle.vd_core.proofs.Keeping.Recording.{issue-recorded}
 use Rattle.vd_core.proofs.Keeping.Telling.{logged-on, same-opening}
 use Rattle.vd_core.proofs.Securing.Issuing.{issue-safely}
-use Rattle.vd_core.proofs.Securing.Stopping.{issue-still, stopped-on}
+use Rattle.vd_core.proofs.Securing.Stopping.{issue-still, stopped-on, opening-stands}
 use Rattle.vd_core.proofs.state.Core.issue.Goals as goal
 
 pub issue_piece-requires-clause-ready : goal.issue_piece-requires-clause-ready
@@ -32,3 +32,7 @@ returns-clause-stays g c = rw (sym c.self.view_is) c.issue_piece.ensures.stays
 pub returns-clause-opening : goal.returns-clause-opening
 returns-clause-opening g c = let done = c.issue_piece.ensures in
     rw (sym c.self.view_is) (λ told. same-opening (c.self.invariant.3 (done.issues.told_before told)) (_, (done.issues.told told).0) done.extends.2.opened)
+
+pub returns-clause-opening_stands : goal.returns-clause-opening_stands
+returns-clause-opening_stands g c = let done = c.issue_piece.ensures in
+    rw (sym c.self.view_is) (opening-stands c.self.invariant.3 done.issues.told_before (λ told. (_, (done.issues.told told).0)) done.stopped done.extends.2.opened)

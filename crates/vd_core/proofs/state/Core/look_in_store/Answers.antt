@@ -5,7 +5,7 @@ use Rattle.vd_core.proofs.Keeping.Looking.{can-look, look-kept, look-told}
 use Rattle.vd_core.proofs.Keeping.Recording.{look-recorded}
 use Rattle.vd_core.proofs.Keeping.Telling.{logged-on, same-opening}
 use Rattle.vd_core.proofs.Securing.Looking.{look-safely}
-use Rattle.vd_core.proofs.Securing.Stopping.{stopped-on}
+use Rattle.vd_core.proofs.Securing.Stopping.{stopped-on, opening-stands}
 use Rattle.vd_core.proofs.state.Core.look_in_store.Goals as goal
 
 pub look_at_store-requires : goal.look_at_store-requires
@@ -31,3 +31,7 @@ returns-clause-looks g c = rw (sym c.self.view_is) c.look_at_store.ensures.looks
 pub returns-clause-opening : goal.returns-clause-opening
 returns-clause-opening g c = let looks = c.look_at_store.ensures.looks in
     rw (sym c.self.view_is) (λ told. same-opening (c.self.invariant.3 (looks.told_before told)) (_, (looks.told told).0) refl)
+
+pub returns-clause-opening_stands : goal.returns-clause-opening_stands
+returns-clause-opening_stands g c = let done = c.look_at_store.ensures in
+    rw (sym c.self.view_is) (opening-stands c.self.invariant.3 done.looks.told_before (λ told. (_, (done.looks.told told).0)) done.stopped refl)

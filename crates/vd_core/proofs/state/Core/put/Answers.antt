@@ -3,7 +3,7 @@ use Rattle.vd_core.proofs.Keeping.FlushingReady.{between-calls, between-due, bet
 use Rattle.vd_core.proofs.Keeping.Flushing.{stays-by, submit-kept, submit-told, submit-accounted, submit-logged, submit-opening}
 use Rattle.vd_core.proofs.Keeping.Telling.{same-opening}
 use Rattle.vd_core.proofs.Securing.Flushing.{put-safely}
-use Rattle.vd_core.proofs.Securing.Stopping.{stopped-on}
+use Rattle.vd_core.proofs.Securing.Stopping.{stopped-on, opening-stands}
 use Rattle.vd_core.proofs.state.Core.put.Goals as goal
 
 pub put-requires-clause-under_way : goal.put-requires-clause-under_way
@@ -39,3 +39,7 @@ returns-clause-puts g c = rw (sym c.self.view_is) (c.put.ensures.puts c.self.ins
 pub returns-clause-opening : goal.returns-clause-opening
 returns-clause-opening g c = let step = (c.put.ensures.puts c.self.inside.shape c.self.invariant.4.attended.storage_at).sends in
     rw (sym c.self.view_is) (λ told. same-opening (c.self.invariant.3 (step.told_before told)) (submit-opening step told) refl)
+
+pub returns-clause-opening_stands : goal.returns-clause-opening_stands
+returns-clause-opening_stands g c = let done = c.put.ensures in let step = (done.puts c.self.inside.shape c.self.invariant.4.attended.storage_at).sends in
+    rw (sym c.self.view_is) (opening-stands c.self.invariant.3 step.told_before (submit-opening step) done.stopped refl)

@@ -10,7 +10,7 @@ use Rattle.vd_core.proofs.Keeping.FlushingReady.{blocks-same}
 use Rattle.vd_core.proofs.Keeping.Recording.{settle_issue-recorded}
 use Rattle.vd_core.proofs.Keeping.Telling.{logged-on, same-opening}
 use Rattle.vd_core.proofs.Securing.Issuing.{settle_issue-safely}
-use Rattle.vd_core.proofs.Securing.Stopping.{write-still, later-still, stopped-on}
+use Rattle.vd_core.proofs.Securing.Stopping.{write-still, later-still, stopped-on, opening-stands}
 use Rattle.vd_core.proofs.state.Core.settle_issue.Goals as goal
 
 pub settle_write-outcome-requires-clause-waiting : goal.settle_write-outcome-requires-clause-waiting
@@ -48,3 +48,7 @@ returns-clause-stays g c = rw (sym c.self.view_is) c.settle_write-outcome.ensure
 pub returns-clause-opening : goal.returns-clause-opening
 returns-clause-opening g c = let settled = c.settle_write-outcome.ensures.settled in
     rw (sym c.self.view_is) (λ told. same-opening (c.self.invariant.3 (settled.2.told_before told)) (settle-goes-on (settled.2.told told)) settled.3.opened)
+
+pub returns-clause-opening_stands : goal.returns-clause-opening_stands
+returns-clause-opening_stands g c = let done = c.settle_write-outcome.ensures in let settled = done.settled in
+    rw (sym c.self.view_is) (opening-stands c.self.invariant.3 settled.2.told_before (λ told. settle-goes-on (settled.2.told told)) done.stopped settled.3.opened)

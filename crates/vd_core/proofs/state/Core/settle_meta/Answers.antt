@@ -7,7 +7,7 @@ use Rattle.vd_core.proofs.Keeping.FlushingReady.{away-call, away-settling, still
 use Rattle.vd_core.proofs.Keeping.Flushing.{stays-by, settle_meta-kept, settle_meta-told, settle_meta-accounted, settle_meta-logged}
 use Rattle.vd_core.proofs.Keeping.Telling.{same-opening}
 use Rattle.vd_core.proofs.Securing.Flushing.{settle_meta-safely}
-use Rattle.vd_core.proofs.Securing.Stopping.{stopped-on}
+use Rattle.vd_core.proofs.Securing.Stopping.{stopped-on, opening-stands}
 use Rattle.vd_core.proofs.state.Core.settle_meta.Goals as goal
 
 pub settle-outcome-requires-clause-waiting : goal.settle-outcome-requires-clause-waiting
@@ -38,3 +38,7 @@ returns-clause-settled g c =
 pub returns-clause-opening : goal.returns-clause-opening
 returns-clause-opening g c = let step = c.settle-outcome.ensures.settled.2.settles in
     rw (sym c.self.view_is) (λ told. same-opening (c.self.invariant.3 (step.told_before told)) (settle-goes-on (step.told told)) refl)
+
+pub returns-clause-opening_stands : goal.returns-clause-opening_stands
+returns-clause-opening_stands g c = let done = c.settle-outcome.ensures in let step = done.settled.2.settles in
+    rw (sym c.self.view_is) (opening-stands c.self.invariant.3 step.told_before (λ told. settle-goes-on (step.told told)) done.stopped refl)

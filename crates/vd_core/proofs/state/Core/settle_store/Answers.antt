@@ -9,7 +9,7 @@ use Rattle.vd_core.proofs.Starting.{settle-goes-on}
 use Rattle.vd_core.proofs.Keeping.Recording.{settle_look-recorded}
 use Rattle.vd_core.proofs.Keeping.Telling.{logged-on, same-opening}
 use Rattle.vd_core.proofs.Securing.Looking.{settle_look-safely}
-use Rattle.vd_core.proofs.Securing.Stopping.{look-still, later-still, stopped-on}
+use Rattle.vd_core.proofs.Securing.Stopping.{look-still, later-still, stopped-on, opening-stands}
 use Rattle.vd_core.proofs.state.Core.settle_store.Goals as goal
 
 pub settle_store_look-outcome-requires-clause-waiting : goal.settle_store_look-outcome-requires-clause-waiting
@@ -41,3 +41,7 @@ invariant_of-self g c =
 pub returns-clause-opening : goal.returns-clause-opening
 returns-clause-opening g c = let settled = c.settle_store_look-outcome.ensures.settled in
     rw (sym c.self.view_is) (λ told. same-opening (c.self.invariant.3 (settled.2.told_before told)) (settle-goes-on (settled.2.told told)) settled.3.2.opened)
+
+pub returns-clause-opening_stands : goal.returns-clause-opening_stands
+returns-clause-opening_stands g c = let done = c.settle_store_look-outcome.ensures in let settled = done.settled in
+    rw (sym c.self.view_is) (opening-stands c.self.invariant.3 settled.2.told_before (λ told. settle-goes-on (settled.2.told told)) done.stopped settled.3.2.opened)

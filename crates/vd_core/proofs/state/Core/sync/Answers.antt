@@ -3,7 +3,7 @@ use Rattle.vd_core.proofs.Keeping.FlushingReady.{between-calls, flush-place, syn
 use Rattle.vd_core.proofs.Keeping.Flushing.{stays-by, submit-kept, submit-told, submit-accounted, submit-logged, submit-opening}
 use Rattle.vd_core.proofs.Keeping.Telling.{same-opening}
 use Rattle.vd_core.proofs.Securing.Flushing.{sync-safely}
-use Rattle.vd_core.proofs.Securing.Stopping.{stopped-on}
+use Rattle.vd_core.proofs.Securing.Stopping.{stopped-on, opening-stands}
 use Rattle.vd_core.proofs.state.Core.sync.Goals as goal
 
 pub sync-requires-clause-under_way : goal.sync-requires-clause-under_way
@@ -31,3 +31,7 @@ returns-clause-syncs g c = rw (sym c.self.view_is) (c.sync.ensures.syncs c.self.
 pub returns-clause-opening : goal.returns-clause-opening
 returns-clause-opening g c = let step = (c.sync.ensures.syncs c.self.inside.shape).sends in
     rw (sym c.self.view_is) (λ told. same-opening (c.self.invariant.3 (step.told_before told)) (submit-opening step told) refl)
+
+pub returns-clause-opening_stands : goal.returns-clause-opening_stands
+returns-clause-opening_stands g c = let done = c.sync.ensures in let step = (done.syncs c.self.inside.shape).sends in
+    rw (sym c.self.view_is) (opening-stands c.self.invariant.3 step.told_before (submit-opening step) done.stopped refl)
