@@ -13,3 +13,4 @@ pub mod Histories
 pub mod CrashSafe
 pub mod New
 pub mod Bits
+pub mod Drops

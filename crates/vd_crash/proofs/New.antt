@@ -6,7 +6,7 @@ use Rattle.vd_image.specs.Layouts.{IsValid, layout_of}
 use Rattle.vd_image.specs.Decoders.{this_version, format_of}
 use Rattle.vd_image.specs.Made.{zero_sector, made}
 use Rattle.vd_image.proofs.Layouts.{parts_apart}
-use Rattle.vd_image.proofs.Made.{made_opens, made_no_later, made_gives_none, made_slot_unread, made_disk}
+use Rattle.vd_image.proofs.Made.{made_opens, made_base, made_no_later, made_gives_none, made_slot_unread, made_disk}
 use Rattle.vd_crash.specs.Safe.{Opening}
 use Rattle.vd_crash.specs.Facts.{Memory}
 use Rattle.vd_crash.specs.Opened.{IsAtOpening}
@@ -31,11 +31,12 @@ opening_log = Ask (record { pass = 0; call = 1 }) Flush ∷ Reply (record { pass
 
 abbrev new_memory : Header → Memory
 new_memory h = record {
-  index = record { generation = h.generation; tracked = h.tracked; sure = true; table = λ c. None; stale = λ b. false; tried = λ b. false; cursor = 0 };
+  index = record { generation = h.generation; tracked = h.tracked; sure = true; table = λ c. None; stale = λ b. false; off_base = λ b. false; tried = λ b. false; cursor = 0 };
   fresh = λ b. false;
   born = λ b. 0;
   owed = λ b. false;
   pending = λ b. None;
+  discards = record { drops = λ j. None; zeros = λ c. false; lost = λ c. false; reach = 0 };
 }
 
 nothing_written : (i s : ℕ) (v : Sector) → Writes opening_log i s v → ⊥
@@ -66,6 +67,11 @@ new_at_opening h base valid version = record {
   in_range = λ b is. absurd cc;
   was_local = λ b is. absurd cc;
   stale = λ b. refl;
+  zeros = λ c. (λ is. absurd cc, λ w. absurd (let base = made_base h h.generation c w.0 w.1 in let zeros = w.2 in cc));
+  off_base = λ b. (λ is. absurd cc, λ known. elim known [ inl is ↦ absurd cc | inr is ↦ absurd cc ]);
+  drops = λ j. refl;
+  lost = λ c. refl;
+  reach = refl;
   cursor = λ k r within reads current. absurd (made_slot_unread h k r reads);
   owed = λ b. refl;
   tried = λ b. refl;

@@ -1,20 +1,30 @@
 -- What the core keeps of its logs and its memory, of which safety at the last moment follows.
 use Rattle.std.specs.Prelude.{ℕ, ◌≡◌, ◌+◌, ◌<◌, ◌≤◌, ◌⊎◌, Bool, true, false, List, Option, Some, None, length, Ok}
-use Rattle.vd_image.specs.Log.{Sector, Entry, At, Covers, Writes, Ends, IsOpen, Flushes, NoneSureFrom, Untouched, May}
+use Rattle.vd_image.specs.Log.{Sector, Entry, At, Covers, Writes, Ends, IsOpen, IsSure, Flushes, NoneSureFrom, Untouched, May}
 use Rattle.vd_image.specs.Image.{Header, Mapping, Fact, Record, IsMapping, IsCurrent, IsRecord, background, IsApart, geometry_of}
 use Rattle.vd_crash.specs.Safe.{NumberedEntry, events, Opening}
 
 -- What the core knows of the metadata in its store: the kept header's generation, and whether no other header may be left;
--- the storage of chunks; the blocks that every image has as local; the blocks on which a header depends that was tried and
--- may be left; and the first slot that no record of this generation was put into.
+-- the storage that a chunk has or keeps; the blocks that every image has as local; the blocks that no image takes from the
+-- base; the blocks on which a header depends that was tried and may be left; and the first slot that no record of this
+-- generation was put into.
 pub record Index : Type 0 where
   pub generation : ℕ
   pub tracked : ℕ
   pub sure : Bool
   pub table : ℕ → Option ℕ
   pub stale : ℕ → Bool
+  pub off_base : ℕ → Bool
   pub tried : ℕ → Bool
   pub cursor : ℕ
+
+-- What it knows of discarded chunks: which entry of the history is the issue of which chunk's discard, the chunks of kind
+-- zeros, and those whose discard the next flush must log. Each discard among the first `reach` entries shows in every image.
+pub record Discards : Type 0 where
+  pub drops : ℕ → Option ℕ
+  pub zeros : ℕ → Bool
+  pub lost : ℕ → Bool
+  pub reach : ℕ
 
 -- what it knows of its blocks besides: those that are local, those that the next flush must log, and the store event
 -- that writes a block whole which isn't local yet
@@ -25,6 +35,7 @@ pub record Memory : Type 0 where
   pub born : ℕ → ℕ
   pub owed : ℕ → Bool
   pub pending : ℕ → Option ℕ
+  pub discards : Discards
 
 -- the j-th entry has this event and this number
 abbrev pub Numbered : List NumberedEntry → ℕ → ℕ → Entry → Type 0
@@ -48,10 +59,38 @@ pub record GuestFlushes (history : List NumberedEntry) (a n : ℕ) : Type 0 wher
   pub flushes : Flushes (events history) a
   pub numbered : Numbered history a n event
 
--- the numbers never fall, rise from one issue to the next, and are none of before opening
-pub record AreNumbers (opened : ℕ) (log : List Entry) (history : List NumberedEntry) : Type 0 where
+-- the j-th entry, with this number, issues the discard of the chunk
+pub record IsDrop (drops : ℕ → Option ℕ) (history : List NumberedEntry) (j n c : ℕ) : Type 0 where
+  pub event : Entry
+  pub stands : Numbered history j n event
+  pub is : drops j ≡ Some c
+
+-- the j-th entry issues an ordinary write of v to guest sector s: one that is no discard
+abbrev pub OwnWrites : (ℕ → Option ℕ) → List NumberedEntry → (j n s : ℕ) → Sector → Type 0
+OwnWrites drops history j n s v = GuestWrites history j n s v × (drops j ≡ None)
+
+-- the chunk was discarded after the j-th entry
+abbrev pub IsDroppedAfter : (ℕ → Option ℕ) → List NumberedEntry → (j c : ℕ) → Type 0
+IsDroppedAfter drops history j c = (k : ℕ) × (n : ℕ) × IsDrop drops history k n c × (j < k)
+
+-- so it was, and before store event `since`
+abbrev pub IsDroppedBefore : (ℕ → Option ℕ) → List NumberedEntry → (j c since : ℕ) → Type 0
+IsDroppedBefore drops history j c since = (k : ℕ) × (n : ℕ) × IsDrop drops history k n c × (j < k) × (n < since)
+
+-- the chunk wasn't discarded from the j-th entry on
+abbrev pub NoDropFrom : (ℕ → Option ℕ) → List NumberedEntry → (j c : ℕ) → Type 0
+NoDropFrom drops history j c = (k n : ℕ) → j ≤ k → IsDrop drops history k n c → ⊥
+
+-- what the entries that are discards do: each writes zeros to its chunk's sectors, and to nothing else
+pub record AreDrops (o : Opening) (drops : ℕ → Option ℕ) (history : List NumberedEntry) : Type 0 where
+  pub within : (j c : ℕ) → drops j ≡ Some c → (j < length history) × (c < o.layout.chunks)
+  pub covers : (j n m c s : ℕ) (v : Sector) → IsDrop drops history j n c → GuestWrites history j m s v → (o.layout.chunk_of (o.layout.block_of s) ≡ c) × (v ≡ o.zeros)
+  pub whole : (j n c s : ℕ) → IsDrop drops history j n c → s < o.layout.size → o.layout.chunk_of (o.layout.block_of s) ≡ c → GuestWrites history j n s o.zeros
+
+-- The numbers never fall, rise from an ordinary issue to the next, and are none of before opening.
+pub record AreNumbers (opened : ℕ) (log : List Entry) (drops : ℕ → Option ℕ) (history : List NumberedEntry) : Type 0 where
   pub never_fall : (i j m n : ℕ) (e f : Entry) → i < j → Numbered history i m e → Numbered history j n f → m ≤ n
-  pub issues_rise : (i j m n s t : ℕ) (u v : Sector) → i < j → GuestWrites history i m s u → GuestWrites history j n t v → m < n
+  pub issues_rise : (i j m n s t : ℕ) (u v : Sector) → i < j → OwnWrites drops history i m s u → GuestWrites history j n t v → m < n
   pub since_opening : (j n : ℕ) (e : Entry) → Numbered history j n e → opened ≤ n
   pub none_above : (j n : ℕ) (e : Entry) → Numbered history j n e → n ≤ length log
 
@@ -68,52 +107,82 @@ pub record IsMirrored (o : Opening) (log : List Entry) (n d p s : ℕ) (v : Sect
   pub ends : Ends log n done
   pub before : done < d
 
--- The block stands in this storage: from some moment on only guest writes were submitted to its place.
-pub record Stands (o : Opening) (log : List Entry) (history : List NumberedEntry) (b p since : ℕ) : Type 0 where
-  -- each store write since then is a guest's at that number
-  pub later : (i s : ℕ) (v : Sector) → o.layout.block_of s ≡ b → since ≤ i → Writes log i (o.layout.place p s) v → (j : ℕ) × GuestWrites history j i s v
-  -- each guest write that is done is mirrored, and none is earlier
-  pub mirrored : (j e n d s : ℕ) (v : Sector) → o.layout.block_of s ≡ b → GuestWrites history j n s v → GuestEnds history j e d → (since ≤ n + 1) × IsMirrored o log n d p s v
-  -- no guest write that is open is earlier
-  pub running : (j n s : ℕ) (v : Sector) → o.layout.block_of s ≡ b → GuestWrites history j n s v → IsOpen (events history) j → since ≤ n + 1
+-- the write of the j-th entry is done, or may still end
+abbrev pub IsLive : List NumberedEntry → ℕ → Type 0
+IsLive history j = ((e : ℕ) × (n : ℕ) × GuestEnds history j e n) ⊎ IsOpen (events history) j
+
+-- What stands at the i-th store event in a sector whose block isn't local: zeros since the chunk's last discard, or what stood
+-- there at opening. The guest's ordinary writes since then are later, and so is each further discard.
+pub record IsFill (o : Opening) (drops : ℕ → Option ℕ) (history : List NumberedEntry) (i s : ℕ) (v : Sector) : Type 0 where
+  pub from : ℕ
+  pub value : ((from ≡ 0) × (v ≡ o.disk s)) ⊎ ((j : ℕ) × (n : ℕ) × IsDrop drops history j n (o.layout.chunk_of (o.layout.block_of s)) × (from ≡ j + 1) × (v ≡ o.zeros))
+  pub writes : (k n : ℕ) (u : Sector) → from ≤ k → OwnWrites drops history k n s u → IsLive history k → i < n
+  pub later : (k n : ℕ) → from ≤ k → IsDrop drops history k n (o.layout.chunk_of (o.layout.block_of s)) → i < n
+
+-- What the i-th store event puts into a sector's place: the content of the guest's write at that number, or, where it covers
+-- the sector not, what stands in a block that isn't local.
+abbrev pub IsContent : Opening → (ℕ → Option ℕ) → List NumberedEntry → ℕ → ℕ → Sector → Type 0
+IsContent o drops history i s v = ((j : ℕ) × OwnWrites drops history j i s v) ⊎ IsFill o drops history i s v
+
+-- The block stands in this storage: from some moment on only its own contents were submitted to its place.
+pub record Stands (o : Opening) (log : List Entry) (history : List NumberedEntry) (drops : ℕ → Option ℕ) (b p since : ℕ) : Type 0 where
+  pub later : (i s : ℕ) (v : Sector) → o.layout.block_of s ≡ b → since ≤ i → Writes log i (o.layout.place p s) v → IsContent o drops history i s v
+  -- each ordinary guest write that is done is mirrored and none is earlier, but for those of before a discard
+  pub mirrored : (j e n d s : ℕ) (v : Sector) → o.layout.block_of s ≡ b → OwnWrites drops history j n s v → GuestEnds history j e d
+      → ((since ≤ n + 1) × IsMirrored o log n d p s v) ⊎ IsDroppedBefore drops history j (o.layout.chunk_of b) since
+  -- no ordinary guest write that is open is earlier
+  pub running : (j n s : ℕ) (v : Sector) → o.layout.block_of s ≡ b → OwnWrites drops history j n s v → IsOpen (events history) j → since ≤ n + 1
 
 -- the block was local at opening
 pub record Began (o : Opening) (b p : ℕ) : Type 0 where
   pub was : o.was_local b ≡ true
   pub same : (s : ℕ) → o.layout.block_of s ≡ b → o.held (o.layout.place p s) ≡ o.disk s
 
--- what the write that made the block local put into a sector: the content of the guest's write at that number, or, where
--- it covers the sector not, the content at the start
-abbrev pub IsFirst : Opening → List NumberedEntry → ℕ → ℕ → Sector → Type 0
-IsFirst o history w s v =
-    ((j : ℕ) × GuestWrites history j w s v)
-    ⊎ ((v ≡ o.disk s) × ((j : ℕ) (u : Sector) → GuestWrites history j w s u → ⊥))
-
 -- the w-th store event writes the whole block
-abbrev pub IsWhole : Opening → List Entry → List NumberedEntry → ℕ → ℕ → ℕ → Type 0
-IsWhole o log history b p w = (s : ℕ) → o.layout.block_of s ≡ b → (v : Sector) × Writes log w (o.layout.place p s) v × IsFirst o history w s v
+abbrev pub IsWhole : Opening → List Entry → List NumberedEntry → (ℕ → Option ℕ) → ℕ → ℕ → ℕ → Type 0
+IsWhole o log history drops b p w = (s : ℕ) → o.layout.block_of s ≡ b → (v : Sector) × Writes log w (o.layout.place p s) v × IsContent o drops history w s v
 
 -- where the block comes from: it was local at opening, or one write wrote it whole
-abbrev pub Origin : Opening → List Entry → List NumberedEntry → ℕ → ℕ → ℕ → (ℕ → Type 0) → Type 0
-Origin o log history b p since Good =
-    (Began o b p × (since ≡ o.opened)) ⊎ ((w : ℕ) × (since ≡ w + 1) × IsWhole o log history b p w × Good w)
-
--- the block is local since opening, or since a good write of the whole block
-pub record IsKept (o : Opening) (log : List Entry) (history : List NumberedEntry) (table : ℕ → Option ℕ) (b : ℕ) (Good : ℕ → Type 0) : Type 0 where
-  pub storage : ℕ
-  pub since : ℕ
-  pub given : table (o.layout.chunk_of b) ≡ Some storage
-  pub in_range : b < o.layout.blocks
-  pub stands : Stands o log history b storage since
-  pub origin : Origin o log history b storage since Good
+abbrev pub Origin : Opening → List Entry → List NumberedEntry → (ℕ → Option ℕ) → ℕ → ℕ → ℕ → (ℕ → Type 0) → Type 0
+Origin o log history drops b p since Good =
+    (Began o b p × (since ≡ o.opened)) ⊎ ((w : ℕ) × (since ≡ w + 1) × IsWhole o log history drops b p w × Good w)
 
 -- a write that is done before event number `by`
 abbrev pub IsDoneBefore : List Entry → ℕ → ℕ → Type 0
 IsDoneBefore log by w = (d : ℕ) × Ends log w d × (d < by)
 
--- the block is local in memory, since so many store events
-abbrev pub IsFresh : Opening → List Entry → List NumberedEntry → (ℕ → Option ℕ) → ℕ → ℕ → Type 0
-IsFresh o log history table b born = IsKept o log history table b (IsDoneBefore log born)
+-- a write that a crash can't lose, or that a flush asked at `by` makes so
+abbrev pub IsSureBy : List Entry → ℕ → ℕ → Type 0
+IsSureBy log by w = IsSure log w ⊎ IsDoneBefore log by w
+
+-- The block's contents stand in its chunk's storage since opening, or since a write of the whole block that is done before
+-- `by`; and no discard among the first `reach` entries came later.
+pub record IsKept (o : Opening) (log : List Entry) (history : List NumberedEntry) (drops : ℕ → Option ℕ) (table : ℕ → Option ℕ) (b reach by : ℕ) : Type 0 where
+  pub storage : ℕ
+  pub since : ℕ
+  pub given : table (o.layout.chunk_of b) ≡ Some storage
+  pub in_range : b < o.layout.blocks
+  pub stands : Stands o log history drops b storage since
+  pub origin : Origin o log history drops b storage since (IsSureBy log by)
+  pub newest : (j n : ℕ) → IsDrop drops history j n (o.layout.chunk_of b) → j < reach → n < since
+
+-- the block is local in memory, since so many store events: no discard at all came later
+abbrev pub IsFresh : Opening → List Entry → List NumberedEntry → (ℕ → Option ℕ) → (ℕ → Option ℕ) → ℕ → ℕ → Type 0
+IsFresh o log history drops table b born = (reach : ℕ) → IsKept o log history drops table b reach born
+
+-- What a mapping says that must be so: that a block stands in its chunk's storage, that a chunk is of kind zeros.
+pub data Claim : Type 0 where
+  Stored : (b : ℕ) → Claim
+  Zero : (c : ℕ) → Claim
+
+-- the block is local in memory, or its chunk was discarded
+abbrev pub IsKnown : Opening → List NumberedEntry → (ℕ → Option ℕ) → (ℕ → Bool) → ℕ → Type 0
+IsKnown o history drops fresh b = (fresh b ≡ true) ⊎ ((k : ℕ) × (n : ℕ) × IsDrop drops history k n (o.layout.chunk_of b))
+
+-- a crash can't lose what the claim rests on, but for discards that aren't among the first `reach` entries
+abbrev pub IsShown : Opening → List Entry → List NumberedEntry → Memory → ℕ → Claim → Type 0
+IsShown o log history m reach (Stored b) = IsKept o log history m.discards.drops m.index.table b reach 0 × IsKnown o history m.discards.drops m.fresh b
+IsShown o log history m reach (Zero c) = m.discards.zeros c ≡ true
 
 -- a flush that was asked since then was answered well
 abbrev pub IsFlushedSince : List Entry → ℕ → Type 0
@@ -123,37 +192,55 @@ IsFlushedSince log born = (q : ℕ) × Flushes log q × (born ≤ q)
 abbrev pub IsSettled : List Entry → Memory → ℕ → Type 0
 IsSettled log m b = (m.fresh b ≡ true) × IsFlushedSince log (m.born b)
 
--- a guest write to the block is done before the a-th entry
-pub record IsWrittenBefore (o : Opening) (history : List NumberedEntry) (a b : ℕ) : Type 0 where
-  pub at : ℕ
+-- the j-th entry's ordinary write to the block is done before the a-th entry
+pub record IsWrittenBefore (o : Opening) (drops : ℕ → Option ℕ) (history : List NumberedEntry) (a b j : ℕ) : Type 0 where
   pub end : ℕ
   pub number : ℕ
   pub end_number : ℕ
   pub sector : ℕ
   pub value : Sector
   pub block : o.layout.block_of sector ≡ b
-  pub writes : GuestWrites history at number sector value
-  pub ends : GuestEnds history at end end_number
+  pub writes : OwnWrites drops history j number sector value
+  pub ends : GuestEnds history j end end_number
   pub before : end < a
 
--- each flush that was answered well had a store flush of its own, and its blocks are stale
-pub record AreAnswered (o : Opening) (log : List Entry) (history : List NumberedEntry) (stale : ℕ → Bool) : Type 0 where
+-- no image takes the block from the base, and each has it as local unless its chunk was discarded after the j-th entry
+abbrev pub IsBehind : (o : Opening) → (ℕ → Option ℕ) → List NumberedEntry → (stale off_base : ℕ → Bool) → (b j : ℕ) → Type 0
+IsBehind o drops history stale off_base b j = (off_base b ≡ true) × ((stale b ≡ true) ⊎ IsDroppedAfter drops history j (o.layout.chunk_of b))
+
+-- each flush that was answered well had a store flush of its own, its blocks are stale, and its discards show in every image
+pub record AreAnswered (o : Opening) (log : List Entry) (drops : ℕ → Option ℕ) (history : List NumberedEntry) (stale off_base : ℕ → Bool) (reach : ℕ) : Type 0 where
   pub flushed : (a n : ℕ) → GuestFlushes history a n → (q : ℕ) × Flushes log q × (n ≤ q)
-  pub logged : (a n b : ℕ) → GuestFlushes history a n → IsWrittenBefore o history a b → stale b ≡ true
+  pub logged : (a n b j : ℕ) → GuestFlushes history a n → IsWrittenBefore o drops history a b j → IsBehind o drops history stale off_base b j
+  pub reached : (a n : ℕ) → GuestFlushes history a n → a ≤ reach
+
+-- the chunk's last discard
+pub record IsLastDrop (drops : ℕ → Option ℕ) (history : List NumberedEntry) (c : ℕ) : Type 0 where
+  pub at : ℕ
+  pub number : ℕ
+  pub is : IsDrop drops history at number c
+  pub last : NoDropFrom drops history (at + 1) c
+
+-- what is known of the chunks of kind zeros: they were discarded, or their blocks that aren't local were zeros at opening
+pub record AreZeros (o : Opening) (history : List NumberedEntry) (stale off_base : ℕ → Bool) (d : Discards) : Type 0 where
+  pub from : (c : ℕ) → d.zeros c ≡ true → IsLastDrop d.drops history c ⊎ (NoDropFrom d.drops history 0 c × ((s : ℕ) → o.layout.chunk_of (o.layout.block_of s) ≡ c → stale (o.layout.block_of s) ≡ false → o.disk s ≡ o.zeros))
+  -- no image takes a block from the base that was discarded among the first `reach` entries
+  pub sealed_off : (j n b : ℕ) → IsDrop d.drops history j n (o.layout.chunk_of b) → j < d.reach → off_base b ≡ true
 
 -- what a crash may leave in each sector
 abbrev pub Left : Type 1
 Left = ℕ → Sector → Type 0
 
--- A mapping that is right: it is in the grammar, gives storage as memory does, and has settled blocks alone.
-pub record IsRight (o : Opening) (settled : ℕ → Type 0) (table : ℕ → Option ℕ) (chunk : ℕ) (m : Mapping) : Type 0 where
+-- A mapping that is right: it is in the grammar, gives storage as memory does, and what it says is settled.
+pub record IsRight (o : Opening) (settled : Claim → Type 0) (table : ℕ → Option ℕ) (chunk : ℕ) (m : Mapping) : Type 0 where
   pub grammar : IsMapping o.layout chunk m
   -- the storage is that of the table in memory
   pub storage_agrees : (p : ℕ) → m.storage ≡ Some p → table chunk ≡ Some p
-  pub blocks_settled : (b : ℕ) → m.has b ≡ true → settled b
+  pub blocks_settled : (b : ℕ) → m.has b ≡ true → settled (Stored b)
+  pub kind_settled : m.zeros ≡ true → settled (Zero chunk)
 
 -- a page of the map that is right at this chunk
-pub record IsRightPage (o : Opening) (settled : ℕ → Type 0) (table : ℕ → Option ℕ) (chunk : ℕ) (v : Sector) : Type 0 where
+pub record IsRightPage (o : Opening) (settled : Claim → Type 0) (table : ℕ → Option ℕ) (chunk : ℕ) (v : Sector) : Type 0 where
   pub mapping : Mapping
   pub reads : o.format.mapping_of v chunk ≡ Some mapping
   pub right : IsRight o settled table chunk mapping
@@ -177,47 +264,70 @@ pub record IsNamed (o : Opening) (left : Left) (generation cursor from c : ℕ) 
   pub names : (v : Sector) → left (o.layout.slot_at slot) v → RecordNames o generation c v
 
 -- A page of the map that may be left: its mapping is right, or some slot names the chunk in each image.
-pub record IsPageLeft (o : Opening) (left : Left) (settled : ℕ → Type 0) (x : Index) (chunk : ℕ) (v : Sector) : Type 0 where
+pub record IsPageLeft (o : Opening) (left : Left) (settled : Claim → Type 0) (x : Index) (chunk : ℕ) (v : Sector) : Type 0 where
   pub mapping : Mapping
   pub reads : o.format.mapping_of v chunk ≡ Some mapping
   pub grammar : IsMapping o.layout chunk mapping
   pub right : IsRight o settled x.table chunk mapping ⊎ ((x.sure ≡ true) × IsNamed o left x.generation x.cursor 0 chunk)
 
 -- A record that may be left in slot k and counts: each mapping is right, or some later slot names the chunk in each image.
-pub record IsRecordLeft (o : Opening) (left : Left) (settled : ℕ → Type 0) (x : Index) (k : ℕ) (item : Record) : Type 0 where
+pub record IsRecordLeft (o : Opening) (left : Left) (settled : Claim → Type 0) (x : Index) (k : ℕ) (item : Record) : Type 0 where
   pub grammar : IsRecord o.layout item
   pub right : (place : ℕ) (fact : Fact) → At item.facts place fact → IsRight o settled x.table fact.chunk fact.mapping ⊎ IsNamed o left x.generation x.cursor (k + 1) fact.chunk
 
--- the page of the map has the block
-pub record PageHas (o : Opening) (b : ℕ) (v : Sector) : Type 0 where
+-- What every image is to have of a block: the block itself; or the block or a chunk of kind zeros.
+pub data Need : Type 0 where
+  Local : (b : ℕ) → Need
+  Off_base : (b : ℕ) → Need
+
+abbrev pub block_in : Need → ℕ
+block_in (Local b) = b
+block_in (Off_base b) = b
+
+-- the mapping of its chunk has it
+abbrev pub Says : Need → Mapping → Type 0
+Says (Local b) m = m.has b ≡ true
+Says (Off_base b) m = (m.has b ≡ true) ⊎ (m.zeros ≡ true)
+
+-- the chunk of the block
+abbrev pub chunk_in : Opening → Need → ℕ
+chunk_in o t = o.layout.chunk_of (block_in t)
+
+-- the page of the map has it
+pub record PageHas (o : Opening) (t : Need) (v : Sector) : Type 0 where
   pub mapping : Mapping
-  pub reads : o.format.mapping_of v (o.layout.chunk_of b) ≡ Some mapping
-  pub has : mapping.has b ≡ true
+  pub reads : o.format.mapping_of v (chunk_in o t) ≡ Some mapping
+  pub has : Says t mapping
 
--- every content that may be left of the block's page of the map has the block
-pub record IsInPage (o : Opening) (left : Left) (b : ℕ) : Type 0 where
-  pub within : b < o.layout.blocks
-  pub page : (v : Sector) → left (o.layout.map_at (o.layout.chunk_of b)) v → PageHas o b v
+-- every content that may be left of the block's page of the map has it
+pub record IsInPage (o : Opening) (left : Left) (t : Need) : Type 0 where
+  pub within : chunk_in o t < o.layout.chunks
+  pub page : (v : Sector) → left (o.layout.map_at (chunk_in o t)) v → PageHas o t v
 
--- each fact of the record that names the block's chunk has the block
-abbrev pub FactsHave : Opening → ℕ → Record → Type 0
-FactsHave o b item = (place : ℕ) (fact : Fact) → At item.facts place fact → fact.chunk ≡ o.layout.chunk_of b → fact.mapping.has b ≡ true
+-- each fact of the record that names the block's chunk has it
+abbrev pub FactsHave : Opening → Need → Record → Type 0
+FactsHave o t item = (place : ℕ) (fact : Fact) → At item.facts place fact → fact.chunk ≡ chunk_in o t → Says t fact.mapping
 
 -- so does each record that counts and may be left in a slot from this one on
-abbrev pub SlotsHave : Opening → Left → ℕ → ℕ → ℕ → Type 0
-SlotsHave o left generation from b = (k : ℕ) (v : Sector) (item : Record) → from ≤ k → k < o.layout.slots → left (o.layout.slot_at k) v → o.format.record_of v ≡ Some item → IsCurrent item generation → FactsHave o b item
+abbrev pub SlotsHave : Opening → Left → ℕ → ℕ → Need → Type 0
+SlotsHave o left generation from t = (k : ℕ) (v : Sector) (item : Record) → from ≤ k → k < o.layout.slots → left (o.layout.slot_at k) v → o.format.record_of v ≡ Some item → IsCurrent item generation → FactsHave o t item
 
--- a slot before the cursor names the block's chunk, whatever is left of it, and each fact on it from there on has the block
-pub record IsInSlots (o : Opening) (left : Left) (generation cursor b : ℕ) : Type 0 where
+-- a slot before the cursor names the block's chunk, whatever is left of it, and each fact on it from there on has it
+pub record IsInSlots (o : Opening) (left : Left) (generation cursor : ℕ) (t : Need) : Type 0 where
   pub slot : ℕ
   pub below : slot < cursor
   pub within : slot < o.layout.slots
-  pub names : (v : Sector) → left (o.layout.slot_at slot) v → RecordNames o generation (o.layout.chunk_of b) v
-  pub later : SlotsHave o left generation slot b
+  pub names : (v : Sector) → left (o.layout.slot_at slot) v → RecordNames o generation (chunk_in o t) v
+  pub later : SlotsHave o left generation slot t
 
--- the block is local in each image of the kept generation: by a slot, or by its page of the map and no fact that says otherwise
-abbrev pub IsLocalLeft : Opening → Left → ℕ → ℕ → ℕ → Type 0
-IsLocalLeft o left generation cursor b = IsInSlots o left generation cursor b ⊎ (IsInPage o left b × SlotsHave o left generation 0 b)
+-- each image of the kept generation has it: by a slot, or by the block's page of the map and no fact that says otherwise
+abbrev pub IsLocalLeft : Opening → Left → ℕ → ℕ → Need → Type 0
+IsLocalLeft o left generation cursor t = IsInSlots o left generation cursor t ⊎ (IsInPage o left t × SlotsHave o left generation 0 t)
+
+-- every image must have it
+abbrev pub IsDue : Index → Need → Type 0
+IsDue x (Local b) = x.stale b ≡ true
+IsDue x (Off_base b) = x.off_base b ≡ true
 
 -- a header that may be left: of the kept generation or the next, and the background by it is the start's, but for blocks
 -- that a next header has in their pages
@@ -226,14 +336,14 @@ pub record IsHeaderLeft (o : Opening) (left : Left) (x : Index) (v : Sector) : T
   pub reads : o.format.header_of v ≡ Ok header
   pub geometry : geometry_of header ≡ o.layout.geometry
   pub generation : (header.generation ≡ x.generation) ⊎ (header.generation ≡ x.generation + 1)
-  pub background : (s : ℕ) → s < o.layout.size → x.stale (o.layout.block_of s) ≡ false → (background o.base o.zeros header.tracked s ≡ o.disk s) ⊎ ((header.generation ≡ x.generation + 1) × (x.tried (o.layout.block_of s) ≡ true) × IsInPage o left (o.layout.block_of s))
+  pub background : (s : ℕ) → s < o.layout.size → x.off_base (o.layout.block_of s) ≡ false → (background o.base o.zeros header.tracked s ≡ o.disk s) ⊎ ((header.generation ≡ x.generation + 1) × (x.tried (o.layout.block_of s) ≡ true) × IsInPage o left (Off_base (o.layout.block_of s)))
 
 -- no header of another generation than the kept one may be left
 abbrev pub IsSureHeader : Opening → Left → ℕ → Type 0
 IsSureHeader o left generation = (v : Sector) (h : Header) → left o.layout.header_at v → o.format.header_of v ≡ Ok h → h.generation ≡ generation
 
 -- what may be left of the metadata
-pub record IsMetadata (o : Opening) (left : Left) (settled : ℕ → Type 0) (x : Index) : Type 0 where
+pub record IsMetadata (o : Opening) (left : Left) (settled : Claim → Type 0) (x : Index) : Type 0 where
   -- the header is the kept one, or a next one that was tried
   pub header_known : (v : Sector) → left o.layout.header_at v → IsHeaderLeft o left x v
   -- where it is sure it is of the kept generation
@@ -246,8 +356,8 @@ pub record IsMetadata (o : Opening) (left : Left) (settled : ℕ → Type 0) (x 
   pub records : (k : ℕ) (v : Sector) (r : Record) → k < o.layout.slots → left (o.layout.slot_at k) v → o.format.record_of v ≡ Some r → IsCurrent r x.generation → IsRecordLeft o left settled x k r
   -- no slot from the cursor on counts
   pub none_beyond : (k : ℕ) (v : Sector) (r : Record) → x.cursor ≤ k → k < o.layout.slots → left (o.layout.slot_at k) v → o.format.record_of v ≡ Some r → IsCurrent r x.generation → ⊥
-  -- a stale block is local in each image
-  pub stale_everywhere : (b : ℕ) → x.stale b ≡ true → IsLocalLeft o left x.generation x.cursor b × (IsInPage o left b ⊎ (x.sure ≡ true))
+  -- a stale block is local in each image, and none takes from the base what it must not
+  pub due_everywhere : (t : Need) → IsDue x t → IsLocalLeft o left x.generation x.cursor t × (IsInPage o left t ⊎ (x.sure ≡ true))
 
 -- storage is within its bounds, and no two chunks have one
 pub record IsTable (storage : ℕ) (table : ℕ → Option ℕ) : Type 0 where
@@ -256,34 +366,36 @@ pub record IsTable (storage : ℕ) (table : ℕ → Option ℕ) : Type 0 where
 
 -- what safety at the last moment follows from
 pub record CrashFacts (o : Opening) (log : List Entry) (history : List NumberedEntry) (m : Memory) : Type 0 where
-  pub numbers : AreNumbers o.opened log history
+  pub numbers : AreNumbers o.opened log m.discards.drops history
   pub opening : IsOpened o log
-  pub answered : AreAnswered o log history m.index.stale
-  -- no two chunks have one storage
+  pub discards : AreDrops o m.discards.drops history
+  pub answered : AreAnswered o log m.discards.drops history m.index.stale m.index.off_base m.discards.reach
+  pub zeros : AreZeros o history m.index.stale m.index.off_base m.discards
+  -- no two chunks have or keep one storage
   pub storage_one_to_one : IsTable o.layout.storage m.index.table
-  -- A local block's storage has what the history allows: it was local at opening or was written whole, and each store write
-  -- to it since is a guest's.
-  pub contents_allowed : (b : ℕ) → m.fresh b ≡ true → IsFresh o log history m.index.table b (m.born b)
-  -- what may be left of the header, the map and the slots
-  pub metadata : IsMetadata o (May o.before log) (IsSettled log m) m.index
+  -- what may be left of a local block is allowed, once it is settled
+  pub contents_allowed : (b : ℕ) → m.fresh b ≡ true → IsFresh o log history m.discards.drops m.index.table b (m.born b)
+  pub metadata : IsMetadata o (May o.before log) (IsShown o log history m m.discards.reach) m.index
 
 -- a store write of the whole block is under way, and the block isn't fresh
-pub record IsPending (o : Opening) (log : List Entry) (history : List NumberedEntry) (table : ℕ → Option ℕ) (b i : ℕ) : Type 0 where
+pub record IsPending (o : Opening) (log : List Entry) (history : List NumberedEntry) (drops : ℕ → Option ℕ) (table : ℕ → Option ℕ) (b i : ℕ) : Type 0 where
   pub storage : ℕ
   pub given : table (o.layout.chunk_of b) ≡ Some storage
   pub in_range : b < o.layout.blocks
   pub within : i < length log
   pub opened : o.opened ≤ i
-  pub whole : IsWhole o log history b storage i
+  pub whole : IsWhole o log history drops b storage i
   -- nothing was written to its place since
   pub quiet : (k s : ℕ) (v : Sector) → o.layout.block_of s ≡ b → i < k → Writes log k (o.layout.place storage s) v → ⊥
   -- an open guest write to it is this one
-  pub running : (j n s : ℕ) (v : Sector) → o.layout.block_of s ≡ b → GuestWrites history j n s v → IsOpen (events history) j → i ≤ n
+  pub running : (j n s : ℕ) (v : Sector) → o.layout.block_of s ≡ b → OwnWrites drops history j n s v → IsOpen (events history) j → i ≤ n
+  -- its chunk wasn't discarded since
+  pub newest : (j n : ℕ) → IsDrop drops history j n (o.layout.chunk_of b) → n ≤ i
 
--- a guest's write with this number has its store write there
-pub record IsIssued (o : Opening) (log : List Entry) (table : ℕ → Option ℕ) (n s : ℕ) (v : Sector) : Type 0 where
+-- a guest's write with this number has its store write there; while it is open, its chunk has that storage
+pub record IsIssued (o : Opening) (log : List Entry) (history : List NumberedEntry) (table : ℕ → Option ℕ) (j n s : ℕ) (v : Sector) : Type 0 where
   pub storage : ℕ
-  pub given : table (o.layout.chunk_of (o.layout.block_of s)) ≡ Some storage
+  pub given : IsOpen (events history) j → table (o.layout.chunk_of (o.layout.block_of s)) ≡ Some storage
   pub writes : Writes log n (o.layout.place storage s) v
 
 -- what the core keeps of the blocks in memory
@@ -291,18 +403,26 @@ pub record AreBlocks (o : Opening) (log : List Entry) (history : List NumberedEn
   pub born : (b : ℕ) → m.fresh b ≡ true → m.born b ≤ length log
   -- a crash can't lose the write that made a stale block local
   pub stale_settled : (b : ℕ) → m.index.stale b ≡ true → IsSettled log m b
+  pub stale_off : (b : ℕ) → m.index.stale b ≡ true → m.index.off_base b ≡ true
   pub owed_local : (b : ℕ) → m.owed b ≡ true → m.fresh b ≡ true
+  -- what no image takes from the base is stale, or its chunk is zeros
+  pub off_base_known : (b : ℕ) → m.index.off_base b ≡ true → (o.layout.chunk_of b < o.layout.chunks) × ((m.index.stale b ≡ true) ⊎ (m.discards.zeros (o.layout.chunk_of b) ≡ true))
   -- by the kept header too the background is the start's
-  pub background_same : (s : ℕ) → s < o.layout.size → m.index.stale (o.layout.block_of s) ≡ false → background o.base o.zeros m.index.tracked s ≡ o.disk s
+  pub background_same : (s : ℕ) → s < o.layout.size → m.index.off_base (o.layout.block_of s) ≡ false → background o.base o.zeros m.index.tracked s ≡ o.disk s
   -- the blocks on which a tried header depends are logged, or the next flush logs them
-  pub tried : (b : ℕ) → m.index.tried b ≡ true → (m.index.stale b ≡ true) ⊎ (m.owed b ≡ true)
-  -- so is each block with a guest's write that is done: no other has one since opening
-  pub unlogged_untouched : (b : ℕ) → IsWrittenBefore o history (length history) b → (m.index.stale b ≡ true) ⊎ (m.owed b ≡ true)
-  -- each write of the history has its store write at its number
-  pub issues_stored : (j n s : ℕ) (v : Sector) → GuestWrites history j n s v → (n < length log) × IsIssued o log m.index.table n s v
-  pub pending : (b i : ℕ) → m.pending b ≡ Some i → (m.fresh b ≡ false) × IsPending o log history m.index.table b i
+  pub tried : (b : ℕ) → m.index.tried b ≡ true → (m.index.off_base b ≡ true) ⊎ (m.owed b ≡ true) ⊎ (m.discards.lost (o.layout.chunk_of b) ≡ true)
+  -- so is each block with an ordinary write that is done, unless its chunk was discarded after it: no other has one since opening
+  pub unlogged_untouched : (b j : ℕ) → IsWrittenBefore o m.discards.drops history (length history) b j → ((m.index.stale b ≡ true) ⊎ (m.owed b ≡ true)) ⊎ IsDroppedAfter m.discards.drops history j (o.layout.chunk_of b)
+  -- each ordinary write of the history has its store write at its number
+  pub issues_stored : (j n s : ℕ) (v : Sector) → OwnWrites m.discards.drops history j n s v → (n < length log) × IsIssued o log history m.index.table j n s v
+  pub pending : (b i : ℕ) → m.pending b ≡ Some i → (m.fresh b ≡ false) × IsPending o log history m.discards.drops m.index.table b i
   -- a block that is neither local nor being written whole has no open guest write
-  pub idle : (b j n s : ℕ) (v : Sector) → m.fresh b ≡ false → m.pending b ≡ None → o.layout.block_of s ≡ b → GuestWrites history j n s v → IsOpen (events history) j → ⊥
+  pub idle : (b j n s : ℕ) (v : Sector) → m.fresh b ≡ false → m.pending b ≡ None → o.layout.block_of s ≡ b → OwnWrites m.discards.drops history j n s v → IsOpen (events history) j → ⊥
+  -- a discarded chunk is of kind zeros, and the next flush logs it unless each image has it so
+  pub dropped : (j n c : ℕ) → IsDrop m.discards.drops history j n c → (m.discards.zeros c ≡ true) × ((j < m.discards.reach) ⊎ (m.discards.lost c ≡ true))
+  pub zeros_off : (b : ℕ) → m.discards.zeros (o.layout.chunk_of b) ≡ true → (m.index.off_base b ≡ true) ⊎ (m.discards.lost (o.layout.chunk_of b) ≡ true)
+  pub lost_zeros : (c : ℕ) → m.discards.lost c ≡ true → (c < o.layout.chunks) × (m.discards.zeros c ≡ true)
+  pub reach : m.discards.reach ≤ length history
 
 -- all that the core keeps
 pub record Holds (o : Opening) (log : List Entry) (history : List NumberedEntry) (m : Memory) : Type 0 where

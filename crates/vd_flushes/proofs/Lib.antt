@@ -6,3 +6,4 @@ pub mod Passes
 pub mod Flights
 pub mod Stage
 pub mod Moves
+pub mod Beside

@@ -1,13 +1,16 @@
 -- Each step keeps safety and all facts, and so does each run.
-use Rattle.std.proofs.Common.{ℕ, ◌≡◌, inl, inr, List, [], ◌∷◌, ◌++◌, Bool, true, arith, refl}
-use Rattle.vd_image.specs.Log.{Entry, Issue, Done}
-use Rattle.vd_crash.specs.Safe.{NumberedEntry, Opening, IsSafe}
-use Rattle.vd_crash.specs.Facts.{Memory, CrashFacts, Holds}
+use Rattle.std.proofs.Common.{ℕ, ◌≡◌, ◌<◌, ◌⊎◌, inl, inr, List, [], ◌∷◌, ◌++◌, length, None, Bool, true, arith, refl, subst}
+use Rattle.vd_image.specs.Log.{Sector, CallId, Entry, Issue, Done, Broke, At, IsOpen, IsInFlight}
+use Rattle.vd_crash.specs.Safe.{NumberedEntry, events, Opening, IsSafe}
+use Rattle.vd_crash.specs.Facts.{Discards, Memory, OwnWrites, CrashFacts, Holds}
 use Rattle.vd_crash.specs.Opened.{IsAtOpening}
-use Rattle.vd_crash.specs.Words.{with_blocks}
-use Rattle.vd_flushes.specs.Moves.{World, world, Keeps, entry_now, IsStep, Tells, Notes, Takes, Writes_local, Writes_whole, Copies, Becomes_local, Gives_up, Ends_write, Adopts, Puts_record, Puts_page, Puts_header, Seals_records, Seals_recycle, Runs, Stays, Goes_on}
+use Rattle.vd_crash.specs.Words.{with_blocks, with_table, IsDropWrite, IsDiscarded, discarded_memory}
+use Rattle.vd_image.proofs.Logs.{at_push, at_pushed}
+use Rattle.vd_crash.proofs.Growth.{own_pushed, guest_writes_below, events_push, length_events}
+use Rattle.vd_crash.proofs.Drops.{drops_same, drop_issued}
+use Rattle.vd_flushes.specs.Moves.{World, world, Keeps, entry_now, IsStep, Tells, Notes, Takes, Writes_local, Writes_whole, Copies, Becomes_local, Gives_up, Ends_write, Drops, Adopts, Puts_record, Puts_page, Puts_header, Seals_records, Seals_recycle, Runs, Stays, Goes_on}
 use Rattle.vd_crash.proofs.Moments.{safe_event, safe_entry, last_safe}
-use Rattle.vd_crash.proofs.Steps.{quiet_event, quiet_entry}
+use Rattle.vd_crash.proofs.Steps.{EndsNoOwn, quiet_event, quiet_entry, no_done_ends}
 use Rattle.vd_crash.proofs.Writes.{issue_fresh, issue_whole, put_copy, facts_same}
 use Rattle.vd_crash.proofs.Ends.{born, given_up, write_done, storage_taken}
 use Rattle.vd_flushes.proofs.Flushes.{put_record, put_page, put_header, seal_records, seal_recycle}
@@ -38,22 +41,77 @@ adopted o log history m owed h more local = record {
   blocks = record {
     born = h.blocks.born;
     stale_settled = h.blocks.stale_settled;
+    stale_off = h.blocks.stale_off;
+    off_base_known = h.blocks.off_base_known;
+    dropped = h.blocks.dropped;
+    zeros_off = h.blocks.zeros_off;
+    lost_zeros = h.blocks.lost_zeros;
+    reach = h.blocks.reach;
     owed_local = local;
     background_same = h.blocks.background_same;
     issues_stored = h.blocks.issues_stored;
     pending = h.blocks.pending;
     idle = h.blocks.idle;
-    tried = λ b t. elim (h.blocks.tried b t) [ inl stale ↦ inl stale | inr is ↦ inr (more b is) ];
-    unlogged_untouched = λ b w. elim (h.blocks.unlogged_untouched b w) [ inl stale ↦ inl stale | inr is ↦ inr (more b is) ];
+    tried = λ b t. elim (h.blocks.tried b t) [ inl off ↦ inl off | inr (inl is) ↦ inr (inl (more b is)) | inr (inr lost) ↦ inr (inr lost) ];
+    unlogged_untouched = λ b j w. elim (h.blocks.unlogged_untouched b j w) [ inl is ↦ inl (elim is [ inl stale ↦ inl stale | inr also ↦ inr (more b also) ]) | inr dropped ↦ inr dropped ];
   };
 }
 
+-- what is in flight in the longer log was so before, of an event that stood there
+in_flight_old : (log : List Entry) (e : Entry) (i : ℕ) (call : CallId) → i < length log → IsInFlight (log ++ e ∷ []) i call → IsInFlight log i call
+in_flight_old log e i call below h = elim (at_pushed log e i h.event h.stands) [
+  | inl was ↦ record { event = h.event; stands = was; issues = h.issues; running = λ m after found. h.running m after (longer m found) }
+  | inr now ↦ absurd (omega (arith, now.0, below))
+]
+  where
+    longer : (m : ℕ) → At log m (Done call) ⊎ At log m (Broke call) → At (log ++ e ∷ []) m (Done call) ⊎ At (log ++ e ∷ []) m (Broke call)
+    longer m (inl found) = inl (at_push log e m (Done call) found)
+    longer m (inr found) = inr (at_push log e m (Broke call) found)
+
+-- the Done of a discard ends no ordinary write
+pub drop_ends : {o : Opening} (log : List Entry) (history : List NumberedEntry) (m : Memory) (id : CallId) (first : ℕ) (content : List Sector) (c : ℕ) (fresh stale owed : ℕ → Bool) (d : Discards)
+    → IsDiscarded o m (length history) c fresh stale owed d → ((j n s : ℕ) (v : Sector) → OwnWrites m.discards.drops history j n s v → IsInFlight (events history) j id → ⊥)
+    → EndsNoOwn d.drops (history ++ entry_now log (Issue id first content) ∷ []) (entry_now log (Done id))
+drop_ends log history m id first content c fresh stale owed d is none j i s v w h done = elim (own_pushed m.discards.drops d.drops history x j i s v (drops_same m.discards.drops d.drops (length history) c is.drops) w) [
+  | inl was ↦
+      let below = guest_writes_below history j i s v was.0 in
+      let same : h.id ≡ id = cc in
+      let flight : IsInFlight (events (history ++ x ∷ [])) j id = subst (λ (y : CallId). IsInFlight (events (history ++ x ∷ [])) j y) same (record { event = h.event; stands = h.stands; issues = h.issues; running = h.open_still }) in
+      none j i s v was (in_flight_old (events history) x.event j id (let l = length_events history in omega arith) (subst (λ (l : List Entry). IsInFlight l j id) (events_push history x) flight))
+  | inr now ↦ (let put = is.drops.same in let unset = now.3 in cc)
+]
+  where
+    x : NumberedEntry
+    x = entry_now log (Issue id first content)
+
+-- a discard: its issue and its Done
+pub drop_keeps : (o : Opening) (log : List Entry) (history : List NumberedEntry) (m : Memory) (id : CallId) (first : ℕ) (content : List Sector) (c : ℕ) (fresh stale owed : ℕ → Bool) (d : Discards) → Keeps o (world log history m)
+    → c < o.layout.chunks → IsDropWrite o c (Issue id first content) → IsDiscarded o m (length history) c fresh stale owed d
+    → ((b : ℕ) → o.layout.chunk_of b ≡ c → m.pending b ≡ None)
+    → ((j n s : ℕ) (v : Sector) → OwnWrites m.discards.drops history j n s v → o.layout.chunk_of (o.layout.block_of s) ≡ c → IsOpen (events history) j → ⊥)
+    → ((j n s : ℕ) (v : Sector) → OwnWrites m.discards.drops history j n s v → IsInFlight (events history) j id → ⊥)
+    → Keeps o (world log ((history ++ entry_now log (Issue id first content) ∷ []) ++ entry_now log (Done id) ∷ []) (discarded_memory m fresh stale owed d))
+drop_keeps o log history m id first content c fresh stale owed d k within writes is calm closed none =
+    after_entry o log (history ++ x ∷ []) n n (Done id) (after_entry o log history m n (Issue id first content) k issued)
+    (quiet_entry o log (history ++ x ∷ []) n (entry_now log (Done id)) refl (λ s v covers. covers) ends (λ call a i asked same. absurd cc) issued)
+  where
+    x : NumberedEntry
+    x = entry_now log (Issue id first content)
+
+    n : Memory
+    n = discarded_memory m fresh stale owed d
+
+    issued : Holds o log (history ++ x ∷ []) n
+    issued = drop_issued o log history m id first content c fresh stale owed d k.holds within writes is calm closed
+
+    ends : EndsNoOwn d.drops (history ++ x ∷ []) (entry_now log (Done id))
+    ends = drop_ends log history m id first content c fresh stale owed d is none
+
 pub step_keeps : (o : Opening) (u v : World) → IsStep o u v → Keeps o u → Keeps o v
 step_keeps o u v (Tells log history m e quiet) k = after_event o log history m m e k (quiet_event o log history m e quiet k.holds)
-step_keeps o u v (Notes log history m event quiet no_done answers) k = after_entry o log history m m event k (quiet_entry o log history m (entry_now log event) refl quiet no_done answers k.holds)
+step_keeps o u v (Notes log history m event quiet no_done answers) k = after_entry o log history m m event k (quiet_entry o log history m (entry_now log event) refl quiet (no_done_ends m.discards.drops history (entry_now log event) no_done) answers k.holds)
 step_keeps o u v (Takes log history m table grows is_table) k =
-    same_logs o log history m (record { index = record { generation = m.index.generation; tracked = m.index.tracked; sure = m.index.sure; table = table; stale = m.index.stale; tried = m.index.tried; cursor = m.index.cursor }; fresh = m.fresh; born = m.born; owed = m.owed; pending = m.pending })
-    k (storage_taken o log history m table k.holds grows is_table)
+    same_logs o log history m (with_table m table) k (storage_taken o log history m table k.holds grows is_table)
 step_keeps o u v (Writes_local log history m id first content e b p fresh given same) k =
     let h = issue_fresh o log history m id first content e b p k.holds fresh given same in
     after_both o log history m m (Issue id first content) e k h.0 h.1
@@ -61,12 +119,13 @@ step_keeps o u v (Writes_whole log history m pending id first content e b p not_
     let h = issue_whole o log history m pending id first content e b p k.holds not_fresh none in_range given put write in
     after_both o log history m (with_blocks m m.fresh m.born m.owed pending) (Issue id first content) e k h.0 h.1
 step_keeps o u v (Copies log history m pending e b p not_fresh none in_range given put write) k =
-    after_event o log history m (with_blocks m m.fresh m.born m.owed pending) e k (put_copy o log history m pending e b p k.holds not_fresh none in_range given put write)
+    after_event o log history m (with_blocks m m.fresh m.born m.owed pending) e k (put_copy o log history m pending e b p k.holds not_fresh none in_range given put write).0
 step_keeps o u v (Becomes_local log history m fresh since pending b i d is ends put_fresh put_born put_pending) k =
     same_logs o log history m (with_blocks m fresh since m.owed pending) k (born o log history m fresh since pending b i d k.holds is ends put_fresh put_born put_pending)
 step_keeps o u v (Gives_up log history m pending b put closed) k = same_logs o log history m (with_blocks m m.fresh m.born m.owed pending) k (given_up o log history m pending b k.holds put closed)
 step_keeps o u v (Ends_write log history m owed call b fresh mine more only logged) k =
     after_entry o log history m (with_blocks m m.fresh m.born owed m.pending) (Done call) k (write_done o log history m owed call b k.holds fresh mine more only logged)
+step_keeps o u v (Drops log history m id first content c fresh stale owed d within writes is calm closed none) k = drop_keeps o log history m id first content c fresh stale owed d k within writes is calm closed none
 step_keeps o u v (Adopts log history m owed more local) k = same_logs o log history m (with_blocks m m.fresh m.born owed m.pending) k (adopted o log history m owed k.holds more local)
 step_keeps o u v (Puts_record log history m snapshot call a n q e value r way flushes room only reads is) k =
     let h = put_record o log history m snapshot call a n q e value r k.holds way flushes room only reads is in record { safe = safe_event o log history _ e k.safe h.facts; holds = h }
@@ -74,10 +133,10 @@ step_keeps o u v (Puts_page log history m snapshot call a n q e value page way f
     let h = put_page o log history m snapshot call a n q e value page k.holds way flushes room only is in record { safe = safe_event o log history _ e k.safe h.facts; holds = h }
 step_keeps o u v (Puts_header log history m snapshot call a n q e value tried way only wider wanted caught next) k =
     let h = put_header o log history m snapshot call a n q e value tried k.holds way only wider wanted caught next in record { safe = safe_event o log history _ e k.safe h.facts; holds = h }
-step_keeps o u v (Seals_records log history m snapshot call a n q stale owed way flushes logged sure slots) k =
-    record { safe = k.safe; holds = (seal_records o log history m snapshot call a n q stale owed k.holds way flushes logged sure slots).0 }
-step_keeps o u v (Seals_recycle log history m snapshot call a n q stale owed none value next way flushes logged only reads generation next_background caught empty) k =
-    record { safe = k.safe; holds = (seal_recycle o log history m snapshot call a n q stale owed none value next k.holds way flushes logged only reads generation next_background caught empty).0 }
+step_keeps o u v (Seals_records log history m call a n q p z so logged sure slots lost_slots) k =
+    record { safe = k.safe; holds = (seal_records o log history m call a n q p z k.holds so logged sure slots lost_slots).0 }
+step_keeps o u v (Seals_recycle log history m snapshot call a n q z none value next way flushes logged only reads generation next_background caught empty) k =
+    record { safe = k.safe; holds = (seal_recycle o log history m snapshot call a n q z none value next k.holds way flushes logged only reads generation next_background caught empty).0 }
 
 pub run_keeps : (o : Opening) (u w : World) → Runs o u w → Keeps o u → Keeps o w
 run_keeps o u w (Stays x) k = k

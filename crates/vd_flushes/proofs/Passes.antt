@@ -1,18 +1,19 @@
 -- What the facts on a pass in flight give, and what other events leave of them and of a flush under way.
-use Rattle.std.proofs.Common.{ℕ, ◌≡◌, ◌<◌, ◌⊎◌, inl, inr, List, [], ◌∷◌, ◌++◌, length, Option, Bool, true, arith, ap, sym, subst, ◌∙◌}
-use Rattle.vd_image.specs.Log.{Sector, CallId, Entry, Flush, Ask, Issue, Done, Broke, Seen, Reply, At, Covers, IsIssueOf, Ends}
+use Rattle.std.proofs.Common.{ℕ, ◌≡◌, ◌<◌, ◌⊎◌, inl, inr, List, [], ◌∷◌, ◌++◌, length, Some, Option, Bool, true, arith, ap, sym, subst, ◌∙◌}
+use Rattle.vd_image.specs.Log.{Sector, CallId, Entry, Ask, Issue, Done, Broke, Seen, Reply, At, Covers, IsIssueOf, Ends}
 use Rattle.vd_crash.specs.Safe.{NumberedEntry, events, Opening}
-use Rattle.vd_crash.specs.Facts.{Memory, Numbered, GuestWrites, IsSettled, Holds}
+use Rattle.vd_crash.specs.Facts.{Claim, Memory, Numbered, OwnWrites, IsShown, Holds}
 use Rattle.vd_image.specs.Log.{IsOpen}
-use Rattle.vd_image.proofs.Logs.{at_one, at_push, at_end, at_below, at_pushed, ends_end}
-use Rattle.vd_crash.proofs.Growth.{events_push, length_events, guest_writes_pushed, guest_writes_below, guest_open_pushed, written_before_old}
-use Rattle.vd_crash.proofs.Steps.{with_blocks, settled_push}
-use Rattle.vd_flushes.specs.Flushing.{IsUnderWay, IsRecorded, IsWrittenPage, HasPage}
-use Rattle.vd_crash.proofs.Metadata.{right_page_more}
+use Rattle.vd_image.proofs.Logs.{at_one, at_push, at_end, at_pushed, ends_end}
+use Rattle.vd_crash.proofs.Growth.{events_push, length_events, guest_writes_below, guest_open_pushed, same_drops, own_pushed, EndsMirrored}
+use Rattle.vd_crash.proofs.Steps.{with_blocks}
+use Rattle.vd_flushes.specs.Flushing.{Snapshot, IsRecorded, IsWrittenPage, HasPage}
+use Rattle.vd_crash.proofs.Metadata.{right_more}
+use Rattle.vd_crash.specs.Words.{Grows}
 use Rattle.vd_flushes.specs.Passes.{IsWriting}
 use Rattle.vd_image.specs.Log.{IsInFlight}
 use Rattle.vd_flushes.proofs.Flushes.{last_push}
-use Rattle.vd_crash.proofs.Ends.{write_done}
+use Rattle.vd_crash.proofs.Ends.{write_done, done_mirrored}
 
 pub issue_one : (e : Entry) (x y : CallId) → IsIssueOf e x → IsIssueOf e y → x ≡ y
 issue_one (Issue id first content) x y h k = sym h ∙ k
@@ -75,6 +76,18 @@ writing_entry o log history b call ticket j n x no_done no_broke no_issue h = re
   only = λ k other. h.only k (in_flight_pushed (events history) x.event k call no_issue (subst (λ (l : List Entry). IsInFlight l k call) (events_push history x) other));
 }
 
+-- the call's open write is this one
+pub writing_mine : (o : Opening) (log : List Entry) (history : List NumberedEntry) (drops : ℕ → Option ℕ) (b : ℕ) (call ticket : CallId) (j n : ℕ) → IsWriting o log history b call ticket j n
+    → (k i s : ℕ) (v : Sector) → OwnWrites drops history k i s v → (is_open : IsOpen (events history) k) → is_open.id ≡ call → (o.layout.block_of s ≡ b) × ((d : ℕ) × Ends (log ++ Done ticket ∷ []) i d)
+writing_mine o log history drops b call ticket j n w k i s v g is_open same =
+    let k_is : k ≡ j = w.only k (subst (λ (y : CallId). IsInFlight (events history) k y) same (open_in_flight (events history) k is_open)) in
+    let entry : record { event = g.0.event; number = i } ≡ record { event = w.event; number = n } = at_one history j (record { event = g.0.event; number = i }) (record { event = w.event; number = n }) (subst (λ (y : ℕ). Numbered history y i g.0.event) k_is g.0.stands) w.stands in
+    let event : g.0.event ≡ w.event = ap (λ (y : NumberedEntry). y.event) entry in
+    let number : i ≡ n = ap (λ (y : NumberedEntry). y.number) entry in (
+      w.block s v (subst (λ (y : Entry). Covers y s v) event g.0.covers),
+      (length log, subst (λ (y : ℕ). Ends (log ++ Done ticket ∷ []) y (length log)) (sym number) (in_flight_ends log n ticket w.store)),
+    )
+
 -- The store's Done of a pass's write, and then the guest's: the block is local (it was, or became so in between).
 pub writing_done : (o : Opening) (log : List Entry) (history : List NumberedEntry) (m : Memory) (owed : ℕ → Bool) (b : ℕ) (call ticket : CallId) (j n : ℕ)
     → IsWriting o log history b call ticket j n
@@ -82,26 +95,20 @@ pub writing_done : (o : Opening) (log : List Entry) (history : List NumberedEntr
     → ((c : ℕ) → m.owed c ≡ true → owed c ≡ true) → ((c : ℕ) → owed c ≡ true → (m.owed c ≡ true) ⊎ (c ≡ b)) → (m.index.stale b ≡ true) ⊎ (owed b ≡ true)
     → Holds o (log ++ Done ticket ∷ []) (history ++ record { event = Done call; number = length (log ++ Done ticket ∷ []) } ∷ []) (with_blocks m m.fresh m.born owed m.pending)
 writing_done o log history m owed b call ticket j n w h fresh more only logged =
-    write_done o (log ++ Done ticket ∷ []) history m owed call b h fresh mine more only logged
-  where
-    mine : (k i s : ℕ) (v : Sector) → GuestWrites history k i s v → (is_open : IsOpen (events history) k) → is_open.id ≡ call → (o.layout.block_of s ≡ b) × ((d : ℕ) × Ends (log ++ Done ticket ∷ []) i d)
-    mine k i s v g is_open same =
-        let k_is : k ≡ j = w.only k (subst (λ (y : CallId). IsInFlight (events history) k y) same (open_in_flight (events history) k is_open)) in
-        let entry : record { event = g.event; number = i } ≡ record { event = w.event; number = n } = at_one history j (record { event = g.event; number = i }) (record { event = w.event; number = n }) (subst (λ (y : ℕ). Numbered history y i g.event) k_is g.stands) w.stands in
-        let event : g.event ≡ w.event = ap (λ (y : NumberedEntry). y.event) entry in
-        let number : i ≡ n = ap (λ (y : NumberedEntry). y.number) entry in (
-          w.block s v (subst (λ (y : Entry). Covers y s v) event g.covers),
-          (length log, subst (λ (y : ℕ). Ends (log ++ Done ticket ∷ []) y (length log)) (sym number) (in_flight_ends log n ticket w.store)),
-        )
+    write_done o (log ++ Done ticket ∷ []) history m owed call b h fresh (writing_mine o log history m.discards.drops b call ticket j n w) more only logged
+
+pub writing_mirrored : (o : Opening) (log : List Entry) (history : List NumberedEntry) (m : Memory) (b : ℕ) (call ticket : CallId) (j n : ℕ) → IsWriting o log history b call ticket j n → Holds o (log ++ Done ticket ∷ []) history m
+    → (c q : ℕ) → m.index.table (o.layout.chunk_of c) ≡ Some q → EndsMirrored o (log ++ Done ticket ∷ []) history m.discards.drops c q (record { event = Done call; number = length (log ++ Done ticket ∷ []) })
+writing_mirrored o log history m b call ticket j n w h = done_mirrored o (log ++ Done ticket ∷ []) history m call b h (writing_mine o log history m.discards.drops b call ticket j n w)
 
 -- After the Broke of a pass's write no guest write to its block is open, where each open one is the call's.
-pub writing_broke : (o : Opening) (log : List Entry) (history : List NumberedEntry) (b : ℕ) (call : CallId) (number : ℕ)
-    → ((k i s : ℕ) (v : Sector) → o.layout.block_of s ≡ b → GuestWrites history k i s v → (is_open : IsOpen (events history) k) → is_open.id ≡ call)
-    → (k i s : ℕ) (v : Sector) → o.layout.block_of s ≡ b → GuestWrites (history ++ record { event = Broke call; number = number } ∷ []) k i s v → IsOpen (events (history ++ record { event = Broke call; number = number } ∷ [])) k → ⊥
-writing_broke o log history b call number mine k i s v block w is_open =
-    elim (guest_writes_pushed history (record { event = Broke call; number = number }) k i s v w) [
+pub writing_broke : (o : Opening) (log : List Entry) (history : List NumberedEntry) (drops : ℕ → Option ℕ) (b : ℕ) (call : CallId) (number : ℕ)
+    → ((k i s : ℕ) (v : Sector) → o.layout.block_of s ≡ b → OwnWrites drops history k i s v → (is_open : IsOpen (events history) k) → is_open.id ≡ call)
+    → (k i s : ℕ) (v : Sector) → o.layout.block_of s ≡ b → OwnWrites drops (history ++ record { event = Broke call; number = number } ∷ []) k i s v → IsOpen (events (history ++ record { event = Broke call; number = number } ∷ [])) k → ⊥
+writing_broke o log history drops b call number mine k i s v block w is_open =
+    elim (own_pushed drops drops history (record { event = Broke call; number = number }) k i s v (same_drops drops (length history)) w) [
       | inl old ↦
-          let below = guest_writes_below history k i s v old in
+          let below = guest_writes_below history k i s v old.0 in
           let was = guest_open_pushed history (record { event = Broke call; number = number }) k below is_open in
           let id_was : was.id ≡ call = mine k i s v block old was in
           let there : At (events history ++ Broke call ∷ []) k is_open.event = subst (λ (l : List Entry). At l k is_open.event) (events_push history (record { event = Broke call; number = number })) is_open.stands in
@@ -111,33 +118,8 @@ writing_broke o log history b call number mine k i s v block w is_open =
           let end : At (events (history ++ record { event = Broke call; number = number } ∷ [])) (length (events history)) (Broke call) =
           subst (λ (l : List Entry). At l (length (events history)) (Broke call)) (sym (events_push history (record { event = Broke call; number = number }))) (at_end (events history) (Broke call)) in
           is_open.open_still (length (events history)) (let l = length_events history in omega arith) (inr (subst (λ (y : CallId). At (events (history ++ record { event = Broke call; number = number } ∷ [])) (length (events history)) (Broke y)) (sym id_is) end))
-      | inr new ↦ new.2
+      | inr new ↦ absurd new.2
     ]
-
--- a flush under way, after an entry
-pub under_way_entry : (o : Opening) (log : List Entry) (history : List NumberedEntry) (m : Memory) (snapshot : ℕ → Bool) (call : CallId) (a n q : ℕ) (x : NumberedEntry)
-    → IsUnderWay o log history m snapshot call a n q → IsUnderWay o log (history ++ x ∷ []) m snapshot call a n q
-under_way_entry o log history m snapshot call a n q x h = record {
-  asked = at_push history x a (record { event = Ask call Flush; number = n }) h.asked;
-  order = h.order;
-  owed = h.owed;
-  owed_done = h.owed_done;
-  tried = h.tried;
-  covered = λ b w. h.covered b (written_before_old o history x a b (let l = at_below history a (record { event = Ask call Flush; number = n }) h.asked in omega arith) w);
-}
-
--- a flush under way, after a change of memory by another pass: more is owed, and what was local was so since the same moment
-pub under_way_blocks : (o : Opening) (log : List Entry) (history : List NumberedEntry) (m : Memory) (snapshot : ℕ → Bool) (call : CallId) (a n q : ℕ) (fresh : ℕ → Bool) (born : ℕ → ℕ) (owed : ℕ → Bool) (pending : ℕ → Option ℕ)
-    → ((b : ℕ) → m.owed b ≡ true → owed b ≡ true) → ((b : ℕ) → m.owed b ≡ true → born b ≡ m.born b)
-    → IsUnderWay o log history m snapshot call a n q → IsUnderWay o log history (with_blocks m fresh born owed pending) snapshot call a n q
-under_way_blocks o log history m snapshot call a n q fresh born owed pending more same h = record {
-  asked = h.asked;
-  order = h.order;
-  covered = h.covered;
-  tried = h.tried;
-  owed = λ b snap. more b (h.owed b snap);
-  owed_done = λ b snap. let k = same b (h.owed b snap) in let l = h.owed_done b snap in omega arith;
-}
 
 -- what was put stays the last of its sector while other sectors are written
 pub recorded_push : (o : Opening) (log : List Entry) (m : Memory) (e : Entry) (first by b : ℕ) → ((k : ℕ) (u : Sector) → k < m.index.cursor → k < o.layout.slots → Covers e (o.layout.slot_at k) u → ⊥)
@@ -152,12 +134,19 @@ recorded_push o log m e first by b other h = record {
   last = last_push log e (o.layout.slot_at h.slot) h.value by (λ u covers. other h.slot u h.below h.within covers) h.last;
 }
 
-pub written_more : (o : Opening) (settled more : ℕ → Type 0) (m : Memory) (snapshot : ℕ → Bool) (c : ℕ) (v : Sector) → ((b : ℕ) → settled b → more b) → IsWrittenPage o settled m snapshot c v → IsWrittenPage o more m snapshot c v
-written_more o settled more m snapshot c v better h = record { right = right_page_more o settled more m.index.table m.index.table c v better (λ d p given. given) h.right; has = h.has }
+-- a page that was written is so where more is settled and more storage is given
+pub written_grown : (o : Opening) (settled more : Claim → Type 0) (m n : Memory) (snapshot : Snapshot) (c : ℕ) (v : Sector) → ((t : Claim) → settled t → more t) → Grows m.index.table n.index.table
+    → IsWrittenPage o settled m snapshot c v → IsWrittenPage o more n snapshot c v
+written_grown o settled more m n snapshot c v better grows h = record {
+  right = record { mapping = h.right.mapping; reads = h.right.reads; right = right_more o settled more m.index.table n.index.table c h.right.mapping better grows h.right.right };
+  has = h.has;
+  only = h.only;
+}
 
-pub page_push : (o : Opening) (log : List Entry) (m : Memory) (snapshot : ℕ → Bool) (e : Entry) (by c : ℕ) → ((u : Sector) → Covers e (o.layout.map_at c) u → ⊥) → HasPage o log m snapshot by c → HasPage o (log ++ e ∷ []) m snapshot by c
-page_push o log m snapshot e by c other h = record {
+pub page_push : (o : Opening) (log : List Entry) (history : List NumberedEntry) (m : Memory) (snapshot : Snapshot) (e : Entry) (by c : ℕ) → ((u : Sector) → Covers e (o.layout.map_at c) u → ⊥) → ((t : Claim) → IsShown o log history m snapshot.begun t → IsShown o (log ++ e ∷ []) history m snapshot.begun t)
+    → HasPage o log history m snapshot by c → HasPage o (log ++ e ∷ []) history m snapshot by c
+page_push o log history m snapshot e by c other still h = record {
   value = h.value;
   last = last_push log e (o.layout.map_at c) h.value by other h.last;
-  written = written_more o (IsSettled log m) (IsSettled (log ++ e ∷ []) m) m snapshot c h.value (settled_push log m e) h.written;
+  written = written_grown o (IsShown o log history m snapshot.begun) (IsShown o (log ++ e ∷ []) history m snapshot.begun) m m snapshot c h.value still (λ d p given. given) h.written;
 }

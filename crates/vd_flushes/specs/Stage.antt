@@ -1,9 +1,10 @@
 -- What the core keeps of all its passes and of the stage of the flush under way.
 use Rattle.std.specs.Prelude.{ℕ, ◌≡◌, ◌<◌, ◌≤◌, ◌⊎◌, Bool, true, List, Some, length}
-use Rattle.vd_image.specs.Log.{Sector, CallId, Entry, Done, Broke, IsIssueOf, Flushes, May}
+use Rattle.vd_image.specs.Log.{Sector, CallId, Entry, Done, Broke, At, IsIssueOf, Flushes, May}
 use Rattle.vd_crash.specs.Safe.{events, NumberedEntry, Opening}
-use Rattle.vd_crash.specs.Facts.{Memory, IsSettled, SlotsHave, RecordNames, IsInSlots}
-use Rattle.vd_flushes.specs.Flushing.{IsWanted, IsUnderWay, IsWrittenPage, IsCaughtUp, IsSealed}
+use Rattle.vd_image.specs.Image.{Fact, Record, IsCurrent}
+use Rattle.vd_crash.specs.Facts.{Claim, Need, Memory, IsShown, IsRight, SlotsHave, RecordNames, IsNamed}
+use Rattle.vd_flushes.specs.Flushing.{Snapshot, IsWanted, IsUnderWay, IsWrittenPage, IsCaughtUp, IsSealed}
 use Rattle.vd_flushes.specs.Passes.{IsWriting, HasPut}
 use Rattle.vd_image.specs.Log.{IsInFlight}
 
@@ -18,7 +19,7 @@ abbrev pub FlightHolds : Opening → List Entry → List NumberedEntry → Memor
 FlightHolds o log history m Idle = Unit {0}
 FlightHolds o log history m (Writing b j n call ticket) = IsWriting o log history b call ticket j n × ((m.fresh b ≡ true) ⊎ (m.pending b ≡ Some n))
 FlightHolds o log history m (Copying b i ticket) = IsInFlight log i ticket × (m.pending b ≡ Some i)
-FlightHolds o log history m (Answering call a n) = IsSealed o log history m.index.stale call a n
+FlightHolds o log history m (Answering call a n) = IsSealed o log history m.discards.drops m.index.stale m.index.off_base m.discards.reach call a n
 
 abbrev pub HasTicket : Flight → CallId → Type 0
 HasTicket Idle t = ⊥
@@ -57,10 +58,10 @@ pub record AreFlights (o : Opening) (log : List Entry) (history : List NumberedE
   -- each open guest write is some pass's
   pub owned : (j : ℕ) (c : CallId) → IsInFlight (events history) j c → (k : ℕ) × HasWrite (flights k) j
 
--- How far a flush is: the blocks of its snapshot; the cursor at which it began; the blocks that were put in a record and the
+-- How far a flush is: its snapshot; the cursor at which it began; the blocks that were put in a record and the
 -- chunks whose page of the map was put, done before event number `by`; and those that a sync has made so in every image.
 pub record Progress : Type 0 where
-  pub snapshot : ℕ → Bool
+  pub snapshot : Snapshot
   pub first : ℕ
   pub by : ℕ
   pub recorded : ℕ → Bool
@@ -74,13 +75,16 @@ pub record IsSoFar (o : Opening) (log : List Entry) (history : List NumberedEntr
   pub flushes : Flushes log q
   pub within : p.by ≤ length log
   pub first : p.first ≤ m.index.cursor
-  -- each fact that was put since it began has the wanted blocks of its chunk
-  pub since : (b : ℕ) → IsWanted m p.snapshot b → SlotsHave o (May o.before log) m.index.generation p.first b
+  -- each fact that was put since it began has what is wanted of its chunk
+  pub since : (t : Need) → IsWanted o p.snapshot t → SlotsHave o (May o.before log) m.index.generation p.first t
+  -- it is right even where each discard of before the snapshot counts, and it has nothing else
+  pub since_right : (k : ℕ) (v : Sector) (item : Record) (place : ℕ) (fact : Fact) → p.first ≤ k → k < o.layout.slots → May o.before log (o.layout.slot_at k) v → o.format.record_of v ≡ Some item → IsCurrent item m.index.generation → At item.facts place fact
+      → IsRight o (IsShown o log history m p.snapshot.begun) m.index.table fact.chunk fact.mapping × ((b : ℕ) → fact.mapping.has b ≡ true → p.snapshot.wanted b ≡ true)
   pub in_range : (c : ℕ) → (p.written c ≡ true) ⊎ (p.paged c ≡ true) → c < o.layout.chunks
-  pub puts_done : HasPut o log m p.snapshot p.first p.by p.recorded p.written
-  pub logged : (b : ℕ) → p.slotted b ≡ true → IsWanted m p.snapshot b
-  pub slotted : (b : ℕ) → p.slotted b ≡ true → IsInSlots o (May o.before log) m.index.generation m.index.cursor b
-  pub paged : (c : ℕ) → p.paged c ≡ true → IsCaughtUp o (May o.before log) (IsSettled log m) m p.snapshot c
+  pub puts_done : HasPut o log history m p.snapshot p.first p.by p.recorded p.written
+  -- a slot since it began names the block's chunk, whatever is left of it
+  pub slotted : (b : ℕ) → p.slotted b ≡ true → IsNamed o (May o.before log) m.index.generation m.index.cursor p.first (o.layout.chunk_of b)
+  pub paged : (c : ℕ) → p.paged c ≡ true → IsCaughtUp o (May o.before log) (IsShown o log history m p.snapshot.begun) m p.snapshot c
 
 -- what the put of v into sector a adds: blocks whose chunk its record names, or chunks of its page of the map
 pub record IsLoggedBy (o : Opening) (m : Memory) (a : ℕ) (v : Sector) (recorded written : ℕ → Bool) (p : Progress) : Type 0 where
@@ -88,7 +92,7 @@ pub record IsLoggedBy (o : Opening) (m : Memory) (a : ℕ) (v : Sector) (recorde
   pub pages : (c : ℕ) → written c ≡ true → (p.written c ≡ true) ⊎ ((a ≡ o.layout.map_at c) × (c < o.layout.chunks))
 
 -- where sector a is a page of the map, v is right at each of its chunks and has their wanted blocks
-abbrev pub IsPageToPut : Opening → (ℕ → Type 0) → Memory → (ℕ → Bool) → ℕ → Sector → Type 0
+abbrev pub IsPageToPut : Opening → (Claim → Type 0) → Memory → Snapshot → ℕ → Sector → Type 0
 IsPageToPut o settled m snapshot a v = (c : ℕ) → c < o.layout.chunks → o.layout.map_at c ≡ a → IsWrittenPage o settled m snapshot c v
 
 -- the entry is of another call than this

@@ -61,7 +61,7 @@ storage_is n p e = elim (cases_eq n 0) [
 entry_mapping : (h : Header) (chunk : ℕ) (e : Entry) → IsEntry (shape_of h) chunk e → IsMapping (layout_of h) chunk (mapping_in h chunk e)
 entry_mapping h chunk e is = record {
   within = λ p given. let n = storage_is e.storage p given in let k = is.storage in omega arith;
-  kind = is.kind;
+  kind = λ none. is.kind;
   blocks = λ b has.
       let bit = has_bit (chunk * h.chunk) e.mask b has in
       let k = is.blocks (b - chunk * h.chunk) bit.1 in
@@ -80,7 +80,7 @@ entry_mapping h chunk e is = record {
 mapping_entry : (h : Header) (chunk : ℕ) (e : Entry) → IsValid h → IsMapping (layout_of h) chunk (mapping_in h chunk e) → IsEntry (shape_of h) chunk e
 mapping_entry h chunk e valid is = record {
   storage = elim (cases_eq e.storage 0) [ inl none ↦ omega arith | inr some ↦ (let k = is.within (e.storage - 1) (some_storage e.storage some) in omega (arith, some, k)) ];
-  kind = is.kind;
+  kind = is.kind refl;
   mask = below_from_bits e.mask 64 (λ i bit. let b = of_chunk i bit in let k = (chunk_within h valid).1 in omega arith);
   blocks = λ i bit. (of_chunk i bit, (is.blocks (chunk * h.chunk + i) (bit_has (chunk * h.chunk) e.mask i bit)).0);
   empty = (

@@ -94,6 +94,10 @@ made_maps h generation chunk m (inr page) = let reads = page.2 in let read = bla
 pub made_gives_none : (h : Header) (generation chunk p : ℕ) → Gives (format_of h) (layout_of h) (made h) generation chunk p → ⊥
 made_gives_none h generation chunk p (m, maps, storage) = let same = made_maps h generation chunk m maps in let given : (blank h chunk).storage ≡ Some p = subst (λ (w : Mapping). w.storage ≡ Some p) same storage in cc
 
+-- each chunk's kind is base
+pub made_base : (h : Header) (generation chunk : ℕ) (m : Mapping) → Maps (format_of h) (layout_of h) (made h) generation chunk m → m.zeros ≡ false
+made_base h generation chunk m maps = ap (λ (w : Mapping). w.zeros) (made_maps h generation chunk m maps)
+
 pub made_opens : (h : Header) → IsValid h → h.version ≡ this_version → Opens (need_of h) (made h) h
 made_opens h valid version = record {
   reads = header_of-spelling (header_sector h) h (record { valid = valid; bytes = refl });

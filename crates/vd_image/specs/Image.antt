@@ -48,6 +48,8 @@ pub record Layout : Type 0 where
   pub blocks : ℕ
   pub slots : ℕ
   pub storage : ℕ
+  -- chunks may be discarded: a mapping of kind zeros is in the grammar
+  pub discards : Bool
   pub header_at : ℕ
   pub map_at : ℕ → ℕ
   pub slot_at : ℕ → ℕ
@@ -65,8 +67,8 @@ IsLocalBy m block storage = (m.storage ≡ Some storage) × (m.has block ≡ tru
 -- The grammar of a chunk's mapping: the mask has existing blocks of the chunk alone, and is empty exactly where there is no storage.
 pub record IsMapping (l : Layout) (chunk : ℕ) (m : Mapping) : Type 0 where
   pub within : (p : ℕ) → m.storage ≡ Some p → p < l.storage
-  -- a chunk of zeros is outside the grammar
-  pub kind : m.zeros ≡ false
+  -- a chunk of zeros is outside the grammar where no chunk is ever discarded
+  pub kind : l.discards ≡ false → m.zeros ≡ false
   pub blocks : (b : ℕ) → m.has b ≡ true → (b < l.blocks) × (l.chunk_of b ≡ chunk)
   pub has_storage : (b : ℕ) → m.has b ≡ true → (p : ℕ) × (m.storage ≡ Some p)
   pub has_block : (p : ℕ) → m.storage ≡ Some p → (b : ℕ) × (m.has b ≡ true)

@@ -1,5 +1,5 @@
 -- Where the parts of a store stand, by the numbers of a header.
-use Rattle.std.specs.Prelude.{ℕ, ◌+◌, ◌*◌, ◌/◌, ◌%◌, ◌<◌}
+use Rattle.std.specs.Prelude.{ℕ, ◌+◌, ◌*◌, ◌/◌, ◌%◌, ◌<◌, false}
 pub use Rattle.vd_format.specs.Layouts.{blocks_of, chunks_of, map_start, slots_start, storage_start}
 pub use Rattle.vd_format.specs.Headers.{IsValid}
 use Rattle.vd_image.specs.Image.{Header, Layout, geometry_of}
@@ -20,6 +20,7 @@ layout_of h = record {
   blocks = blocks_of h;
   slots = h.slots;
   storage = h.storage;
+  discards = false;
   header_at = 0;
   map_at = λ c. map_start h + c / page_mappings;
   slot_at = λ k. slots_start h + k;

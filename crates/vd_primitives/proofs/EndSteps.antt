@@ -4,14 +4,18 @@ use Rattle.std.proofs.lemmas.Bool.{cases_eq}
 use Rattle.vd_image.specs.Log.{Sector, CallId, Entry, Done, Broke, At, Covers, IsIssueOf}
 use Rattle.vd_crash.specs.Safe.{NumberedEntry, events, Opening, IsSafe}
 use Rattle.vd_image.specs.Log.{IsOpen}
-use Rattle.vd_crash.specs.Facts.{Memory, Numbered, GuestWrites, Holds}
+use Rattle.vd_crash.specs.Facts.{Memory, Numbered, GuestWrites, OwnWrites, Holds}
+use Rattle.vd_crash.proofs.Steps.{next_ordinary}
+use Rattle.vd_crash.proofs.Writes.{no_ends}
+use Rattle.vd_flushes.proofs.Stage.{quiet_follows}
+use Rattle.vd_flushes.proofs.Passes.{writing_mirrored}
 use Rattle.vd_image.specs.Log.{IsInFlight}
 use Rattle.vd_flushes.specs.Stage.{Flight, Idle, Writing, Copying, Answering, FlightHolds, HasTicket, HasBlock, HasCall, HasWrite, AreDistinct, AreFlights}
 use Rattle.vd_crash.specs.Words.{IsQuiet, with_blocks, IsUpdated}
 use Rattle.vd_flushes.specs.Moves.{world, entry_now, Tells, Notes}
 use Rattle.vd_primitives.specs.Core.{Stage, StageTicket, IsCore}
 use Rattle.vd_image.proofs.Logs.{at_end, at_below, at_one}
-use Rattle.vd_crash.proofs.Growth.{events_push}
+use Rattle.vd_crash.proofs.Growth.{events_push, length_push, EndsMirrored}
 use Rattle.vd_crash.proofs.Moments.{safe_entry}
 use Rattle.vd_flushes.proofs.Moves.{step_keeps}
 use Rattle.vd_flushes.proofs.Passes.{in_flight_pushed, in_flight_ends, open_in_flight, writing_done, writing_broke}
@@ -23,7 +27,7 @@ use Rattle.vd_primitives.proofs.PassSteps.{kept, quiet_places}
 use Rattle.vd_primitives.proofs.IssueSteps.{end_no_ask, tickets_set, write_call}
 
 -- a pass's open write is to its block, and its call's
-write_block : (o : Opening) (log : List Entry) (history : List NumberedEntry) (m : Memory) (f : Flight) (j i s : ℕ) (v : Sector) → FlightHolds o log history m f → HasWrite f j → GuestWrites history j i s v → HasBlock f (o.layout.block_of s)
+pub write_block : (o : Opening) (log : List Entry) (history : List NumberedEntry) (m : Memory) (f : Flight) (j i s : ℕ) (v : Sector) → FlightHolds o log history m f → HasWrite f j → GuestWrites history j i s v → HasBlock f (o.layout.block_of s)
 write_block o log history m Idle j i s v h has w = has
 write_block o log history m (Copying b n ticket) j i s v h has w = absurd has
 write_block o log history m (Answering call a n) j i s v h has w = has
@@ -93,12 +97,12 @@ stage_ticket stage ticket t e none first out second = none (subst (λ (y : CallI
 
 -- what is left to show once the logs and the memory have all facts: the other passes and the flush
 end_core : (o : Opening) (log : List Entry) (history : List NumberedEntry) (m : Memory) (flights new : ℕ → Flight) (stage : Stage) (k b j n : ℕ) (call ticket : CallId) (e event : Entry) (fresh : ℕ → Bool) (born_at : ℕ → ℕ) (owed : ℕ → Bool) (pending : ℕ → Option ℕ)
-    → IsCore o log history m flights stage → flights k ≡ Writing b j n call ticket → IsUpdated flights new k Idle → IsQuiet e
+    → IsCore o log history m flights stage → flights k ≡ Writing b j n call ticket → IsUpdated flights new k Idle → IsQuiet e → ((d q : ℕ) → m.index.table (o.layout.chunk_of d) ≡ Some q → EndsMirrored o (log ++ e ∷ []) history m.discards.drops d q (entry_now (log ++ e ∷ []) event))
     → (Done ticket ≡ e) ⊎ (Broke ticket ≡ e) → (Done call ≡ event) ⊎ (Broke call ≡ event) → ((c : CallId) → IsIssueOf event c → ⊥)
     → ((d : ℕ) → m.fresh d ≡ true → fresh d ≡ true) → ((d : ℕ) → m.owed d ≡ true → owed d ≡ true) → ((d : ℕ) → m.fresh d ≡ true → born_at d ≡ m.born d) → ((d : ℕ) → (d ≡ b → ⊥) → pending d ≡ m.pending d)
     → IsSafe o (log ++ e ∷ []) (history ++ entry_now (log ++ e ∷ []) event ∷ []) → Holds o (log ++ e ∷ []) (history ++ entry_now (log ++ e ∷ []) event ∷ []) (with_blocks m fresh born_at owed pending)
     → IsCore o (log ++ e ∷ []) (history ++ entry_now (log ++ e ∷ []) event ∷ []) (with_blocks m fresh born_at owed pending) new stage
-end_core o log history m flights new stage k b j n call ticket e event fresh born_at owed pending c is put quiet ticket_end call_end no_issue more_fresh more_owed same_born other_pending safe holds = record {
+end_core o log history m flights new stage k b j n call ticket e event fresh born_at owed pending c is put quiet ends ticket_end call_end no_issue more_fresh more_owed same_born other_pending safe holds = record {
   safe = safe;
   holds = holds;
   in_flight = record {
@@ -106,7 +110,7 @@ end_core o log history m flights new stage k b j n call ticket e event fresh bor
         (λ l other. flight_memory o (log ++ e ∷ []) (history ++ x ∷ []) m (with_blocks m fresh born_at owed pending) (flights l)
         (record {
           fresh = λ d has known. more_fresh d known;
-          stale = λ d known. known;
+          sealed = λ id a i known. known;
           pending = λ d i has known. other_pending d (λ same. other (c.in_flight.distinct.blocks l k d has (subst (λ (y : ℕ). HasBlock (flights k) y) (sym same) has_block))) ∙ known;
         })
         (flight_entry o (log ++ e ∷ []) history m (flights l) x (λ d has. other_call flights k l call d x c.in_flight.distinct other has_call call_end no_issue has)
@@ -116,7 +120,8 @@ end_core o log history m flights new stage k b j n call ticket e event fresh bor
     owned = end_owned o log history m flights new k b j n call ticket x c.in_flight is put call_end no_issue;
   };
   so_far = stage_blocks o (log ++ e ∷ []) (history ++ x ∷ []) m stage fresh born_at owed pending c.holds.blocks.owed_local more_fresh more_owed same_born
-      (stage_entry o (log ++ e ∷ []) history m stage x (stage_event o log history m stage e c.holds (quiet_places o e quiet) (λ t out. stage_ticket stage ticket t e (c.tickets k ticket has_ticket) ticket_end out) (λ d request out. end_no_ask e ticket d request ticket_end) c.so_far));
+      (stage_entry o (log ++ e ∷ []) history m stage x (next_ordinary o m.discards.drops history c.holds.facts.discards) (let w = c.holds.facts.opening.within in let l = length_push log e in omega arith) refl ends
+      (stage_event o log history m stage e c.holds.apart (quiet_places o e quiet) (quiet_follows o log history m e quiet) (λ t out. stage_ticket stage ticket t e (c.tickets k ticket has_ticket) ticket_end out) (λ d request out. end_no_ask e ticket d request ticket_end) c.so_far));
   tickets = tickets_set flights new stage k Idle put c.tickets (λ t mine out. mine);
 }
   where
@@ -141,7 +146,7 @@ core_done o log history m owed flights new stage k b j n call ticket c is put fr
     let w = mine_of o log history m flights k (Writing b j n call ticket) c.in_flight is in
     let one = step_keeps o (world log history m) (world (log ++ Done ticket ∷ []) history m) (Tells log history m (Done ticket) (λ s v covers. covers)) (kept o log history m flights stage c) in
     let holds = writing_done o log history m owed b call ticket j n w.0 one.holds fresh more only logged in
-    end_core o log history m flights new stage k b j n call ticket (Done ticket) (Done call) m.fresh m.born owed m.pending c is put (λ s v covers. covers) (inl refl) (inl refl) (λ d issue. issue)
+    end_core o log history m flights new stage k b j n call ticket (Done ticket) (Done call) m.fresh m.born owed m.pending c is put (λ s v covers. covers) (writing_mirrored o log history m b call ticket j n w.0 one.holds) (inl refl) (inl refl) (λ d issue. issue)
     (λ d known. known) more (λ d known. refl) (λ d other. refl)
     (safe_entry o (log ++ Done ticket ∷ []) history (with_blocks m m.fresh m.born owed m.pending) (entry_now (log ++ Done ticket ∷ []) (Done call)) one.safe (omega arith) holds.facts) holds
 
@@ -156,7 +161,7 @@ core_done_whole o log history m fresh born_at owed pending flights new stage k b
     let one = step_keeps o (world log history m) (world (log ++ Done ticket ∷ []) history m) (Tells log history m (Done ticket) (λ s v covers. covers)) (kept o log history m flights stage c) in
     let two = born o (log ++ Done ticket ∷ []) history m fresh born_at pending b n (length log) one.holds at (in_flight_ends log n ticket w.0.store) put_fresh put_born put_pending in
     let holds = writing_done o log history (with_blocks m fresh born_at m.owed pending) owed b call ticket j n w.0 two put_fresh.same more only logged in
-    end_core o log history m flights new stage k b j n call ticket (Done ticket) (Done call) fresh born_at owed pending c is put (λ s v covers. covers) (inl refl) (inl refl) (λ d issue. issue)
+    end_core o log history m flights new stage k b j n call ticket (Done ticket) (Done call) fresh born_at owed pending c is put (λ s v covers. covers) (writing_mirrored o log history m b call ticket j n w.0 one.holds) (inl refl) (inl refl) (λ d issue. issue)
     more_fresh more (λ d known. put_born.other d (not_b d known)) put_pending.other
     (safe_entry o (log ++ Done ticket ∷ []) history (with_blocks m fresh born_at owed pending) (entry_now (log ++ Done ticket ∷ []) (Done call)) one.safe (omega arith) holds.facts) holds
   where
@@ -176,7 +181,7 @@ core_broke o log history m flights new stage k b j n call ticket c is put =
     let one = step_keeps o (world log history m) (world (log ++ Broke ticket ∷ []) history m) (Tells log history m (Broke ticket) (λ s v covers. covers)) (kept o log history m flights stage c) in
     let two = step_keeps o (world (log ++ Broke ticket ∷ []) history m) (world (log ++ Broke ticket ∷ []) (history ++ entry_now (log ++ Broke ticket ∷ []) (Broke call) ∷ []) m)
     (Notes (log ++ Broke ticket ∷ []) history m (Broke call) (λ s v covers. covers) (λ id same. cc) (λ id a i asked same. absurd cc)) one in
-    end_core o log history m flights new stage k b j n call ticket (Broke ticket) (Broke call) m.fresh m.born m.owed m.pending c is put (λ s v covers. covers) (inr refl) (inr refl) (λ d issue. issue)
+    end_core o log history m flights new stage k b j n call ticket (Broke ticket) (Broke call) m.fresh m.born m.owed m.pending c is put (λ s v covers. covers) (λ d q given. no_ends o (log ++ Broke ticket ∷ []) history m.discards.drops (entry_now (log ++ Broke ticket ∷ []) (Broke call)) (λ id same. absurd cc) d q) (inr refl) (inr refl) (λ d issue. issue)
     (λ d known. known) (λ d known. known) (λ d known. refl) (λ d other. refl) two.safe two.holds
 
 -- a write fails: of a whole block
@@ -188,18 +193,18 @@ core_broke_whole o log history m pending flights new stage k b j n call ticket c
     let two = step_keeps o (world (log ++ Broke ticket ∷ []) history m) (world (log ++ Broke ticket ∷ []) (history ++ entry_now (log ++ Broke ticket ∷ []) (Broke call) ∷ []) m)
     (Notes (log ++ Broke ticket ∷ []) history m (Broke call) (λ s v covers. covers) (λ id same. cc) (λ id a i asked same. absurd cc)) one in
     let three = given_up o (log ++ Broke ticket ∷ []) (history ++ entry_now (log ++ Broke ticket ∷ []) (Broke call) ∷ []) m pending b two.holds put_pending
-    (writing_broke o log history b call (length (log ++ Broke ticket ∷ [])) mine) in
-    end_core o log history m flights new stage k b j n call ticket (Broke ticket) (Broke call) m.fresh m.born m.owed pending c is put (λ s v covers. covers) (inr refl) (inr refl) (λ d issue. issue)
+    (writing_broke o log history m.discards.drops b call (length (log ++ Broke ticket ∷ [])) mine) in
+    end_core o log history m flights new stage k b j n call ticket (Broke ticket) (Broke call) m.fresh m.born m.owed pending c is put (λ s v covers. covers) (λ d q given. no_ends o (log ++ Broke ticket ∷ []) history m.discards.drops (entry_now (log ++ Broke ticket ∷ []) (Broke call)) (λ id same. absurd cc) d q) (inr refl) (inr refl) (λ d issue. issue)
     (λ d known. known) (λ d known. known) (λ d known. refl) put_pending.other two.safe three
   where
     has_block : HasBlock (flights k) b
     has_block = subst (λ (g : Flight). HasBlock g b) (sym is) refl
 
-    mine : (l i s : ℕ) (v : Sector) → o.layout.block_of s ≡ b → GuestWrites history l i s v → (is_open : IsOpen (events history) l) → is_open.id ≡ call
+    mine : (l i s : ℕ) (v : Sector) → o.layout.block_of s ≡ b → OwnWrites m.discards.drops history l i s v → (is_open : IsOpen (events history) l) → is_open.id ≡ call
     mine l i s v block w is_open =
         let flight = open_in_flight (events history) l is_open in
         let has = c.in_flight.owned l is_open.id flight in
-        let there : HasBlock (flights has.0) b = subst (λ (y : ℕ). HasBlock (flights has.0) y) block (write_block o log history m (flights has.0) l i s v (c.in_flight.each has.0) has.1 w) in
+        let there : HasBlock (flights has.0) b = subst (λ (y : ℕ). HasBlock (flights has.0) y) block (write_block o log history m (flights has.0) l i s v (c.in_flight.each has.0) has.1 w.0) in
         let same : has.0 ≡ k = c.in_flight.distinct.blocks has.0 k b there has_block in
         let its : HasCall (flights has.0) is_open.id = write_call o log history m (flights has.0) l is_open.id (c.in_flight.each has.0) has.1 flight in
         sym (subst (λ (g : Flight). HasCall g is_open.id) is (subst (λ (y : ℕ). HasCall (flights y) is_open.id) same its))
@@ -218,7 +223,7 @@ copy_core o log history m flights new stage k b i ticket e fresh born_at pending
         (λ l other. flight_memory o (log ++ e ∷ []) history m (with_blocks m fresh born_at m.owed pending) (flights l)
         (record {
           fresh = λ d has known. more_fresh d known;
-          stale = λ d known. known;
+          sealed = λ id a i known. known;
           pending = λ d n has known. other_pending d (λ same. other (c.in_flight.distinct.blocks l k d has (subst (λ (y : ℕ). HasBlock (flights k) y) (sym same) has_block))) ∙ known;
         })
         (flight_event o log history m (flights l) e (λ t has. other_ticket flights k l ticket t e c.in_flight.distinct other has_ticket ticket_end has) (c.in_flight.each l)))
@@ -228,7 +233,7 @@ copy_core o log history m flights new stage k b i ticket e fresh born_at pending
         (has.0, subst (λ (g : Flight). HasWrite g j) (sym (put.other has.0 (λ same. subst (λ (g : Flight). HasWrite g j) is (subst (λ (y : ℕ). HasWrite (flights y) j) same has.1)))) has.1);
   };
   so_far = stage_blocks o (log ++ e ∷ []) history m stage fresh born_at m.owed pending c.holds.blocks.owed_local more_fresh (λ d known. known) same_born
-      (stage_event o log history m stage e c.holds (quiet_places o e quiet) (λ t out. stage_ticket stage ticket t e (c.tickets k ticket has_ticket) ticket_end out) (λ d request out. end_no_ask e ticket d request ticket_end) c.so_far);
+      (stage_event o log history m stage e c.holds.apart (quiet_places o e quiet) (quiet_follows o log history m e quiet) (λ t out. stage_ticket stage ticket t e (c.tickets k ticket has_ticket) ticket_end out) (λ d request out. end_no_ask e ticket d request ticket_end) c.so_far);
   tickets = tickets_set flights new stage k Idle put c.tickets (λ t mine out. mine);
 }
   where
@@ -270,10 +275,10 @@ core_copy_broke o log history m pending flights new stage k b i ticket c is put 
     has_block : HasBlock (flights k) b
     has_block = subst (λ (g : Flight). HasBlock g b) (sym is) refl
 
-    closed : (l n s : ℕ) (v : Sector) → o.layout.block_of s ≡ b → GuestWrites history l n s v → IsOpen (events history) l → ⊥
+    closed : (l n s : ℕ) (v : Sector) → o.layout.block_of s ≡ b → OwnWrites m.discards.drops history l n s v → IsOpen (events history) l → ⊥
     closed l n s v block w is_open =
         let flight = open_in_flight (events history) l is_open in
         let has = c.in_flight.owned l is_open.id flight in
-        let there : HasBlock (flights has.0) b = subst (λ (y : ℕ). HasBlock (flights has.0) y) block (write_block o log history m (flights has.0) l n s v (c.in_flight.each has.0) has.1 w) in
+        let there : HasBlock (flights has.0) b = subst (λ (y : ℕ). HasBlock (flights has.0) y) block (write_block o log history m (flights has.0) l n s v (c.in_flight.each has.0) has.1 w.0) in
         let same : has.0 ≡ k = c.in_flight.distinct.blocks has.0 k b there has_block in
         subst (λ (g : Flight). HasWrite g l) is (subst (λ (y : ℕ). HasWrite (flights y) l) same has.1)

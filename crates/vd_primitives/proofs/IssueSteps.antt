@@ -20,6 +20,8 @@ use Rattle.vd_primitives.proofs.Core.{stage_event, stage_entry, stage_blocks}
 use Rattle.vd_primitives.specs.Primitives.{MayIssue}
 use Rattle.vd_primitives.proofs.PassSteps.{kept}
 use Rattle.vd_flushes.proofs.Passes.{issue_one}
+use Rattle.vd_crash.proofs.Steps.{next_ordinary}
+use Rattle.vd_crash.proofs.Writes.{no_done, no_ends, same_follows, issue_whole, put_copy}
 
 pub issue_no_ask : (e : Entry) (ticket t : CallId) (request : Asked) → IsIssueOf e ticket → e ≡ Ask t request → ⊥
 issue_no_ask e ticket t request issues same = subst (λ (x : Entry). IsIssueOf x ticket) same issues
@@ -87,7 +89,7 @@ write_call o log history m (Writing b k n id ticket) j call h has flight =
     issue_one flight.event id call (subst (λ (y : Entry). IsIssueOf y id) same h.0.guest.issues) flight.issues
 
 -- a call that no pass has a write of has none open
-none_open : (o : Opening) (log : List Entry) (history : List NumberedEntry) (m : Memory) (flights : ℕ → Flight) (call : CallId) (j : ℕ) → AreFlights o log history m flights → ((l : ℕ) → HasCall (flights l) call → ⊥) → IsInFlight (events history) j call → ⊥
+pub none_open : (o : Opening) (log : List Entry) (history : List NumberedEntry) (m : Memory) (flights : ℕ → Flight) (call : CallId) (j : ℕ) → AreFlights o log history m flights → ((l : ℕ) → HasCall (flights l) call → ⊥) → IsInFlight (events history) j call → ⊥
 none_open o log history m flights call j h new flight = let has = h.owned j call flight in new has.0 (write_call o log history m (flights has.0) j call (h.each has.0) has.1 flight)
 
 -- the facts on the write that pass k has issued
@@ -127,7 +129,8 @@ core_issue o log history m flights new stage k b p id ticket first content e c m
             (λ l d other has mine. may.call_new l (subst (λ (y : CallId). HasCall (flights l) y) (sym mine) has));
         owned = issue_owned o log history m flights new k b (length log) id ticket x c.in_flight may.idle put;
       };
-      so_far = stage_entry o (log ++ e ∷ []) history m stage x (stage_event o log history m stage e c.holds places (λ t out. issue_no_end e ticket t issues) (λ t request out. issue_no_ask e ticket t request issues) c.so_far);
+      so_far = stage_event o log (history ++ x ∷ []) m stage e c.holds.apart places (same_follows o log history m id first content e b p c.holds given same) (λ t out. issue_no_end e ticket t issues) (λ t request out. issue_no_ask e ticket t request issues)
+          (stage_entry o log history m stage x (next_ordinary o m.discards.drops history c.holds.facts.discards) c.holds.facts.opening.within refl (λ d q also. no_ends o log history m.discards.drops x (λ call. no_done id call first content) d q) c.so_far);
       tickets = tickets_set flights new stage k (Writing b (length history) (length log) id ticket) put c.tickets (λ t mine out. may.stage_new (subst (λ (y : CallId). StageTicket stage y) (sym mine) out));
     }
   where
@@ -145,7 +148,7 @@ core_issue o log history m flights new stage k b p id ticket first content e c m
 -- a write to a block that isn't local
 pub core_issue_whole : (o : Opening) (log : List Entry) (history : List NumberedEntry) (m : Memory) (pending : ℕ → Option ℕ) (flights new : ℕ → Flight) (stage : Stage) (k b p : ℕ) (id ticket : CallId) (first : ℕ) (content : List Sector) (e : Entry)
     → IsCore o log history m flights stage → MayIssue flights stage k b id ticket → IsUpdated flights new k (Writing b (length history) (length log) id ticket) → IsIssueOf e ticket
-    → m.fresh b ≡ false → m.pending b ≡ None → b < o.layout.blocks → m.index.table (o.layout.chunk_of b) ≡ Some p → IsUpdated m.pending pending b (Some (length log)) → IsWholeWrite o (Issue id first content) e b p
+    → m.fresh b ≡ false → m.pending b ≡ None → b < o.layout.blocks → m.index.table (o.layout.chunk_of b) ≡ Some p → IsUpdated m.pending pending b (Some (length log)) → IsWholeWrite o m.discards (Issue id first content) e b p
     → IsCore o (log ++ e ∷ []) (history ++ entry_now log (Issue id first content) ∷ []) (with_blocks m m.fresh m.born m.owed pending) new stage
 core_issue_whole o log history m pending flights new stage k b p id ticket first content e c may put issues not_fresh none in_range given put_pending write =
     let k2 = step_keeps o (world log history m) (world (log ++ e ∷ []) (history ++ x ∷ []) n) (Writes_whole log history m pending id first content e b p not_fresh none in_range given put_pending write) (kept o log history m flights stage c) in
@@ -164,7 +167,8 @@ core_issue_whole o log history m pending flights new stage k b p id ticket first
         owned = issue_owned o log history m flights new k b (length log) id ticket x c.in_flight may.idle put;
       };
       so_far = stage_blocks o (log ++ e ∷ []) (history ++ x ∷ []) m stage m.fresh m.born m.owed pending c.holds.blocks.owed_local (λ d is. is) (λ d is. is) (λ d is. refl)
-          (stage_entry o (log ++ e ∷ []) history m stage x (stage_event o log history m stage e c.holds places (λ t out. issue_no_end e ticket t issues) (λ t request out. issue_no_ask e ticket t request issues) c.so_far));
+          (stage_event o log (history ++ x ∷ []) m stage e c.holds.apart places (issue_whole o log history m pending id first content e b p c.holds not_fresh none in_range given put_pending write).2 (λ t out. issue_no_end e ticket t issues) (λ t request out. issue_no_ask e ticket t request issues)
+          (stage_entry o log history m stage x (next_ordinary o m.discards.drops history c.holds.facts.discards) c.holds.facts.opening.within refl (λ d q also. no_ends o log history m.discards.drops x (λ call. no_done id call first content) d q) c.so_far));
       tickets = tickets_set flights new stage k (Writing b (length history) (length log) id ticket) put c.tickets (λ t mine out. may.stage_new (subst (λ (y : CallId). StageTicket stage y) (sym mine) out));
     }
   where
@@ -182,10 +186,10 @@ core_issue_whole o log history m pending flights new stage k b p id ticket first
     other_call l d has (inr (inl broke)) = cc
     other_call l d has (inr (inr same_call)) = may.call_new l (subst (λ (y : CallId). HasCall (flights l) y) (sym same_call) has)
 
-    keeps : (l : ℕ) → KeepsFor m n (flights l)
+    keeps : (l : ℕ) → KeepsFor o (log ++ e ∷ []) (history ++ x ∷ []) m n (flights l)
     keeps l = record {
       fresh = λ d has is. is;
-      stale = λ d is. is;
+      sealed = λ call a i is. is;
       pending = λ d i has is. put_pending.other d (λ same. may.block l (subst (λ (y : ℕ). HasBlock (flights l) y) same has)) ∙ is;
     }
 
@@ -193,7 +197,7 @@ core_issue_whole o log history m pending flights new stage k b p id ticket first
 pub core_copy : (o : Opening) (log : List Entry) (history : List NumberedEntry) (m : Memory) (pending : ℕ → Option ℕ) (flights new : ℕ → Flight) (stage : Stage) (k b p : ℕ) (ticket : CallId) (e : Entry)
     → IsCore o log history m flights stage → flights k ≡ Idle → ((l : ℕ) → HasBlock (flights l) b → ⊥) → ((l : ℕ) → HasTicket (flights l) ticket → ⊥) → (StageTicket stage ticket → ⊥)
     → IsUpdated flights new k (Copying b (length log) ticket) → IsIssueOf e ticket
-    → m.fresh b ≡ false → m.pending b ≡ None → b < o.layout.blocks → m.index.table (o.layout.chunk_of b) ≡ Some p → IsUpdated m.pending pending b (Some (length log)) → IsWholeWrite o no_write e b p
+    → m.fresh b ≡ false → m.pending b ≡ None → b < o.layout.blocks → m.index.table (o.layout.chunk_of b) ≡ Some p → IsUpdated m.pending pending b (Some (length log)) → IsWholeWrite o m.discards no_write e b p
     → IsCore o (log ++ e ∷ []) history (with_blocks m m.fresh m.born m.owed pending) new stage
 core_copy o log history m pending flights new stage k b p ticket e c idle block ticket_new stage_new put issues not_fresh none in_range given put_pending write =
     let k2 = step_keeps o (world log history m) (world (log ++ e ∷ []) history n) (Copies log history m pending e b p not_fresh none in_range given put_pending write) (kept o log history m flights stage c) in
@@ -212,7 +216,7 @@ core_copy o log history m pending flights new stage k b p ticket e c idle block 
             (has.0, subst (λ (g : Flight). HasWrite g j) (sym (put.other has.0 (λ same. subst (λ (g : Flight). HasWrite g j) idle (subst (λ (i : ℕ). HasWrite (flights i) j) same has.1)))) has.1);
       };
       so_far = stage_blocks o (log ++ e ∷ []) history m stage m.fresh m.born m.owed pending c.holds.blocks.owed_local (λ d is. is) (λ d is. is) (λ d is. refl)
-          (stage_event o log history m stage e c.holds places (λ t out. issue_no_end e ticket t issues) (λ t request out. issue_no_ask e ticket t request issues) c.so_far);
+          (stage_event o log history m stage e c.holds.apart places (put_copy o log history m pending e b p c.holds not_fresh none in_range given put_pending write).1 (λ t out. issue_no_end e ticket t issues) (λ t request out. issue_no_ask e ticket t request issues) c.so_far);
       tickets = tickets_set flights new stage k (Copying b (length log) ticket) put c.tickets (λ t mine out. stage_new (subst (λ (y : CallId). StageTicket stage y) (sym mine) out));
     }
   where
@@ -222,5 +226,5 @@ core_copy o log history m pending flights new stage k b p ticket e c idle block 
     places : WritesPlaces o e
     places t v covers = let r = write.back t v covers in (p, r.0, c.holds.facts.storage_one_to_one.within (o.layout.chunk_of b) p given, r.2)
 
-    keeps : (l : ℕ) → KeepsFor m n (flights l)
-    keeps l = record { fresh = λ d has is. is; stale = λ d is. is; pending = λ d i has is. put_pending.other d (λ same. block l (subst (λ (y : ℕ). HasBlock (flights l) y) same has)) ∙ is }
+    keeps : (l : ℕ) → KeepsFor o (log ++ e ∷ []) history m n (flights l)
+    keeps l = record { fresh = λ d has is. is; sealed = λ call a i is. is; pending = λ d i has is. put_pending.other d (λ same. block l (subst (λ (y : ℕ). HasBlock (flights l) y) same has)) ∙ is }

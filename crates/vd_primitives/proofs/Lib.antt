@@ -8,3 +8,4 @@ pub mod Primitives
 pub mod Keeping
 pub mod Retrack
 pub mod Using
+pub mod DropSteps

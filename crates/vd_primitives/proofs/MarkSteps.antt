@@ -1,121 +1,125 @@
 -- What each primitive leaves of what the marks of pages say.
-use Rattle.std.proofs.Common.{ℕ, ◌≡◌, ◌<◌, ◌⊎◌, inl, inr, List, [], ◌∷◌, ◌++◌, Some, Option, Bool, true, false, arith, refl, subst, ◌∙◌}
-use Rattle.std.proofs.lemmas.Bool.{cases_eq}
+use Rattle.std.proofs.Common.{ℕ, ◌≡◌, ◌<◌, ◌⊎◌, inl, inr, List, [], ◌∷◌, ◌++◌, length, Some, Option, Bool, true, false, refl}
 use Rattle.vd_image.specs.Log.{Sector, CallId, Entry, May}
 use Rattle.vd_image.specs.Image.{IsApart}
 use Rattle.vd_crash.specs.Safe.{NumberedEntry, Opening}
-use Rattle.vd_crash.specs.Facts.{Memory, IsSettled, IsInPage, Holds}
-use Rattle.vd_crash.specs.Words.{IsQuiet, IsUpdated, IsSameWrite, IsWholeWrite, WritesOnly, with_blocks, with_index, sealed_memory, Grows}
-use Rattle.vd_flushes.specs.Flushing.{IsWanted, IsLogged, IsUnderWay, IsWantedPage, IsWrittenPage, AreMarks}
+use Rattle.vd_crash.specs.Facts.{Claim, Need, Local, Off_base, chunk_in, IsDue, Memory, IsShown, Holds, IsTable}
+use Rattle.vd_crash.specs.Words.{IsQuiet, WritesOnly, with_blocks, with_index, Sealing, sealed_memory, Grows}
+use Rattle.vd_flushes.specs.Flushing.{IsWanted, IsLogged, IsWantedPage, IsWrittenPage, AreMarks}
 use Rattle.vd_flushes.specs.Stage.{Progress, IsSoFar}
 use Rattle.vd_primitives.specs.Primitives.{with_table}
-use Rattle.vd_crash.proofs.Metadata.{NoMore, WritesPlaces, no_more_metadata, right_page_more}
-use Rattle.vd_crash.proofs.Steps.{settled_push}
-use Rattle.vd_flushes.proofs.Puts.{one_more}
-use Rattle.vd_flushes.proofs.Flushes.{wanted_written}
-use Rattle.vd_flushes.proofs.Marks.{marks_less, marks_put, marks_taken, marks_flushed, marks_sealed}
+use Rattle.vd_crash.proofs.Growth.{FollowsGuest, EndsMirrored}
+use Rattle.vd_crash.proofs.Metadata.{WritesPlaces, no_more_metadata, right_page_more}
+use Rattle.vd_crash.proofs.Steps.{next_ordinary, shown_event, shown_entry}
+use Rattle.vd_crash.proofs.Writes.{shown_blocks}
+use Rattle.vd_crash.proofs.Ends.{shown_taken}
+use Rattle.vd_flushes.proofs.Puts.{is_due, one_more}
+use Rattle.vd_flushes.proofs.Flushes.{due_wanted, off_after_wanted, right_sealed, wanted_written, shown_index, shown_less, WritesNoPlace, only_no_place, no_place_follows}
+use Rattle.vd_flushes.proofs.Marks.{marks_less, marks_put, marks_taken, marks_flushed, caught_page}
+use Rattle.vd_flushes.proofs.Stage.{nothing_places, quiet_follows}
 
--- what the marks of a memory's pages say after this log
-abbrev pub MarksHold : Opening → List Entry → Memory → (ℕ → Bool) → Type 0
-MarksHold o log m marked = AreMarks o (May o.before log) (IsSettled log m) m.index marked
+-- what the marks of a memory's pages say after these logs
+abbrev pub MarksHold : Opening → List Entry → List NumberedEntry → Memory → (ℕ → Bool) → Type 0
+MarksHold o log history m marked = AreMarks o (May o.before log) (IsShown o log history m m.discards.reach) m.index marked
 
--- an event that writes to places of storage alone
-pub marks_event : (o : Opening) (log : List Entry) (history : List NumberedEntry) (m : Memory) (marked : ℕ → Bool) (e : Entry) → Holds o log history m → WritesPlaces o e → MarksHold o log m marked → MarksHold o (log ++ e ∷ []) m marked
-marks_event o log history m marked e holds places h =
-    marks_less o (May o.before (log ++ e ∷ [])) (May o.before log) (IsSettled log m) (IsSettled (log ++ e ∷ []) m) m.index marked holds.apart (no_more_metadata o log e holds.apart places) (settled_push log m e) h
+-- an event that puts into each block's place what stands in the block, and writes to places of storage alone
+pub marks_event : (o : Opening) (log : List Entry) (history : List NumberedEntry) (m : Memory) (marked : ℕ → Bool) (e : Entry) → IsApart o.layout → WritesPlaces o e → ((b q : ℕ) → m.index.table (o.layout.chunk_of b) ≡ Some q → FollowsGuest o log history m.discards.drops b q e)
+    → MarksHold o log history m marked → MarksHold o (log ++ e ∷ []) history m marked
+marks_event o log history m marked e apart places follows h =
+    marks_less o (May o.before (log ++ e ∷ [])) (May o.before log) (IsShown o log history m m.discards.reach) (IsShown o (log ++ e ∷ []) history m m.discards.reach) m.index marked (no_more_metadata o log e apart places) (shown_event o log history m e follows m.discards.reach) h
 
-pub marks_quiet : (o : Opening) (log : List Entry) (history : List NumberedEntry) (m : Memory) (marked : ℕ → Bool) (e : Entry) → Holds o log history m → IsQuiet e → MarksHold o log m marked → MarksHold o (log ++ e ∷ []) m marked
-marks_quiet o log history m marked e holds quiet h = marks_event o log history m marked e holds (λ s v covers. absurd (quiet s v covers)) h
+pub marks_quiet : (o : Opening) (log : List Entry) (history : List NumberedEntry) (m : Memory) (marked : ℕ → Bool) (e : Entry) → IsApart o.layout → IsQuiet e → MarksHold o log history m marked → MarksHold o (log ++ e ∷ []) history m marked
+marks_quiet o log history m marked e apart quiet h = marks_event o log history m marked e apart (nothing_places o e quiet) (quiet_follows o log history m e quiet) h
 
--- a guest's write to its block's place
-pub marks_same_write : (o : Opening) (log : List Entry) (history : List NumberedEntry) (m : Memory) (marked : ℕ → Bool) (guest e : Entry) (b p : ℕ) → Holds o log history m → m.index.table (o.layout.chunk_of b) ≡ Some p → IsSameWrite o guest e b p
-    → MarksHold o log m marked → MarksHold o (log ++ e ∷ []) m marked
-marks_same_write o log history m marked guest e b p holds given write h =
-    marks_event o log history m marked e holds (λ t v covers. let r = write.back t v covers in (p, r.0, holds.facts.storage_one_to_one.within (o.layout.chunk_of b) p given, r.2)) h
+-- an entry that is no discard, and no Done but of a write that is mirrored
+pub marks_entry : (o : Opening) (log : List Entry) (history : List NumberedEntry) (m : Memory) (marked : ℕ → Bool) (x : NumberedEntry) → Holds o log history m → x.number ≡ length log
+    → ((b q : ℕ) → m.index.table (o.layout.chunk_of b) ≡ Some q → EndsMirrored o log history m.discards.drops b q x) → MarksHold o log history m marked → MarksHold o log (history ++ x ∷ []) m marked
+marks_entry o log history m marked x holds number ends h =
+    marks_taken o (May o.before log) (IsShown o log history m m.discards.reach) (IsShown o log (history ++ x ∷ []) m m.discards.reach) m.index m.index marked (λ c p given. given)
+    (shown_entry o log history m x (next_ordinary o m.discards.drops history holds.facts.discards) holds.facts.opening.within number ends m.discards.reach) (λ t due. due) h
 
-pub marks_whole_write : (o : Opening) (log : List Entry) (history : List NumberedEntry) (m : Memory) (marked : ℕ → Bool) (guest e : Entry) (b p : ℕ) → Holds o log history m → m.index.table (o.layout.chunk_of b) ≡ Some p → IsWholeWrite o guest e b p
-    → MarksHold o log m marked → MarksHold o (log ++ e ∷ []) m marked
-marks_whole_write o log history m marked guest e b p holds given write h =
-    marks_event o log history m marked e holds (λ t v covers. let r = write.back t v covers in (p, r.0, holds.facts.storage_one_to_one.within (o.layout.chunk_of b) p given, r.2)) h
-
--- a block becomes local
-pub marks_born : (o : Opening) (log : List Entry) (m : Memory) (marked fresh : ℕ → Bool) (born : ℕ → ℕ) (owed : ℕ → Bool) (pending : ℕ → Option ℕ) (b d : ℕ) → IsApart o.layout → m.fresh b ≡ false
-    → IsUpdated m.fresh fresh b true → IsUpdated m.born born b d → MarksHold o log m marked → MarksHold o log (with_blocks m fresh born owed pending) marked
-marks_born o log m marked fresh born owed pending b d apart not_fresh put_fresh put_born h =
-    let same : NoMore o (May o.before log) (May o.before log) = record { header = λ v left. left; map = λ c v within left. left; slots = λ k v within left. left } in
-    marks_less o (May o.before log) (May o.before log) (IsSettled log m) (IsSettled log (with_blocks m fresh born owed pending)) m.index marked apart same settled h
-  where
-    settled : (c : ℕ) → IsSettled log m c → IsSettled log (with_blocks m fresh born owed pending) c
-    settled c is = elim (cases_eq c b) [
-      | inl here ↦ absurd (let set : m.fresh b ≡ true = subst (λ (y : ℕ). m.fresh y ≡ true) here is.0 in cc)
-      | inr other ↦ (put_fresh.other c other ∙ is.0, (is.1.0, is.1.1, (let e = put_born.other c other in let l = is.1.2 in omega arith)))
-    ]
+-- a change of blocks
+pub marks_blocks : (o : Opening) (log : List Entry) (history : List NumberedEntry) (m : Memory) (marked fresh : ℕ → Bool) (born : ℕ → ℕ) (owed : ℕ → Bool) (pending : ℕ → Option ℕ) → ((b : ℕ) → m.fresh b ≡ true → fresh b ≡ true) → MarksHold o log history m marked → MarksHold o log history (with_blocks m fresh born owed pending) marked
+marks_blocks o log history m marked fresh born owed pending more h =
+    marks_taken o (May o.before log) (IsShown o log history m m.discards.reach) (IsShown o log history (with_blocks m fresh born owed pending) m.discards.reach) m.index m.index marked (λ c p given. given)
+    (shown_blocks o log history m fresh born owed pending more m.discards.reach) (λ t due. due) h
 
 -- chunks take storage
-pub marks_table : (o : Opening) (log : List Entry) (m : Memory) (marked : ℕ → Bool) (table : ℕ → Option ℕ) → Grows m.index.table table → MarksHold o log m marked → MarksHold o log (with_table m table) marked
-marks_table o log m marked table grows h = let taken = marks_taken o (May o.before log) (IsSettled log m) m.index table marked grows h in record { right = taken.right; stale = taken.stale }
+pub marks_table : (o : Opening) (log : List Entry) (history : List NumberedEntry) (m : Memory) (marked : ℕ → Bool) (table : ℕ → Option ℕ) → Grows m.index.table table → MarksHold o log history m marked → MarksHold o log history (with_table m table) marked
+marks_table o log history m marked table grows h =
+    marks_taken o (May o.before log) (IsShown o log history m m.discards.reach) (IsShown o log history (with_table m table) m.discards.reach) m.index (with_table m table).index marked grows
+    (shown_taken o log history m table grows m.discards.reach) due h
+  where
+    due : (t : Need) → IsDue (with_table m table).index t → IsDue m.index t
+    due (Local b) is = is
+    due (Off_base b) is = is
+
+index_due : (m : Memory) (sure : Bool) (tried : ℕ → Bool) (cursor : ℕ) (t : Need) → IsDue (with_index m sure tried cursor).index t → IsDue m.index t
+index_due m sure tried cursor (Local b) is = is
+index_due m sure tried cursor (Off_base b) is = is
+
+-- what is shown after a put, by the memory of then
+put_shown : (o : Opening) (log : List Entry) (history : List NumberedEntry) (m : Memory) (e : Entry) (sure : Bool) (tried : ℕ → Bool) (cursor : ℕ) → IsTable o.layout.storage m.index.table → WritesNoPlace o e
+    → (t : Claim) → IsShown o log history m m.discards.reach t → IsShown o (log ++ e ∷ []) history (with_index m sure tried cursor) m.discards.reach t
+put_shown o log history m e sure tried cursor table none t shown =
+    shown_index o (log ++ e ∷ []) history m sure tried cursor m.discards.reach t (shown_event o log history m e (no_place_follows o log history m e table none) m.discards.reach t shown)
 
 -- a put into a slot or the header
 pub marks_elsewhere : (o : Opening) (log : List Entry) (history : List NumberedEntry) (m : Memory) (marked : ℕ → Bool) (e : Entry) (a : ℕ) (v : Sector) (sure : Bool) (tried : ℕ → Bool) (cursor : ℕ) → Holds o log history m
-    → ((c : ℕ) → c < o.layout.chunks → o.layout.map_at c ≡ a → ⊥) → WritesOnly e a v → MarksHold o log m marked → MarksHold o (log ++ e ∷ []) (with_index m sure tried cursor) marked
-marks_elsewhere o log history m marked e a v sure tried cursor holds apart only h =
-    let put = marks_put o (May o.before (log ++ e ∷ [])) (May o.before log) (IsSettled log m) (IsSettled (log ++ e ∷ []) m) a v m.index marked (one_more o log e a v only) (settled_push log m e)
-    (λ c within same. absurd (apart c within same)) (λ b within stale same. absurd (apart (o.layout.chunk_of b) (holds.apart.chunks b within) same)) h in
-    record { right = put.right; stale = put.stale }
+    → ((p s : ℕ) → p < o.layout.storage → o.layout.place p s ≡ a → ⊥) → ((c : ℕ) → c < o.layout.chunks → o.layout.map_at c ≡ a → ⊥) → WritesOnly e a v → MarksHold o log history m marked → MarksHold o (log ++ e ∷ []) history (with_index m sure tried cursor) marked
+marks_elsewhere o log history m marked e a v sure tried cursor holds no_place no_page only h =
+    marks_taken o (May o.before (log ++ e ∷ [])) (IsShown o (log ++ e ∷ []) history (with_index m sure tried cursor) m.discards.reach) (IsShown o (log ++ e ∷ []) history (with_index m sure tried cursor) m.discards.reach) m.index (with_index m sure tried cursor).index marked
+    (λ c p given. given) (λ t shown. shown) (index_due m sure tried cursor)
+    (marks_put o (May o.before (log ++ e ∷ [])) (May o.before log) (IsShown o log history m m.discards.reach) (IsShown o (log ++ e ∷ []) history (with_index m sure tried cursor) m.discards.reach) a v m.index marked (one_more o log e a v only)
+    (put_shown o log history m e sure tried cursor holds.facts.storage_one_to_one (only_no_place o e a v only no_place))
+    (λ c within same. absurd (no_page c within same)) (λ t within due same. absurd (no_page (chunk_in o t) within same)) h)
 
 -- a put of a page
 pub marks_page : (o : Opening) (log : List Entry) (history : List NumberedEntry) (m : Memory) (marked : ℕ → Bool) (call : CallId) (a n q : ℕ) (p : Progress) (e : Entry) (v : Sector) (page : ℕ) → Holds o log history m
-    → IsSoFar o log history m call a n q p → WritesOnly e (o.layout.map_at page) v → ((c : ℕ) → c < o.layout.chunks → o.layout.map_at c ≡ o.layout.map_at page → IsWantedPage o m p.snapshot c v)
-    → MarksHold o log m marked → MarksHold o (log ++ e ∷ []) (with_index m m.index.sure m.index.tried m.index.cursor) marked
-marks_page o log history m marked call a n q p e v page holds so_far only pages h =
-    let put = marks_put o (May o.before (log ++ e ∷ [])) (May o.before log) (IsSettled log m) (IsSettled (log ++ e ∷ []) m) (o.layout.map_at page) v m.index marked (one_more o log e (o.layout.map_at page) v only) (settled_push log m e)
-    (λ c within same. let w = written c within same in right_page_more o (IsSettled log m) (IsSettled (log ++ e ∷ []) m) m.index.table m.index.table c v (settled_push log m e) (λ d s given. given) w.right)
-    (λ b within stale same. (written (o.layout.chunk_of b) (holds.apart.chunks b within) same).has b refl (inl stale)) h in
-    record { right = put.right; stale = put.stale }
+    → IsSoFar o log history m call a n q p → page < o.layout.chunks → WritesOnly e (o.layout.map_at page) v → ((c : ℕ) → c < o.layout.chunks → o.layout.map_at c ≡ o.layout.map_at page → IsWantedPage o m p.snapshot c v)
+    → MarksHold o log history m marked → MarksHold o (log ++ e ∷ []) history (with_index m m.index.sure m.index.tried m.index.cursor) marked
+marks_page o log history m marked call a n q p e v page holds so_far room only pages h =
+    marks_put o (May o.before (log ++ e ∷ [])) (May o.before log) (IsShown o log history m m.discards.reach) (IsShown o (log ++ e ∷ []) history new m.discards.reach) (o.layout.map_at page) v m.index marked (one_more o log e (o.layout.map_at page) v only) still
+    (λ c within same. right_page_more o (IsShown o log history m p.snapshot.begun) (IsShown o (log ++ e ∷ []) history new m.discards.reach) m.index.table m.index.table c v
+    (λ t shown. still t (shown_less o log history m p.snapshot.begun m.discards.reach so_far.way.reach t shown)) (λ d s given. given) (written c within same).right)
+    (λ t within due same. (written (chunk_in o t) within same).has t refl (due_wanted o log history m p.snapshot call a n q t holds so_far.way (is_due m.index t due)).1) h
   where
-    written : (c : ℕ) → c < o.layout.chunks → o.layout.map_at c ≡ o.layout.map_at page → IsWrittenPage o (IsSettled log m) m p.snapshot c v
+    new : Memory
+    new = with_index m m.index.sure m.index.tried m.index.cursor
+
+    still : (t : Claim) → IsShown o log history m m.discards.reach t → IsShown o (log ++ e ∷ []) history new m.discards.reach t
+    still = put_shown o log history m e m.index.sure m.index.tried m.index.cursor holds.facts.storage_one_to_one (only_no_place o e (o.layout.map_at page) v only (λ s t within same. holds.apart.place_map s t page within room same))
+
+    written : (c : ℕ) → c < o.layout.chunks → o.layout.map_at c ≡ o.layout.map_at page → IsWrittenPage o (IsShown o log history m p.snapshot.begun) m p.snapshot c v
     written c within same = wanted_written o log history m p.snapshot call a n q c v holds so_far.way so_far.flushes (pages c within same)
-
--- a wanted block exists
-wanted_within : (o : Opening) (log : List Entry) (history : List NumberedEntry) (m : Memory) (snapshot : ℕ → Bool) (call : CallId) (a n q b : ℕ) → Holds o log history m → IsUnderWay o log history m snapshot call a n q → IsWanted m snapshot b → b < o.layout.blocks
-wanted_within o log history m snapshot call a n q b holds way (inl stale) = (holds.facts.contents_allowed b (holds.blocks.stale_settled b stale).0).in_range
-wanted_within o log history m snapshot call a n q b holds way (inr snap) = (holds.facts.contents_allowed b (holds.blocks.owed_local b (way.owed b snap))).in_range
-
--- a wanted block is in its page, where that is caught up
-caught_page : (o : Opening) (log : List Entry) (history : List NumberedEntry) (m : Memory) (call : CallId) (a n q : ℕ) (p : Progress) (b : ℕ) → Holds o log history m → IsSoFar o log history m call a n q p → p.paged (o.layout.chunk_of b) ≡ true
-    → IsWanted m p.snapshot b → IsInPage o (May o.before log) b
-caught_page o log history m call a n q p b holds so_far paged wanted = record {
-  within = wanted_within o log history m p.snapshot call a n q b holds so_far.way wanted;
-  page = λ v left. (so_far.paged (o.layout.chunk_of b) paged v left).has b refl wanted;
-}
 
 -- a sync: pages that are caught up may lose their marks
 pub marks_synced : (o : Opening) (log : List Entry) (history : List NumberedEntry) (m : Memory) (marked now : ℕ → Bool) (call : CallId) (a n q : ℕ) (p : Progress) → Holds o log history m → IsSoFar o log history m call a n q p
-    → ((c : ℕ) → c < o.layout.chunks → now (o.layout.map_at c) ≡ false → (marked (o.layout.map_at c) ≡ false) ⊎ (p.paged c ≡ true)) → MarksHold o log m marked → MarksHold o log m now
+    → ((c : ℕ) → c < o.layout.chunks → now (o.layout.map_at c) ≡ false → (marked (o.layout.map_at c) ≡ false) ⊎ (p.paged c ≡ true)) → MarksHold o log history m marked → MarksHold o log history m now
 marks_synced o log history m marked now call a n q p holds so_far cleared h =
-    marks_flushed o (May o.before log) (IsSettled log m) m.index m marked now
-    (λ c within unmarked. elim (cleared c within unmarked) [ inl was ↦ inl was | inr paged ↦ inr (λ v left. (so_far.paged c paged v left).right) ])
-    (λ b stale unmarked. elim (cleared (o.layout.chunk_of b) (holds.apart.chunks b (within b stale)) unmarked) [ inl was ↦ inl was | inr paged ↦ inr (caught_page o log history m call a n q p b holds so_far paged (inl stale)) ])
+    marks_flushed o (May o.before log) (IsShown o log history m m.discards.reach) m.index marked now
+    (λ c within unmarked. elim (cleared c within unmarked) [
+      | inl was ↦ inl was
+      | inr paged ↦ inr (λ v left. right_page_more o (IsShown o log history m p.snapshot.begun) (IsShown o log history m m.discards.reach) m.index.table m.index.table c v (shown_less o log history m p.snapshot.begun m.discards.reach so_far.way.reach) (λ d s given. given) (so_far.paged c paged v left).right)
+    ])
+    (λ t due unmarked.
+    let wanted = due_wanted o log history m p.snapshot call a n q t holds so_far.way (is_due m.index t due) in
+    elim (cleared (chunk_in o t) wanted.0 unmarked) [ inl was ↦ inl was | inr paged ↦ inr (caught_page o log history m call a n q p t so_far paged wanted.0 wanted.1) ])
     h
-  where
-    within : (b : ℕ) → m.index.stale b ≡ true → b < o.layout.blocks
-    within b stale = wanted_within o log history m p.snapshot call a n q b holds so_far.way (inl stale)
-
--- a seal by records, or with nothing to log
-pub marks_sealed_records : (o : Opening) (log : List Entry) (history : List NumberedEntry) (m : Memory) (marked : ℕ → Bool) (call : CallId) (a n q : ℕ) (p : Progress) (stale owed : ℕ → Bool) → Holds o log history m → IsSoFar o log history m call a n q p
-    → IsLogged m p.snapshot stale owed → ((b : ℕ) → p.snapshot b ≡ true → (marked (o.layout.map_at (o.layout.chunk_of b)) ≡ true) ⊎ (p.paged (o.layout.chunk_of b) ≡ true))
-    → MarksHold o log m marked → MarksHold o log (sealed_memory m m.index.generation m.index.tracked m.index.sure stale m.index.tried m.index.cursor owed) marked
-marks_sealed_records o log history m marked call a n q p stale owed holds so_far logged pages h =
-    let sealed = marks_sealed o (May o.before log) (IsSettled log m) m.index p.snapshot stale marked (λ b is. (logged.stale_is b).0 is)
-    (λ b snap. elim (pages b snap) [ inl is ↦ inl is | inr paged ↦ inr (caught_page o log history m call a n q p b holds so_far paged (inr snap)) ]) h in
-    record { right = sealed.right; stale = sealed.stale }
 
 -- a seal of a recycle: no page needs a mark
-pub marks_recycled : (o : Opening) (log : List Entry) (history : List NumberedEntry) (m : Memory) (now : ℕ → Bool) (call : CallId) (a n q generation tracked : ℕ) (p : Progress) (stale owed none : ℕ → Bool) → Holds o log history m → IsSoFar o log history m call a n q p
-    → IsLogged m p.snapshot stale owed → ((c : ℕ) → c < o.layout.chunks → p.paged c ≡ true) → MarksHold o log (sealed_memory m generation tracked true stale none 0 owed) now
-marks_recycled o log history m now call a n q generation tracked p stale owed none holds so_far logged all = record {
-  right = λ c v within unmarked left. (so_far.paged c (all c within) v left).right;
-  stale = λ b is unmarked.
-      let wanted = (logged.stale_is b).0 is in
-      caught_page o log history m call a n q p b holds so_far (all (o.layout.chunk_of b) (holds.apart.chunks b (wanted_within o log history m p.snapshot call a n q b holds so_far.way wanted))) wanted;
+pub marks_recycled : (o : Opening) (log : List Entry) (history : List NumberedEntry) (m : Memory) (now : ℕ → Bool) (call : CallId) (a n q generation tracked : ℕ) (p : Progress) (z : Sealing) (none : ℕ → Bool) → Holds o log history m → IsSoFar o log history m call a n q p
+    → IsLogged o history m p.snapshot z → ((c : ℕ) → c < o.layout.chunks → p.paged c ≡ true) → MarksHold o log history (sealed_memory m generation tracked true none 0 z) now
+marks_recycled o log history m now call a n q generation tracked p z none holds so_far logged all = record {
+  right = λ c v within unmarked left.
+      let w = so_far.paged c (all c within) v left in
+      record { mapping = w.right.mapping; reads = w.right.reads; right = right_sealed o log history m p.snapshot generation tracked true none 0 z c w.right.mapping logged w.only w.right.right };
+  due = λ t due unmarked. let wanted = wanted t due in caught_page o log history m call a n q p t so_far (all (chunk_in o t) wanted.0) wanted.0 wanted.1;
 }
+  where
+    wanted : (t : Need) → IsDue (sealed_memory m generation tracked true none 0 z).index t → (chunk_in o t < o.layout.chunks) × IsWanted o p.snapshot t
+    wanted (Local b) due = elim (logged.stale_was b due) [
+      | inl stale ↦ due_wanted o log history m p.snapshot call a n q (Local b) holds so_far.way stale
+      | inr block ↦ (holds.apart.chunks b (so_far.way.kept b (so_far.way.blocks_wanted b block.0)).in_range, so_far.way.blocks_wanted b block.0)
+    ]
+    wanted (Off_base b) due = off_after_wanted o log history m p.snapshot call a n q b holds so_far.way ((logged.off_is b).0 due)

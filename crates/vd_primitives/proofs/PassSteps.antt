@@ -1,5 +1,5 @@
 -- Steps of a pass that move no write of its own keep all that a core keeps.
-use Rattle.std.proofs.Common.{ℕ, ◌≡◌, ◌⊎◌, List, [], ◌∷◌, ◌++◌, Option}
+use Rattle.std.proofs.Common.{ℕ, ◌≡◌, ◌⊎◌, List, [], ◌∷◌, ◌++◌, Option, refl}
 use Rattle.vd_image.specs.Log.{CallId, Entry, Done, Broke, IsIssueOf}
 use Rattle.vd_crash.specs.Safe.{NumberedEntry, Opening}
 use Rattle.vd_crash.specs.Facts.{Memory, IsTable}
@@ -12,6 +12,9 @@ use Rattle.vd_flushes.specs.Moves.{Keeps}
 use Rattle.vd_flushes.proofs.Moves.{step_keeps}
 use Rattle.vd_flushes.specs.Stage.{IsOtherCall}
 use Rattle.vd_flushes.proofs.Flights.{flights_event, flights_entry, flights_memory}
+use Rattle.vd_crash.proofs.Steps.{next_ordinary}
+use Rattle.vd_crash.proofs.Writes.{no_ends}
+use Rattle.vd_flushes.proofs.Stage.{quiet_follows}
 use Rattle.vd_primitives.proofs.Core.{stage_event, stage_entry, stage_storage, with_table}
 
 pub kept : (o : Opening) (log : List Entry) (history : List NumberedEntry) (m : Memory) (flights : ℕ → Flight) (stage : Stage) → IsCore o log history m flights stage → Keeps o (world log history m)
@@ -30,14 +33,14 @@ core_tells o log history m flights stage e c quiet passes flush asks =
       safe = k.safe;
       holds = k.holds;
       in_flight = flights_event o log history m flights e passes c.in_flight;
-      so_far = stage_event o log history m stage e c.holds (quiet_places o e quiet) flush asks c.so_far;
+      so_far = stage_event o log history m stage e c.holds.apart (quiet_places o e quiet) (quiet_follows o log history m e quiet) flush asks c.so_far;
       tickets = c.tickets;
     }
 
 -- an entry that is no issue and no end of a write, and answers no flush well but one that is due
 pub core_notes : (o : Opening) (log : List Entry) (history : List NumberedEntry) (m : Memory) (flights : ℕ → Flight) (stage : Stage) (event : Entry) → IsCore o log history m flights stage → IsQuiet event
     → ((id : CallId) → event ≡ Done id → ⊥) → ((id : CallId) → IsIssueOf event id → ⊥) → ((k : ℕ) (id : CallId) → HasCall (flights k) id → IsOtherCall (entry_now log event) id)
-    → AnswersWell o log history m.index.stale (entry_now log event)
+    → AnswersWell o log history m (entry_now log event)
     → IsCore o log (history ++ entry_now log event ∷ []) m flights stage
 core_notes o log history m flights stage event c quiet no_done no_issue other answers =
     let k = step_keeps o (world log history m) (world log (history ++ entry_now log event ∷ []) m) (Notes log history m event quiet no_done answers) (kept o log history m flights stage c) in
@@ -45,7 +48,7 @@ core_notes o log history m flights stage event c quiet no_done no_issue other an
       safe = k.safe;
       holds = k.holds;
       in_flight = flights_entry o log history m flights (entry_now log event) no_issue other c.in_flight;
-      so_far = stage_entry o log history m stage (entry_now log event) c.so_far;
+      so_far = stage_entry o log history m stage (entry_now log event) (next_ordinary o m.discards.drops history c.holds.facts.discards) c.holds.facts.opening.within refl (λ b q given. no_ends o log history m.discards.drops (entry_now log event) no_done b q) c.so_far;
       tickets = c.tickets;
     }
 
@@ -58,6 +61,6 @@ core_takes o log history m flights stage table c grows is_table =
       safe = k.safe;
       holds = k.holds;
       tickets = c.tickets;
-      in_flight = flights_memory o log history m (with_table m table) flights (λ l. record { fresh = λ b has is. is; pending = λ b n has is. is; stale = λ b is. is }) c.in_flight;
+      in_flight = flights_memory o log history m (with_table m table) flights (λ l. record { fresh = λ b has is. is; pending = λ b n has is. is; sealed = λ call a n is. is }) c.in_flight;
       so_far = stage_storage o log history m stage table grows c.so_far;
     }

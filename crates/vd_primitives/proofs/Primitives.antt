@@ -3,7 +3,7 @@ use Rattle.std.proofs.Common.{ℕ, ◌≡◌, ◌+◌, ◌<◌, inl, inr, List, 
 use Rattle.vd_image.specs.Log.{Sector, CallId, Entry, Covers, IsIssueOf}
 use Rattle.vd_image.specs.Image.{Header}
 use Rattle.vd_crash.specs.Safe.{NumberedEntry, Opening}
-use Rattle.vd_crash.specs.Facts.{Memory}
+use Rattle.vd_crash.specs.Facts.{Off_base, Memory}
 use Rattle.vd_flushes.specs.Stage.{Flight, HasTicket}
 use Rattle.vd_crash.specs.Words.{with_blocks}
 use Rattle.vd_primitives.specs.Core.{IsCore}
@@ -13,7 +13,7 @@ use Rattle.vd_flushes.specs.Flushing.{IsWantedRecord, IsWantedPage}
 use Rattle.vd_flushes.specs.Stage.{Progress}
 use Rattle.vd_crash.specs.Words.{WritesOnly, with_index}
 use Rattle.vd_primitives.specs.Core.{Resting, Working, Putting, Puts_next}
-use Rattle.vd_flushes.proofs.Flushes.{caught_in_page, wanted_written}
+use Rattle.vd_flushes.proofs.Flushes.{caught_in_page, off_after_wanted, only_no_place, wanted_written}
 use Rattle.vd_flushes.proofs.Stage.{so_far_record, so_far_page}
 use Rattle.vd_primitives.specs.Primitives.{IsNextHeader}
 use Rattle.vd_flushes.proofs.Moves.{adopted}
@@ -26,7 +26,7 @@ pub does_put_record : (o : Opening) (log : List Entry) (history : List NumberedE
     → IsCore o (log ++ e ∷ []) history (with_index m m.index.sure m.index.tried (m.index.cursor + 1)) flights (Putting call a n q p (o.layout.slot_at m.index.cursor) (length log) v ticket)
 does_put_record o log history m flights call ticket a n q p e v r c new issues room only covers reads item =
     core_put o log history m flights call ticket a n q p e (o.layout.slot_at m.index.cursor) v (m.index.cursor + 1) c
-    (so_far_record o log history m call a n q p e v r c.holds c.so_far room only reads item) new issues covers (λ place s within same. c.holds.apart.place_slot place s m.index.cursor within room same)
+    (so_far_record o log history m call a n q p e v r c.holds c.so_far room only reads item) (only_no_place o e (o.layout.slot_at m.index.cursor) v only (λ s t within same. c.holds.apart.place_slot s t m.index.cursor within room same)) new issues covers (λ place s within same. c.holds.apart.place_slot place s m.index.cursor within room same)
     (λ d within same. absurd (c.holds.apart.map_slot d m.index.cursor within room same))
 
 pub does_put_page : (o : Opening) (log : List Entry) (history : List NumberedEntry) (m : Memory) (flights : ℕ → Flight) (call ticket : CallId) (a n q : ℕ) (p : Progress) (e : Entry) (v : Sector) (page : ℕ) → IsCore o log history m flights (Working call a n q p)
@@ -36,7 +36,7 @@ pub does_put_page : (o : Opening) (log : List Entry) (history : List NumberedEnt
     → IsCore o (log ++ e ∷ []) history (with_index m m.index.sure m.index.tried m.index.cursor) flights (Putting call a n q p (o.layout.map_at page) (length log) v ticket)
 does_put_page o log history m flights call ticket a n q p e v page c new issues room only covers pages once =
     core_put o log history m flights call ticket a n q p e (o.layout.map_at page) v m.index.cursor c
-    (so_far_page o log history m call a n q p e v page c.holds c.so_far room only pages once) new issues covers (λ place s within same. c.holds.apart.place_map place s page within room same)
+    (so_far_page o log history m call a n q p e v page c.holds c.so_far room only pages once) (only_no_place o e (o.layout.map_at page) v only (λ s t within same. c.holds.apart.place_map s t page within room same)) new issues covers (λ place s within same. c.holds.apart.place_map place s page within room same)
     (λ d within same. wanted_written o log history m p.snapshot call a n q d v c.holds c.so_far.way c.so_far.flushes (pages d within same))
 
 pub does_put_header : (o : Opening) (log : List Entry) (history : List NumberedEntry) (m : Memory) (flights : ℕ → Flight) (call ticket : CallId) (a n q : ℕ) (p : Progress) (e : Entry) (v : Sector) (next : Header) (tried : ℕ → Bool) → IsCore o log history m flights (Working call a n q p)
@@ -49,9 +49,9 @@ does_put_header o log history m flights call ticket a n q p e v next tried c new
       reads = h.reads;
       geometry = h.geometry;
       generation = inr h.generation;
-      background = λ s within not_stale. elim (h.background s within not_stale) [
+      background = λ s within not_off. elim (h.background s within not_off) [
         | inl same ↦ inl same
-        | inr t ↦ inr (h.generation, t, caught_in_page o log history m p.snapshot call a n q (o.layout.block_of s) c.holds c.so_far.way (λ d inside. c.so_far.paged d (h.paged d inside)) (h.wanted (o.layout.block_of s) t))
+        | inr t ↦ inr (h.generation, t, caught_in_page o log history m p.snapshot (Off_base (o.layout.block_of s)) (λ d inside. c.so_far.paged d (h.paged d inside)) (off_after_wanted o log history m p.snapshot call a n q (o.layout.block_of s) c.holds c.so_far.way (h.wanted (o.layout.block_of s) t)))
       ];
     })
     (record { reads = h.reads; generation = h.generation; background = h.background; paged = h.paged })
@@ -63,5 +63,5 @@ core_adopt o log history m flights owed c more local = record {
   holds = adopted o log history m owed c.holds more local;
   so_far = tt;
   tickets = c.tickets;
-  in_flight = flights_memory o log history m (with_blocks m m.fresh m.born owed m.pending) flights (λ l. record { fresh = λ b has is. is; pending = λ b i has is. is; stale = λ b is. is }) c.in_flight;
+  in_flight = flights_memory o log history m (with_blocks m m.fresh m.born owed m.pending) flights (λ l. record { fresh = λ b has is. is; pending = λ b i has is. is; sealed = λ call a n is. is }) c.in_flight;
 }

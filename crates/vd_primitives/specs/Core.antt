@@ -1,17 +1,17 @@
 -- A core as its crash laws see it: both logs, its memory, what its passes have in flight, and the stage of the flush.
-use Rattle.std.specs.Prelude.{ℕ, ◌≡◌, ◌+◌, ◌<◌, ◌≤◌, ◌⊎◌, Bool, true, false, List, length, Ok}
+use Rattle.std.specs.Prelude.{ℕ, ◌≡◌, ◌+◌, ◌<◌, ◌≤◌, ◌⊎◌, true, false, List, length, Ok}
 use Rattle.vd_image.specs.Log.{Asked, Sector, CallId, Entry, Flush, Ask, At, Flushes}
 use Rattle.vd_image.specs.Image.{Header, background}
 use Rattle.vd_crash.specs.Safe.{NumberedEntry, Opening, IsSafe}
-use Rattle.vd_crash.specs.Facts.{Memory, Holds, IsSettled}
-use Rattle.vd_flushes.specs.Flushing.{IsLast, IsUnderWay}
+use Rattle.vd_crash.specs.Facts.{Memory, Holds, IsShown}
+use Rattle.vd_flushes.specs.Flushing.{Snapshot, IsLast, IsUnderWay}
 use Rattle.vd_flushes.specs.Passes.{IsPutting}
 use Rattle.vd_flushes.specs.Stage.{Flight, AreFlights, HasTicket, Progress, IsSoFar, IsPageToPut}
 
 -- the stage of the flush under way, of the a-th entry, numbered n, with its data flush at q
 pub data Stage : Type 0 where
   Resting : Stage
-  Sending : (call : CallId) → (a n q : ℕ) → (snapshot : ℕ → Bool) → (ticket : CallId) → Stage
+  Sending : (call : CallId) → (a n q : ℕ) → (snapshot : Snapshot) → (ticket : CallId) → Stage
   Working : (call : CallId) → (a n q : ℕ) → Progress → Stage
   Putting : (call : CallId) → (a n q : ℕ) → Progress → (sector i : ℕ) → (v : Sector) → (ticket : CallId) → Stage
   Syncing : (call : CallId) → (a n q : ℕ) → Progress → (r : ℕ) → (ticket : CallId) → Stage
@@ -45,7 +45,7 @@ AsksNone stage e = (t : CallId) (request : Asked) → StageFlush stage t → e �
 pub record IsNext (o : Opening) (m : Memory) (p : Progress) (v : Sector) (next : Header) : Type 0 where
   pub reads : o.format.header_of v ≡ Ok next
   pub generation : next.generation ≡ m.index.generation + 1
-  pub background : (s : ℕ) → s < o.layout.size → m.index.stale (o.layout.block_of s) ≡ false → (background o.base o.zeros next.tracked s ≡ o.disk s) ⊎ (m.index.tried (o.layout.block_of s) ≡ true)
+  pub background : (s : ℕ) → s < o.layout.size → m.index.off_base (o.layout.block_of s) ≡ false → (background o.base o.zeros next.tracked s ≡ o.disk s) ⊎ (m.index.tried (o.layout.block_of s) ≡ true)
   pub paged : (c : ℕ) → c < o.layout.chunks → p.paged c ≡ true
 
 abbrev pub StageHolds : Opening → List Entry → List NumberedEntry → Memory → Stage → Type 0
@@ -54,7 +54,7 @@ StageHolds o log history m (Sending call a n q snapshot ticket) = IsUnderWay o l
 StageHolds o log history m (Working call a n q p) = IsSoFar o log history m call a n q p
 StageHolds o log history m (Putting call a n q p sector i v ticket) = IsSoFar o log history m call a n q p × IsPutting log sector v ticket i
     × ((place s : ℕ) → place < o.layout.storage → o.layout.place place s ≡ sector → ⊥)
-    × IsPageToPut o (IsSettled log m) m p.snapshot sector v
+    × IsPageToPut o (IsShown o log history m p.snapshot.begun) m p.snapshot sector v
 StageHolds o log history m (Syncing call a n q p r ticket) = IsSoFar o log history m call a n q p × IsAsking log r ticket × (p.by ≤ r)
 StageHolds o log history m (Puts_next call a n q p i v next ticket) = IsSoFar o log history m call a n q p × IsPutting log o.layout.header_at v ticket i × IsNext o m p v next
 StageHolds o log history m (Has_next call a n q p by v next) = IsSoFar o log history m call a n q p × IsLast log o.layout.header_at v by × IsNext o m p v next × (by ≤ length log)

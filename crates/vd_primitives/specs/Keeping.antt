@@ -1,14 +1,14 @@
 -- The one word for all that a core keeps so that every image is safe.
 use Rattle.vd_image.specs.Log.{May}
 use Rattle.vd_crash.specs.Safe.{Opening}
-use Rattle.vd_crash.specs.Facts.{IsSettled}
+use Rattle.vd_crash.specs.Facts.{IsShown}
 use Rattle.vd_flushes.specs.Flushing.{AreMarks}
 use Rattle.vd_primitives.specs.Core.{IsCore}
 use Rattle.vd_primitives.specs.Primitives.{State}
 
 pub record IsKept (o : Opening) (s : State) : Type 0 where
   pub core : IsCore o s.log s.history s.memory s.flights s.stage
-  pub clean_pages : AreMarks o (May o.before s.log) (IsSettled s.log s.memory) s.memory.index s.marked
+  pub clean_pages : AreMarks o (May o.before s.log) (IsShown o s.log s.history s.memory s.memory.discards.reach) s.memory.index s.marked
 
 -- Whoever keeps a core needs to know no more of crashes than this word: it holds at opening, each primitive keeps it, and
 -- every image at every moment is safe where it holds.

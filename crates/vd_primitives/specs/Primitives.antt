@@ -3,12 +3,13 @@ use Rattle.std.specs.Prelude.{ℕ, ◌≡◌, ◌+◌, ◌<◌, ◌⊎◌, ◌++
 use Rattle.vd_image.specs.Log.{Sector, CallId, Entry, Flush, Fine, Ask, Issue, Done, Broke, Reply, Covers, IsIssueOf}
 use Rattle.vd_image.specs.Image.{Header, Record, background, geometry_of}
 use Rattle.vd_crash.specs.Safe.{NumberedEntry, Opening}
-use Rattle.vd_crash.specs.Facts.{Memory, Numbered, IsTable}
-use Rattle.vd_flushes.specs.Flushing.{IsWanted, IsWantedRecord, IsWantedPage}
+use Rattle.vd_crash.specs.Facts.{Discards, Memory, Numbered, NoDropFrom, IsTable}
+use Rattle.vd_flushes.specs.Flushing.{Snapshot, snapshot_of, IsOffAfter, IsWantedRecord, IsWantedPage}
 use Rattle.vd_flushes.specs.Stage.{IsOtherCall, IsLoggedBy}
 use Rattle.vd_flushes.specs.Stage.{Flight, Idle, Writing, Copying, Answering, HasTicket, HasBlock, HasCall, Progress}
 use Rattle.vd_flushes.specs.Flushing.{IsLogged}
-use Rattle.vd_crash.specs.Words.{Grows, IsQuiet, with_blocks, IsSameWrite, IsUpdated, IsWholeWrite, WritesOnly, with_index, sealed_memory, no_write}
+pub use Rattle.vd_crash.specs.Words.{with_table}
+use Rattle.vd_crash.specs.Words.{Grows, IsQuiet, with_blocks, IsSameWrite, IsUpdated, IsWholeWrite, WritesOnly, with_index, Sealing, sealed_memory, no_write, IsDropWrite, IsDiscarded, discarded_memory}
 use Rattle.vd_flushes.specs.Moves.{entry_now}
 use Rattle.vd_primitives.specs.Core.{Stage, Resting, Sending, Working, Putting, Syncing, Puts_next, Has_next, Syncs_next, Is_next, StageTicket, AsksNone}
 
@@ -25,24 +26,16 @@ abbrev pub EndsNone : (ℕ → Flight) → Entry → Type 0
 EndsNone flights e = (k : ℕ) (t : CallId) → HasTicket (flights k) t → (Done t ≡ e) ⊎ (Broke t ≡ e) → ⊥
 
 -- nothing is put yet, and these chunks' pages of the map need no put
-abbrev pub nothing_put : (ℕ → Bool) → ℕ → (ℕ → Bool) → Progress
+abbrev pub nothing_put : Snapshot → ℕ → (ℕ → Bool) → Progress
 nothing_put snapshot first paged = record { snapshot = snapshot; first = first; by = 0; recorded = λ b. false; written = λ c. false; slotted = λ b. false; paged = paged }
 
--- a chunk whose page of the map isn't marked, and that has no block of the snapshot
-pub record IsClean (o : Opening) (marked snapshot : ℕ → Bool) (c : ℕ) : Type 0 where
+-- a chunk whose page of the map isn't marked, of which nothing new is logged, and that wasn't discarded since the snapshot
+pub record IsClean (o : Opening) (history : List NumberedEntry) (drops : ℕ → Option ℕ) (marked : ℕ → Bool) (snapshot : Snapshot) (c : ℕ) : Type 0 where
   pub within : c < o.layout.chunks
   pub unmarked : marked (o.layout.map_at c) ≡ false
-  pub none : (b : ℕ) → snapshot b ≡ true → o.layout.chunk_of b ≡ c → ⊥
-
--- after chunks took storage
-abbrev pub with_table : Memory → (ℕ → Option ℕ) → Memory
-with_table m table = record {
-  index = record { generation = m.index.generation; tracked = m.index.tracked; sure = m.index.sure; table = table; stale = m.index.stale; tried = m.index.tried; cursor = m.index.cursor };
-  fresh = m.fresh;
-  born = m.born;
-  owed = m.owed;
-  pending = m.pending;
-}
+  pub none : (b : ℕ) → snapshot.blocks b ≡ true → o.layout.chunk_of b ≡ c → ⊥
+  pub not_lost : snapshot.lost c ≡ false
+  pub no_drop : NoDropFrom drops history snapshot.begun c
 
 -- A core, by its logs, its memory, its passes and its flush. A page of the map is marked, by its sector, where a recycle
 -- must write it; it stays so while a put of it isn't flushed.
@@ -62,9 +55,9 @@ pub record IsNextHeader (o : Opening) (m : Memory) (p : Progress) (v : Sector) (
   pub reads : o.format.header_of v ≡ Ok next
   pub geometry : geometry_of next ≡ o.layout.geometry
   pub generation : next.generation ≡ m.index.generation + 1
-  pub background : (s : ℕ) → s < o.layout.size → m.index.stale (o.layout.block_of s) ≡ false → (background o.base o.zeros next.tracked s ≡ o.disk s) ⊎ (tried (o.layout.block_of s) ≡ true)
+  pub background : (s : ℕ) → s < o.layout.size → m.index.off_base (o.layout.block_of s) ≡ false → (background o.base o.zeros next.tracked s ≡ o.disk s) ⊎ (tried (o.layout.block_of s) ≡ true)
   pub wider : (b : ℕ) → m.index.tried b ≡ true → tried b ≡ true
-  pub wanted : (b : ℕ) → tried b ≡ true → IsWanted m p.snapshot b
+  pub wanted : (b : ℕ) → tried b ≡ true → IsOffAfter o m p.snapshot b
   pub paged : (c : ℕ) → c < o.layout.chunks → p.paged c ≡ true
 
 -- One primitive leads from a state to another.
@@ -86,12 +79,12 @@ pub data IsPrimitive (o : Opening) : State → State → Type 0 where
   -- issue, of a whole block
   Issues_whole : (log : List Entry) (history : List NumberedEntry) (m : Memory) (marked : ℕ → Bool) (pending : ℕ → Option ℕ) (flights new : ℕ → Flight) (stage : Stage) (k b p : ℕ) (id ticket : CallId) (first : ℕ) (content : List Sector) (e : Entry)
       → MayIssue flights stage k b id ticket → IsUpdated flights new k (Writing b (length history) (length log) id ticket) → IsIssueOf e ticket
-      → m.fresh b ≡ false → m.pending b ≡ None → b < o.layout.blocks → m.index.table (o.layout.chunk_of b) ≡ Some p → IsUpdated m.pending pending b (Some (length log)) → IsWholeWrite o (Issue id first content) e b p
+      → m.fresh b ≡ false → m.pending b ≡ None → b < o.layout.blocks → m.index.table (o.layout.chunk_of b) ≡ Some p → IsUpdated m.pending pending b (Some (length log)) → IsWholeWrite o m.discards (Issue id first content) e b p
       → IsPrimitive o (state log history m marked flights stage) (state (log ++ e ∷ []) (history ++ entry_now log (Issue id first content) ∷ []) (with_blocks m m.fresh m.born m.owed pending) marked new stage)
   -- put_copy
   Copies : (log : List Entry) (history : List NumberedEntry) (m : Memory) (marked : ℕ → Bool) (pending : ℕ → Option ℕ) (flights new : ℕ → Flight) (stage : Stage) (k b p : ℕ) (ticket : CallId) (e : Entry)
       → flights k ≡ Idle → ((l : ℕ) → HasBlock (flights l) b → ⊥) → ((l : ℕ) → HasTicket (flights l) ticket → ⊥) → (StageTicket stage ticket → ⊥) → IsUpdated flights new k (Copying b (length log) ticket) → IsIssueOf e ticket
-      → m.fresh b ≡ false → m.pending b ≡ None → b < o.layout.blocks → m.index.table (o.layout.chunk_of b) ≡ Some p → IsUpdated m.pending pending b (Some (length log)) → IsWholeWrite o no_write e b p
+      → m.fresh b ≡ false → m.pending b ≡ None → b < o.layout.blocks → m.index.table (o.layout.chunk_of b) ≡ Some p → IsUpdated m.pending pending b (Some (length log)) → IsWholeWrite o m.discards no_write e b p
       → IsPrimitive o (state log history m marked flights stage) (state (log ++ e ∷ []) history (with_blocks m m.fresh m.born m.owed pending) marked new stage)
   -- settle_issue, done: to a local block, and of a whole block
   Ends_local : (log : List Entry) (history : List NumberedEntry) (m : Memory) (marked : ℕ → Bool) (owed : ℕ → Bool) (flights new : ℕ → Flight) (stage : Stage) (k b j n : ℕ) (call ticket : CallId) → flights k ≡ Writing b j n call ticket → IsUpdated flights new k Idle → m.fresh b ≡ true
@@ -114,8 +107,8 @@ pub data IsPrimitive (o : Opening) : State → State → Type 0 where
       → IsPrimitive o (state log history m marked flights stage) (state (log ++ Broke ticket ∷ []) history (with_blocks m m.fresh m.born m.owed pending) marked new stage)
   -- begin_flush, with the data flush; its answer
   Begins : (log : List Entry) (history : List NumberedEntry) (m : Memory) (marked : ℕ → Bool) (flights : ℕ → Flight) (call ticket : CallId) (a n : ℕ) → Numbered history a n (Ask call Flush)
-      → IsPrimitive o (state log history m marked flights Resting) (state (log ++ Ask ticket Flush ∷ []) history m marked flights (Sending call a n (length log) m.owed ticket))
-  Data_flushed : (log : List Entry) (history : List NumberedEntry) (m : Memory) (marked : ℕ → Bool) (flights : ℕ → Flight) (call ticket : CallId) (a n q : ℕ) (snapshot paged : ℕ → Bool) → ((c : ℕ) → paged c ≡ true → IsClean o marked snapshot c)
+      → IsPrimitive o (state log history m marked flights Resting) (state (log ++ Ask ticket Flush ∷ []) history m marked flights (Sending call a n (length log) (snapshot_of m history) ticket))
+  Data_flushed : (log : List Entry) (history : List NumberedEntry) (m : Memory) (marked : ℕ → Bool) (flights : ℕ → Flight) (call ticket : CallId) (a n q : ℕ) (snapshot : Snapshot) (paged : ℕ → Bool) → ((c : ℕ) → paged c ≡ true → IsClean o history m.discards.drops marked snapshot c)
       → IsPrimitive o (state log history m marked flights (Sending call a n q snapshot ticket)) (state (log ++ Reply ticket Fine ∷ []) history m marked flights (Working call a n q (nothing_put snapshot m.index.cursor paged)))
   -- settle_meta, failed
   Flush_fails : (log : List Entry) (history : List NumberedEntry) (m : Memory) (marked : ℕ → Bool) (flights : ℕ → Flight) (stage : Stage) (e : Entry) → IsQuiet e → EndsNone flights e
@@ -135,7 +128,7 @@ pub data IsPrimitive (o : Opening) : State → State → Type 0 where
   Syncs : (log : List Entry) (history : List NumberedEntry) (m : Memory) (marked : ℕ → Bool) (flights : ℕ → Flight) (call ticket : CallId) (a n q : ℕ) (p : Progress)
       → IsPrimitive o (state log history m marked flights (Working call a n q p)) (state (log ++ Ask ticket Flush ∷ []) history m marked flights (Syncing call a n q p (length log) ticket))
   Synced : (log : List Entry) (history : List NumberedEntry) (m : Memory) (marked : ℕ → Bool) (flights : ℕ → Flight) (call ticket : CallId) (a n q r : ℕ) (p : Progress) (slotted paged now : ℕ → Bool)
-      → ((b : ℕ) → slotted b ≡ true → (p.slotted b ≡ true) ⊎ ((p.recorded b ≡ true) × IsWanted m p.snapshot b)) → ((c : ℕ) → paged c ≡ true → (p.paged c ≡ true) ⊎ (p.written c ≡ true))
+      → ((b : ℕ) → slotted b ≡ true → (p.slotted b ≡ true) ⊎ (p.recorded b ≡ true)) → ((c : ℕ) → paged c ≡ true → (p.paged c ≡ true) ⊎ (p.written c ≡ true))
       → ((c : ℕ) → c < o.layout.chunks → now (o.layout.map_at c) ≡ false → (marked (o.layout.map_at c) ≡ false) ⊎ (paged c ≡ true))
       → IsPrimitive o (state log history m marked flights (Syncing call a n q p r ticket)) (state (log ++ Reply ticket Fine ∷ []) history m now flights (Working call a n q (record { snapshot = p.snapshot; first = p.first; by = p.by; recorded = p.recorded; written = p.written; slotted = slotted; paged = paged })))
   -- put, of the next header, its Done, its sync and the answer
@@ -149,19 +142,25 @@ pub data IsPrimitive (o : Opening) : State → State → Type 0 where
   Header_synced : (log : List Entry) (history : List NumberedEntry) (m : Memory) (marked : ℕ → Bool) (flights : ℕ → Flight) (call ticket : CallId) (a n q by r : ℕ) (p : Progress) (v : Sector) (next : Header)
       → IsPrimitive o (state log history m marked flights (Syncs_next call a n q p by v next r ticket)) (state (log ++ Reply ticket Fine ∷ []) history m marked flights (Is_next call a n q p by v next r))
   -- seal, after records or with nothing to log, and of a recycle
-  Seals : (log : List Entry) (history : List NumberedEntry) (m : Memory) (marked : ℕ → Bool) (flights new : ℕ → Flight) (k : ℕ) (call : CallId) (a n q : ℕ) (p : Progress) (stale owed : ℕ → Bool) → flights k ≡ Idle → IsUpdated flights new k (Answering call a n)
-      → IsLogged m p.snapshot stale owed → m.index.sure ≡ true → ((b : ℕ) → p.snapshot b ≡ true → p.slotted b ≡ true)
-      → ((b : ℕ) → p.snapshot b ≡ true → (marked (o.layout.map_at (o.layout.chunk_of b)) ≡ true) ⊎ (p.paged (o.layout.chunk_of b) ≡ true))
-      → IsPrimitive o (state log history m marked flights (Working call a n q p)) (state log history (sealed_memory m m.index.generation m.index.tracked m.index.sure stale m.index.tried m.index.cursor owed) marked new Resting)
-  Seals_recycle : (log : List Entry) (history : List NumberedEntry) (m : Memory) (marked now : ℕ → Bool) (flights new : ℕ → Flight) (k : ℕ) (call : CallId) (a n q by r : ℕ) (p : Progress) (v : Sector) (next : Header) (stale owed none : ℕ → Bool) → flights k ≡ Idle → IsUpdated flights new k (Answering call a n)
-      → IsLogged m p.snapshot stale owed → ((b : ℕ) → none b ≡ false)
-      → IsPrimitive o (state log history m marked flights (Is_next call a n q p by v next r)) (state log history (sealed_memory m (m.index.generation + 1) next.tracked true stale none 0 owed) now new Resting)
+  Seals : (log : List Entry) (history : List NumberedEntry) (m : Memory) (marked : ℕ → Bool) (flights new : ℕ → Flight) (k : ℕ) (call : CallId) (a n q : ℕ) (p : Progress) (z : Sealing) → flights k ≡ Idle → IsUpdated flights new k (Answering call a n)
+      → IsLogged o history m p.snapshot z → m.index.sure ≡ true → ((b : ℕ) → p.snapshot.blocks b ≡ true → p.slotted b ≡ true) → ((b : ℕ) → p.snapshot.lost (o.layout.chunk_of b) ≡ true → p.slotted b ≡ true)
+      → ((b : ℕ) → p.snapshot.blocks b ≡ true → (marked (o.layout.map_at (o.layout.chunk_of b)) ≡ true) ⊎ (p.paged (o.layout.chunk_of b) ≡ true))
+      → ((c : ℕ) → p.snapshot.lost c ≡ true → (marked (o.layout.map_at c) ≡ true) ⊎ (p.paged c ≡ true))
+      → IsPrimitive o (state log history m marked flights (Working call a n q p)) (state log history (sealed_memory m m.index.generation m.index.tracked m.index.sure m.index.tried m.index.cursor z) marked new Resting)
+  Seals_recycle : (log : List Entry) (history : List NumberedEntry) (m : Memory) (marked now : ℕ → Bool) (flights new : ℕ → Flight) (k : ℕ) (call : CallId) (a n q by r : ℕ) (p : Progress) (v : Sector) (next : Header) (z : Sealing) (none : ℕ → Bool) → flights k ≡ Idle → IsUpdated flights new k (Answering call a n)
+      → IsLogged o history m p.snapshot z → ((b : ℕ) → none b ≡ false)
+      → IsPrimitive o (state log history m marked flights (Is_next call a n q p by v next r)) (state log history (sealed_memory m (m.index.generation + 1) next.tracked true none 0 z) now new Resting)
   -- the reply to a flush
   Answers : (log : List Entry) (history : List NumberedEntry) (m : Memory) (marked : ℕ → Bool) (flights new : ℕ → Flight) (stage : Stage) (k : ℕ) (call : CallId) (a n : ℕ) → flights k ≡ Answering call a n → IsUpdated flights new k Idle → ((b i : ℕ) → Numbered history b i (Ask call Flush) → b ≡ a)
       → IsPrimitive o (state log history m marked flights stage) (state log (history ++ entry_now log (Reply call Fine) ∷ []) m marked new stage)
   -- adopt
   Adopts : (log : List Entry) (history : List NumberedEntry) (m : Memory) (marked : ℕ → Bool) (flights : ℕ → Flight) (owed : ℕ → Bool) → ((c : ℕ) → m.owed c ≡ true → owed c ≡ true) → ((c : ℕ) → owed c ≡ true → m.fresh c ≡ true)
       → IsPrimitive o (state log history m marked flights Resting) (state log history (with_blocks m m.fresh m.born owed m.pending) marked flights Resting)
+  -- drop_chunk: the chunk's blocks are no pass's and the call has nothing in flight. The store has no event of it
+  Drops : (log : List Entry) (history : List NumberedEntry) (m : Memory) (marked : ℕ → Bool) (flights : ℕ → Flight) (stage : Stage) (id : CallId) (first : ℕ) (content : List Sector) (c : ℕ) (fresh stale owed : ℕ → Bool) (d : Discards)
+      → c < o.layout.chunks → IsDropWrite o c (Issue id first content) → IsDiscarded o m (length history) c fresh stale owed d
+      → ((k : ℕ) → HasCall (flights k) id → ⊥) → ((k b : ℕ) → HasBlock (flights k) b → o.layout.chunk_of b ≡ c → ⊥) → ((b : ℕ) → o.layout.chunk_of b ≡ c → m.pending b ≡ None)
+      → IsPrimitive o (state log history m marked flights stage) (state log ((history ++ entry_now log (Issue id first content) ∷ []) ++ entry_now log (Done id) ∷ []) (discarded_memory m fresh stale owed d) marked flights stage)
   -- pages are marked
   Marks : (log : List Entry) (history : List NumberedEntry) (m : Memory) (marked more : ℕ → Bool) (flights : ℕ → Flight) (stage : Stage) → ((a : ℕ) → marked a ≡ true → more a ≡ true)
       → IsPrimitive o (state log history m marked flights stage) (state log history m more flights stage)

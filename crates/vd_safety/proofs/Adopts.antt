@@ -47,6 +47,8 @@ module _ {o : Opening} {table : Given} {fresh : List Bool} {k : Keeping} {flushe
         sure = mirrors.sure;
         storage = mirrors.storage;
         stale = mirrors.stale;
+        off_base = mirrors.off_base;
+        undiscarded = mirrors.undiscarded;
         tried = mirrors.tried;
         same_tracked = mirrors.same_tracked;
         cursor = mirrors.cursor;

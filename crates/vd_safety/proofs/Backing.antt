@@ -47,6 +47,7 @@ module _ {h : Header} {o : Opening} {shape : Shape} {table : Given} {fresh : Lis
   pub rest-is : (b t : ℕ) → KeepsCrashSafety o s → IsIn h.block b t → b < blocks_of h → bit_of fresh b ≡ false → background base shape.tracked t ≡ o.disk t
   rest-is b t keeps inside below not_fresh = same-background t
       ∙ kept_background o s t keeps (in-disk h o.layout around.header.layout b t below inside) (is.fresh_is (o.layout.block_of t) ∙ ap (bit_of fresh) (of-block h o.layout around.header.layout b t some inside) ∙ not_fresh)
+      (is.undiscarded.zeros (o.layout.chunk_of (o.layout.block_of t)))
 
   -- and so is what a buffer has of it
   pub buffer-is : (b n : ℕ) (buffer : List Sector) (v : Sector) → KeepsCrashSafety o s → n < h.block → b < blocks_of h → bit_of fresh b ≡ false → IsRest (background base shape.tracked) (h.block * b) buffer → slice_get buffer n ≡ Some v → v ≡ o.disk (h.block * b + n)

@@ -1,4 +1,5 @@
 -- A flush begins, or is not begun at the last generation.
+use Rattle.vd_flushes.specs.Flushing.{snapshot_of}
 use Rattle.std.proofs.Common.{◌≡◌, inl, inr, ℕ, zero, suc, ◌+◌, ◌-◌, ◌/◌, Bool, true, false, not, cond, List, [], ◌∷◌, ◌++◌, length, Option, Some, None, slice_get, slice_set, sym, refl, ap, ◌∙◌, arith, subst}
 use Rattle.std.specs.Prelude.{◌||◌, nat_lt}
 use Rattle.std.specs.List.{list_any}
@@ -161,18 +162,29 @@ module _ {h : Header} {o : Opening} {shape : Shape} {table : Given} {fresh : Lis
       let keeps = keeps-at o s Resting resting was.keeps in
       let marked = primitive_keeps o (state s.log s.history s.memory s.marked s.flights Resting) (state s.log s.history s.memory marks s.flights Resting)
       (Marks s.log s.history s.memory s.marked marks s.flights Resting (λ a is. or_left (s.marked a) (bit_of new.marked (a - map_start k.header)) is)) keeps in
-      let after = primitive_keeps o (state s.log s.history s.memory marks s.flights Resting) (state (s.log ++ Ask (ticket_id t) Flush ∷ []) s.history s.memory marks s.flights (Sending (call_of i p) found.0 entry.0 (length s.log) s.memory.owed (ticket_id t)))
+      let after = primitive_keeps o (state s.log s.history s.memory marks s.flights Resting) (state (s.log ++ Ask (ticket_id t) Flush ∷ []) s.history s.memory marks s.flights (Sending (call_of i p) found.0 entry.0 (length s.log) (snapshot_of s.memory s.history) (ticket_id t)))
       (Begins s.log s.history s.memory marks s.flights (call_of i p) (ticket_id t) found.0 entry.0 numbered_at) marked in
       let bare : is_bare p.phase ≡ true = ap is_bare step.asked in
       let mine = moved o table fresh k flusher passes history disk.log s mirrors i p p' there new (Some i) (disk.log ++ Ask (ticket_id t) Flush ∷ []) (s.log ++ Ask (ticket_id t) Flush ∷ []) s.memory.index.sure s.memory.index.cursor marks
-      (Sending (call_of i p) found.0 entry.0 (length s.log) s.memory.owed (ticket_id t)) bare
+      (Sending (call_of i p) found.0 entry.0 (length s.log) (snapshot_of s.memory s.history) (ticket_id t)) bare
       (ap (λ (l : List Entry). l ++ Ask (ticket_id t) Flush ∷ []) mirrors.log_is) (record { header = refl; stale = refl; owed = refl }) mirrors.sure mirrors.cursor (λ u is. way-same asked k u same is)
       (λ c inside. let here = page-of h o k around.header c in let empty : bit_of k.put (c / 32) ≡ false = ap (λ (xs : List Bool). bit_of xs (c / 32)) rests.1 ∙ get_or-nothing (pages_of k.header) (c / 32) in
       ap (λ (x : Bool). x || bit_of new.marked (o.layout.map_at c - map_start k.header)) (mirrors.marked c inside) ∙ ap (λ (page : ℕ). (bit_of k.marked (c / 32) || bit_of k.put (c / 32)) || bit_of new.marked page) here
       ∙ or-is (bit_of k.marked (c / 32)) (bit_of new.marked (c / 32)) (bit_of k.put (c / 32)) empty (still-marked k.header k.marked (chunks_with k.header k.owed) (c / 32)))
       (flights-after o table fresh k flusher passes history disk.log s mirrors i p p' there bare refl)
-      (stage-by DataFlush false (Some t) i p p' o new passes (Sending (call_of i p) found.0 entry.0 (length s.log) s.memory.owed (ticket_id t)) there refl refl refl (begun-of asked k kept rests.1)
-      (found.0, entry.0, length s.log, s.memory.owed, mirrors.owed, refl)) in
+      (stage-by DataFlush false (Some t) i p p' o new passes (Sending (call_of i p) found.0 entry.0 (length s.log) (snapshot_of s.memory s.history) (ticket_id t)) there refl refl refl (begun-of asked k kept rests.1) (
+        found.0,
+        entry.0,
+        length s.log,
+        snapshot_of s.memory s.history,
+        record {
+          blocks = mirrors.owed;
+          wanted = λ b. ap (λ (x : Bool). x || s.memory.owed b) (mirrors.stale b) ∙ ap (λ (x : Bool). bit_of k.stale b || x) (mirrors.owed b);
+          zeros = mirrors.undiscarded.zeros;
+          lost = mirrors.undiscarded.lost;
+        },
+        refl,
+      )) in
       let tale = (step.sends.told told).0 in
       secured-as o table fresh k' new (Some i) passes' (slice_set passes i p') history disk'.log (disk.log ++ Ask (ticket_id t) Flush ∷ []) step.after step.sends.after
       (tale.log ∙ ap (λ (kind : Kind). disk.log ++ meta_entry kind t [] ∷ []) step.kind) (record { state = _; keeps = after; mirrors = mine })

@@ -1,4 +1,5 @@
 -- The data flush has succeeded.
+use Rattle.vd_flushes.specs.Flushing.{Snapshot}
 use Rattle.std.proofs.Common.{◌≡◌, inl, inr, ℕ, ◌/◌, ◌<◌, Bool, true, false, not, List, [], ◌∷◌, ◌++◌, take, Some, None, slice_get, slice_set, sym, refl, ap, ◌∙◌, arith, subst}
 use Rattle.std.specs.Prelude.{◌||◌, ◌&&◌, nat_lt}
 use Rattle.std.specs.List.{Contains}
@@ -41,7 +42,7 @@ module _ (h : Header) (o : Opening) (table : Given) (fresh : List Bool) (k : Kee
   now : IsBegunOf k × IsStageBy DataFlush k.head (Some t) o k (call_of i p) s.stage
   now = stage-at DataFlush k.head (Some t) i p o k (Some i) passes s.stage refl there sends refl has mirrors.stage
 
-  abbrev snapshot : ℕ → Bool
+  abbrev snapshot : Snapshot
   snapshot = now.1.3
 
   unput : (page : ℕ) → bit_of k.put page ≡ false
@@ -55,7 +56,7 @@ module _ (h : Header) (o : Opening) (table : Given) (fresh : List Bool) (k : Kee
   or-neither true y e f = absurd cc
   or-neither false y e f = f
 
-  clean : (c : ℕ) → paged c ≡ true → IsClean o s.marked snapshot c
+  clean : (c : ℕ) → paged c ≡ true → IsClean o s.history s.memory.discards.drops s.marked snapshot c
   clean c is =
       let two = and_parts (nat_lt c (chunks_of k.header)) (not (bit_of k.marked (c / 32))) is in
       let less : c < chunks_of k.header = ltb-true c (chunks_of k.header) two.0 in
@@ -66,9 +67,11 @@ module _ (h : Header) (o : Opening) (table : Given) (fresh : List Bool) (k : Kee
         unmarked = mirrors.marked c within ∙ or-neither (bit_of k.marked (c / 32)) (bit_of k.put (c / 32)) off (unput (c / 32));
         none = λ b snap at.
             let chunk : b / k.header.chunk ≡ c = by-header h o k of (λ x. x.layout.chunk_of b ≡ c → b / k.header.chunk ≡ c) (λ e. e) at in
-            let on : bit_of k.marked (b / k.header.chunk / 32) ≡ true = now.0.behind (inr sends) b (sym (now.1.4 b) ∙ snap) in
+            let on : bit_of k.marked (b / k.header.chunk / 32) ≡ true = now.0.behind (inr sends) b (sym (now.1.4.blocks b) ∙ snap) in
             let e : bit_of k.marked (c / 32) ≡ true = ap (λ (x : ℕ). bit_of k.marked (x / 32)) (sym chunk) ∙ on in
             absurd cc;
+        not_lost = now.1.4.lost c;
+        no_drop = λ j n after drop. let none = mirrors.undiscarded.drops j in let is = drop.is in cc;
       }
 
   abbrev pr : Progress

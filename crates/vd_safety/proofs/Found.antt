@@ -14,15 +14,15 @@ use Rattle.vd_image.specs.Decoders.{Entry as MapEntry, format_of}
 use Rattle.vd_image.specs.CrashImages.{sectors_or, base_at}
 use Rattle.vd_image.specs.Made.{zero_sector}
 use Rattle.vd_crash.specs.Safe.{NumberedEntry, Opening, events}
-use Rattle.vd_crash.specs.Facts.{Memory, IsSettled, Holds}
+use Rattle.vd_crash.specs.Facts.{IsDrop, Local, Memory, IsShown, Holds}
 use Rattle.vd_crash.proofs.Histories.{events_numbered}
-use Rattle.vd_crash.proofs.Recovered.{mapped, stale_has, local_by, header_order, start_left}
+use Rattle.vd_crash.proofs.Recovered.{mapped, due_has, local_by, header_order, start_left}
 use Rattle.vd_primitives.specs.Primitives.{State}
 use Rattle.vd_primitives.specs.Keeping.{KeepsCrashSafety}
 use Rattle.vd_replay.specs.Images.{image_of}
 use Rattle.vd_meta.specs.Keeping.{Keeping}
 use Rattle.vd_passes.specs.declared.pass.Pass.{Pass}
-use Rattle.vd_safety.specs.Mirrors.{bit_of, storage_of, opening_for, IsSecured}
+use Rattle.vd_safety.specs.Mirrors.{IsUndiscarded, bit_of, storage_of, opening_for, IsSecured}
 use Rattle.vd_safety.specs.Held.{IsHeldNow, IsFound}
 use Rattle.vd_safety.proofs.Opening.{zeros-same}
 use Rattle.vd_safety.proofs.Held.{held_image}
@@ -42,26 +42,30 @@ FoundBy o m image s v =
 by_kind : (o : Opening) (w : Mapping) (tracked s : ℕ) → w.zeros ≡ false → unmapped o.base o.zeros tracked w s ≡ background o.base o.zeros tracked s
 by_kind o w tracked s base = ap (λ (y : Bool). if y then o.zeros else background o.base o.zeros tracked s) base
 
-found_by : (o : Opening) (log : List Entry) (history : List NumberedEntry) (m : Memory) → Holds o log history m → ((b : ℕ) → m.index.tried b ≡ false) → (image : ℕ → Sector) → IsImage o.before log image
+found_by : (o : Opening) (log : List Entry) (history : List NumberedEntry) (m : Memory) → Holds o log history m → IsUndiscarded m.discards → ((b : ℕ) → m.index.off_base b ≡ m.index.stale b) → ((b : ℕ) → m.index.tried b ≡ false) → (image : ℕ → Sector) → IsImage o.before log image
     → (s : ℕ) (v : Sector) → s < o.layout.size → DiskHas o.format o.layout o.base o.zeros image s v → FoundBy o m image s v
-found_by o log history m holds untried image is_image s v within disk =
+found_by o log history m holds undiscarded same_off untried image is_image s v within disk =
     let metadata = holds.facts.metadata in
     let kept = metadata.header_known (image o.layout.header_at) (is_image o.layout.header_at) in
     let same : disk.header ≡ kept.header = cc (disk.reads, kept.reads) in
     let order : m.index.generation ≤ disk.header.generation = subst (λ (y : ImageHeader). m.index.generation ≤ y.generation) (sym same) (header_order o (May o.before log) m.index (image o.layout.header_at) kept) in
-    let right = mapped o (May o.before log) (IsSettled log m) m.index image disk.header (o.layout.chunk_of (o.layout.block_of s)) disk.mapping metadata is_image disk.reads order disk.maps in
+    let right = mapped o (May o.before log) (IsShown o log history m m.discards.reach) m.index image disk.header (o.layout.chunk_of (o.layout.block_of s)) disk.mapping metadata is_image disk.reads order disk.maps in
     elim disk.has [
-      | inl h ↦ inl (h.0, right.storage_agrees h.0 h.1.0, (right.blocks_settled (o.layout.block_of s) h.1.1).0, h.2)
+      | inl h ↦ inl (h.0, right.storage_agrees h.0 h.1.0, known (right.blocks_settled (o.layout.block_of s) h.1.1).1, h.2)
       | inr h ↦
-          let not_has : disk.mapping.has (o.layout.block_of s) ≡ true → ⊥ = λ has. (let l = local_by o (IsSettled log m) m.index.table (o.layout.chunk_of (o.layout.block_of s)) (o.layout.block_of s) disk.mapping right has in h.0 l.0 l.1) in
+          let not_has : disk.mapping.has (o.layout.block_of s) ≡ true → ⊥ = λ has. (let l = local_by o (IsShown o log history m m.discards.reach) m.index.table (o.layout.chunk_of (o.layout.block_of s)) (o.layout.block_of s) disk.mapping right has in h.0 l.0 l.1) in
           let unstale : m.index.stale (o.layout.block_of s) ≡ false = is_false (m.index.stale (o.layout.block_of s))
-          (λ stale. not_has (stale_has o (May o.before log) (IsSettled log m) m.index image disk.header (o.layout.block_of s) disk.mapping metadata is_image disk.reads order stale disk.maps)) in
-          let start : background o.base o.zeros disk.header.tracked s ≡ o.disk s = elim (kept.background s within unstale) [
+          (λ stale. not_has (due_has o (May o.before log) (IsShown o log history m m.discards.reach) m.index image disk.header (Local (o.layout.block_of s)) disk.mapping metadata is_image disk.reads order stale disk.maps)) in
+          let start : background o.base o.zeros disk.header.tracked s ≡ o.disk s = elim (kept.background s within (same_off (o.layout.block_of s) ∙ unstale)) [
             | inl e ↦ ap (λ (y : ImageHeader). background o.base o.zeros y.tracked s) same ∙ e
             | inr next ↦ absurd (let tried = next.1 in let never = untried (o.layout.block_of s) in cc)
           ] in
-          inr (unstale, h.1 ∙ by_kind o disk.mapping disk.header.tracked s right.grammar.kind ∙ start ∙ sym (holds.blocks.background_same s within unstale))
+          inr (unstale, h.1 ∙ by_kind o disk.mapping disk.header.tracked s (is_false disk.mapping.zeros (λ zeros. let is = right.kind_settled zeros in let none = undiscarded.zeros (o.layout.chunk_of (o.layout.block_of s)) in cc)) ∙ start ∙ sym (holds.blocks.background_same s within (same_off (o.layout.block_of s) ∙ unstale)))
     ]
+  where
+    known : (m.fresh (o.layout.block_of s) ≡ true) ⊎ ((j : ℕ) × (n : ℕ) × IsDrop m.discards.drops history j n (o.layout.chunk_of (o.layout.block_of s))) → m.fresh (o.layout.block_of s) ≡ true
+    known (inl is) = is
+    known (inr dropped) = absurd (let none = undiscarded.drops dropped.0 in let is = dropped.2.is in cc)
 
 kept_holds : (o : Opening) (s : State) → KeepsCrashSafety o s → Holds o s.log s.history s.memory
 unfolding KeepsCrashSafety
@@ -77,8 +81,8 @@ module _ (o : Opening) (table : Given) (fresh : List Bool) (k : Keeping) (flushe
   pub unstale-unsure : (x : ℕ) → bit_of k.stale (o.layout.block_of x) ≡ false → NoneSureFrom history.log.entries 0 x
   unstale-unsure x unstale =
       let same : events secured.state.history ≡ history.log.entries = ap events secured.mirrors.history_is ∙ events_numbered history.log.entries history.numbers secured.mirrors.many in
-      let not : secured.state.memory.index.stale (o.layout.block_of x) ≡ true → ⊥ = λ stale. (let is = secured.mirrors.stale (o.layout.block_of x) in cc) in
-      subst (λ (es : List Entry). NoneSureFrom es 0 x) same (start_left o secured.state.log secured.state.history secured.state.memory.index.stale x holds.facts.answered not)
+      let not : secured.state.memory.index.off_base (o.layout.block_of x) ≡ true → ⊥ = λ off. (let is = secured.mirrors.off_base (o.layout.block_of x) in cc) in
+      subst (λ (es : List Entry). NoneSureFrom es 0 x) same (start_left o secured.state.log secured.state.history secured.state.memory x holds.facts not)
 
   secured-found : (image : ℕ → Sector) → IsImage o.before log image → (x : ℕ) (v : Sector) → x < o.layout.size → DiskHas o.format o.layout o.base o.zeros image x v
       → ((p : ℕ) × (storage_of table (o.layout.chunk_of (o.layout.block_of x)) ≡ Some p) × (bit_of fresh (o.layout.block_of x) ≡ true) × (v ≡ image (o.layout.place p x)))
@@ -86,7 +90,7 @@ module _ (o : Opening) (table : Given) (fresh : List Bool) (k : Keeping) (flushe
   secured-found image left x v within disk =
       let m = secured.mirrors in let b = o.layout.block_of x in
       let untried : (c : ℕ) → secured.state.memory.index.tried c ≡ false = m.tried in
-      elim (found_by o secured.state.log secured.state.history secured.state.memory holds untried image (subst (λ (l : List Entry). IsImage o.before l image) (sym m.log_is) left) x v within disk) [
+      elim (found_by o secured.state.log secured.state.history secured.state.memory holds m.undiscarded (λ c. m.off_base c ∙ sym (m.stale c)) untried image (subst (λ (l : List Entry). IsImage o.before l image) (sym m.log_is) left) x v within disk) [
         | inl here ↦ inl (here.0, sym (m.storage (o.layout.chunk_of b)) ∙ here.1, sym (m.fresh_is b) ∙ here.2, here.3)
         | inr behind ↦ inr (sym (m.stale b) ∙ behind.0, behind.1 ∙ ap (λ (t : ℕ). background o.base o.zeros t x) m.tracked)
       ]

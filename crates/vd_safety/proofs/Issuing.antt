@@ -227,8 +227,8 @@ module _ {h : Header} {o : Opening} {shape : Shape} {table : Given} {fresh : Lis
       begins = let e = scaled in let g = piece.from in omega arith
 
       block-whole : t.first ≡ p.at → (stored : List Sector) → length stored ≡ h.block → ((n : ℕ) (v : Sector) → slice_get stored n ≡ Some v → Comes offset part (λ m u. u ≡ o.disk (h.block * p.block + m)) n v)
-          → IsWholeWrite o event (Issue (ticket_id t) t.first stored) p.block placed.0
-      block-whole first stored stored_long comes = subst (λ (a : ℕ). IsWholeWrite o event (Issue (ticket_id t) a stored) p.block placed.0) (sym first) (whole-write h o around.header.layout some some-chunk p.block placed.0 (p.first + p.done) p.at part (call_of i p) (ticket_id t) from to place offset stored begins stored_long comes)
+          → IsWholeWrite o s.memory.discards event (Issue (ticket_id t) t.first stored) p.block placed.0
+      block-whole first stored stored_long comes = subst (λ (a : ℕ). IsWholeWrite o s.memory.discards event (Issue (ticket_id t) a stored) p.block placed.0) (sym first) (whole-write h o around.header.layout some some-chunk p.block placed.0 (p.first + p.done) p.at part (call_of i p) (ticket_id t) from to place s.memory.discards offset stored mirrors.undiscarded.zeros begins stored_long comes)
 
       buffer-rest : p.phase ≡ Filled → IsRest (background base shape.tracked) (h.block * p.block) p.buffer
       buffer-rest filled = subst (λ (n : ℕ). IsRest (background base shape.tracked) n p.buffer) scaled (around.buffers i p step.there filled)
@@ -239,10 +239,10 @@ module _ {h : Header} {o : Opening} {shape : Shape} {table : Given} {fresh : Lis
       within : (n : ℕ) (v : Sector) → slice_get p.buffer n ≡ Some v → n < h.block
       within n v there = let w = slice_get_within p.buffer n v there in let b = block-same around in let l = stands.buffer in omega arith
 
-      given-as : (stored : List Sector) → step.stored ≡ stored → IsWholeWrite o event (Issue (ticket_id t) t.first stored) p.block placed.0 → IsWholeWrite o event stored-event p.block placed.0
-      given-as stored e w = subst (λ (xs : List Sector). IsWholeWrite o event (Issue (ticket_id t) t.first xs) p.block placed.0) (sym e) w
+      given-as : (stored : List Sector) → step.stored ≡ stored → IsWholeWrite o s.memory.discards event (Issue (ticket_id t) t.first stored) p.block placed.0 → IsWholeWrite o s.memory.discards event stored-event p.block placed.0
+      given-as stored e w = subst (λ (xs : List Sector). IsWholeWrite o s.memory.discards event (Issue (ticket_id t) t.first xs) p.block placed.0) (sym e) w
 
-      write : IsWholeWrite o event stored-event p.block placed.0
+      write : IsWholeWrite o s.memory.discards event stored-event p.block placed.0
       write = elim step.given.way [
         | inl held ↦ given-as part held.0 (elim held.3 [
           | inl is_fresh ↦ absurd (let e = fresh-is true is_fresh in cc)

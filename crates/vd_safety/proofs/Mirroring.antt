@@ -16,11 +16,12 @@ use Rattle.vd_safety.proofs.Updates.{numbered-more, length-more}
 -- the memory with other storage and other blocks
 abbrev pub changed : Memory → (table : ℕ → Option ℕ) → (fresh : ℕ → Bool) → (born : ℕ → ℕ) → (owed : ℕ → Bool) → (pending : ℕ → Option ℕ) → Memory
 changed m table fresh born owed pending = record {
-  index = record { generation = m.index.generation; tracked = m.index.tracked; sure = m.index.sure; table = table; stale = m.index.stale; tried = m.index.tried; cursor = m.index.cursor };
+  index = record { generation = m.index.generation; tracked = m.index.tracked; sure = m.index.sure; table = table; stale = m.index.stale; off_base = m.index.off_base; tried = m.index.tried; cursor = m.index.cursor };
   fresh = fresh;
   born = born;
   owed = owed;
   pending = pending;
+  discards = m.discards;
 }
 
 -- a history that has these numbered entries
@@ -64,6 +65,8 @@ module _ (o : Opening) (table : Given) (fresh : List Bool) (k : Keeping) (flushe
     sure = was.sure;
     storage = storage;
     stale = was.stale;
+    off_base = was.off_base;
+    undiscarded = was.undiscarded;
     tried = was.tried;
     same_tracked = was.same_tracked;
     cursor = was.cursor;

@@ -23,7 +23,7 @@ use Rattle.vd_image.proofs.Layouts.{parts_apart}
 use Rattle.vd_crash.specs.Safe.{Opening, numbered}
 use Rattle.vd_crash.specs.Facts.{Memory}
 use Rattle.vd_crash.specs.Opened.{IsAtOpening}
-use Rattle.vd_flushes.specs.Flushing.{IsWantedMapping, no_block, AreOpeningMarks}
+use Rattle.vd_flushes.specs.Flushing.{IsWantedMapping, nothing_new, AreOpeningMarks}
 use Rattle.vd_flushes.specs.Stage.{Idle as NoFlight}
 use Rattle.vd_primitives.specs.Primitives.{at_rest}
 use Rattle.vd_primitives.proofs.Keeping.{opening_keeps_all}
@@ -38,7 +38,7 @@ use Rattle.vd_passes.specs.declared.pass.Pass.{Pass}
 use Rattle.vd_passes.specs.declared.pass.Phase.{Phase}
 use Rattle.vd_passes.specs.declared.pass.Phase.TheVariants.{Idle}
 use Rattle.vd_safety.specs.Mirrors.{bit_of, storage_of, is_in, opening_for, IsFlightOf, IsSecured}
-use Rattle.vd_safety.proofs.Stated.{up_there, down_there, stored_has, has_stored, has_gives, gives_has, up_mask, up_local, local_up, below_next, disk_past}
+use Rattle.vd_safety.proofs.Stated.{maps_grammar, up_there, down_there, stored_has, has_stored, has_gives, gives_has, up_mask, up_local, local_up, below_next, disk_past}
 
 -- what a core is made from: a state that was read from what the store holds now, after a log that leaves no other content
 -- in any sector, and has a flush that succeeded; and the disk that the held image stands for
@@ -72,11 +72,12 @@ keeper_of s = record {
 -- its memory, as the laws see it
 abbrev pub memory_of : State → Memory
 memory_of s = record {
-  index = record { generation = s.header.generation; tracked = s.header.tracked; sure = true; table = storage_of s.table; stale = bit_of s.fresh.bits; tried = no_block; cursor = s.cursor.next };
+  index = record { generation = s.header.generation; tracked = s.header.tracked; sure = true; table = storage_of s.table; stale = bit_of s.fresh.bits; off_base = bit_of s.fresh.bits; tried = λ b. false; cursor = s.cursor.next };
   fresh = bit_of s.fresh.bits;
   born = λ b. 0;
-  owed = no_block;
+  owed = λ b. false;
   pending = λ b. None;
+  discards = record { drops = λ j. None; zeros = λ c. false; lost = λ c. false; reach = 0 };
 }
 
 -- its marked sectors of the map
@@ -144,6 +145,11 @@ at_opening s before held base disk log start = record {
   stale = λ b. refl;
   cursor = λ k r within reads current. below_next (length held) (image_of held) s.header s k r start.state within reads current;
   owed = λ b. refl;
+  zeros = λ c. (λ is. absurd cc, λ w. absurd (let g = (maps_grammar (format_of s.header) (layout_of s.header) (image_of held) s.header.generation c w.0 start.state.opens.consistent w.1).1 in let base = g.kind refl in let zeros = w.2 in cc));
+  off_base = λ b. (λ is. inl is, λ known. elim known [ inl is ↦ is | inr zeros ↦ absurd cc ]);
+  drops = λ j. refl;
+  lost = λ c. refl;
+  reach = refl;
   tried = λ b. refl;
   pending = λ b. refl;
   born = λ b. refl;
@@ -218,16 +224,17 @@ opening_marks s before held base disk log start c within unmarked = record { map
         let maps : Maps (format_of s.header) (layout_of s.header) (image_of held) s.header.generation c w.1.0 = subst (λ (d : ℕ). Maps (format_of s.header) (layout_of s.header) (image_of held) s.header.generation d w.1.0) of_chunk w.1.1 in
         ap (λ (m : Mapping). m.has b) (maps_one (format_of s.header) (layout_of s.header) (image_of held) s.header.generation c page.0 w.1.0 page.3 maps) ∙ w.1.2.1
 
-    wanted : IsWantedMapping (opening_with zero_sector s.header s.map before (image_of held) base disk (length log)) (memory_of s) no_block c page.0
+    wanted : IsWantedMapping (opening_with zero_sector s.header s.map before (image_of held) base disk (length log)) (memory_of s) (nothing_new (memory_of s)) c page.0
     wanted = record {
-      kind = page.2.kind;
+      kind = page.2.kind refl;
+      in_grammar = page.2.kind;
       blocks = λ b. (
         (λ has.
             let k = page.2.blocks b has in
             let p = page.2.has_storage b has in
             let maps : Maps (format_of s.header) (layout_of s.header) (image_of held) s.header.generation (b / s.header.chunk) page.0 = subst (λ (d : ℕ). Maps (format_of s.header) (layout_of s.header) (image_of held) s.header.generation d page.0) (sym k.1) page.3 in
-            (k.1, inl (local_up (length held) (image_of held) s.header s b p.0 start.state start.whole.sized.fresh (page.0, maps, (p.1, has))))),
-        (λ w. elim w.1 [ inl stale ↦ fresh_has b w.0 stale | inr none ↦ absurd cc ]),
+            (k.1, local_up (length held) (image_of held) s.header s b p.0 start.state start.whole.sized.fresh (page.0, maps, (p.1, has)))),
+        (λ w. fresh_has b w.0 w.1),
       );
       storage = λ p. (
         (λ is. (has_stored s.table c p (gives_has (length held) (image_of held) s.header s c p start.state (page.0, page.3, is)), page.2.has_block p is)),
@@ -269,6 +276,8 @@ opened-secured s before held base disk log passes history start idle no_entry no
     sure = refl;
     storage = λ c. refl;
     stale = λ b. refl;
+    off_base = λ b. refl;
+    undiscarded = record { drops = λ j. refl; zeros = λ c. refl; lost = λ c. refl };
     tried = λ b. refl;
     same_tracked = λ t way. absurd cc;
     cursor = refl;

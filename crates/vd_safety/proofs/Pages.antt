@@ -17,7 +17,7 @@ use Rattle.vd_image.specs.Layouts.{chunks_of, map_start}
 use Rattle.vd_image.specs.Decoders.{format_of, shape_of, mapping_in}
 use Rattle.vd_crash.specs.Safe.{Opening}
 use Rattle.vd_crash.specs.Facts.{Memory}
-use Rattle.vd_flushes.specs.Flushing.{IsWantedPage}
+use Rattle.vd_flushes.specs.Flushing.{Snapshot, IsWantedPage}
 use Rattle.vd_meta.specs.Keeping.{Keeping, pages_of}
 use Rattle.vd_meta.specs.Entries.{entry_of, HasStorage, wanted, page_entries}
 use Rattle.vd_meta.specs.Flushes.{IsKeeping}
@@ -37,7 +37,7 @@ page-place table k c inside =
     slice_get-get_or (map f (range_with_len (32 * (c / 32)) n)) (c % 32) (f c) (omega arith)
     ∙ ap (λ (e : Entry). Some e) (get_or-map-range_with_len f (32 * (c / 32)) n (c % 32) c (f c) less (omega arith))
 
-module _ (o : Opening) (m : Memory) (snapshot : ℕ → Bool) (table : Given) (k : Keeping) (is : IsMemoryOf m snapshot table k) (kept : IsKeeping k) (has : HasStorage table k) where
+module _ (o : Opening) (m : Memory) (snapshot : Snapshot) (table : Given) (k : Keeping) (is : IsMemoryOf m snapshot table k) (kept : IsKeeping k) (has : HasStorage table k) where
   -- the page at a chunk of it
   page-reads : (page c : ℕ) (sector : Sector) → sector.bytes ≡ page_bytes (page_entries table k page) → c < chunks_of k.header → c / 32 ≡ page
       → (format_of k.header).mapping_of sector c ≡ Some (mapping_in k.header c (entry_of k.header table (wanted k) c))
@@ -62,7 +62,7 @@ same-page : (start c d : ℕ) → start + c / 32 ≡ start + d / 32 → c / 32 �
 same-page start c d e = omega arith
 
 -- The next sector of the map is one that the laws want, at each of its chunks.
-pub page-wanted : (h : Header) (o : Opening) (m : Memory) (snapshot : ℕ → Bool) (table : Given) (k : Keeping) (page : ℕ) (sector : Sector) → IsOfHeader h o k → IsMemoryOf m snapshot table k → IsKeeping k → HasStorage table k
+pub page-wanted : (h : Header) (o : Opening) (m : Memory) (snapshot : Snapshot) (table : Given) (k : Keeping) (page : ℕ) (sector : Sector) → IsOfHeader h o k → IsMemoryOf m snapshot table k → IsKeeping k → HasStorage table k
     → sector.bytes ≡ page_bytes (page_entries table k page) → (c d : ℕ) → d / 32 ≡ page → c < o.layout.chunks → o.layout.map_at c ≡ o.layout.map_at d → IsWantedPage o m snapshot c sector
 page-wanted h o m snapshot table k page sector of is kept has bytes c d at =
     by-header h o k of (λ p. c < p.layout.chunks → p.layout.map_at c ≡ p.layout.map_at d → IsWantedPage p m snapshot c sector)

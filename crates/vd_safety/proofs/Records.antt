@@ -3,7 +3,7 @@ use Rattle.std.proofs.Common.{◌≡◌, inl, inr, ℕ, ◌+◌, ◌-◌, ◌*�
 use Rattle.std.specs.Prelude.{◌&&◌, if◌then◌else◌, nat_le}
 use Rattle.std.specs.Int.{bit_at}
 use Rattle.std.specs.List.{slice_get}
-use Rattle.std.proofs.lemmas.Bool.{cases_Bool, ne_eqb, leb-true, le-leb, or_cases, or_left, or_right}
+use Rattle.std.proofs.lemmas.Bool.{cases_Bool, ne_eqb, leb-true, le-leb}
 use Rattle.std.proofs.lemmas.Nat.{div-mul-add, mod_below, div-add-mod'}
 use Rattle.vd_bits.specs.Blocks.{Blocks, bits_in}
 use Rattle.vd_bits.specs.Masks.{mask_of}
@@ -17,7 +17,7 @@ use Rattle.vd_image.specs.Decoders.{format_of, mapping_in, mask_has, storage_in}
 use Rattle.vd_image.proofs.Decoders.{entry_is_mapping}
 use Rattle.vd_crash.specs.Safe.{Opening}
 use Rattle.vd_crash.specs.Facts.{Memory}
-use Rattle.vd_flushes.specs.Flushing.{IsWanted, IsWantedMapping}
+use Rattle.vd_flushes.specs.Flushing.{Snapshot, IsWantedMapping}
 use Rattle.vd_meta.specs.Keeping.{Keeping}
 use Rattle.vd_meta.specs.Entries.{entry_of, storage_number, HasStorage, wanted}
 use Rattle.vd_meta.specs.Flushes.{IsKeeping}
@@ -25,7 +25,7 @@ use Rattle.vd_meta.proofs.Rows.{get_or-either, within}
 use Rattle.vd_meta.proofs.Chunked.{length-bits_in, get_or-bits_in}
 use Rattle.vd_meta.proofs.Chunked as chunked
 use Rattle.vd_meta.proofs.Laws.{wanted-grammar}
-use Rattle.vd_safety.specs.Mirrors.{bit_of, given, storage_of, IsOfHeader}
+use Rattle.vd_safety.specs.Mirrors.{IsSnapshotOf, bit_of, given, storage_of, IsOfHeader}
 
 -- ---- the opening, by the keeper's header
 
@@ -52,11 +52,11 @@ pub by-header : (h : Header) (o : Opening) (k : Keeping) → IsOfHeader h o k �
 by-header h o k is P holds = subst P (same-opening h o k is) holds
 
 -- What the memory says of a keeper and its table, and which blocks the flush under way logs.
-pub record IsMemoryOf (m : Memory) (snapshot : ℕ → Bool) (table : Given) (k : Keeping) : Type 0 where
+pub record IsMemoryOf (m : Memory) (snapshot : Snapshot) (table : Given) (k : Keeping) : Type 0 where
   pub generation : m.index.generation ≡ k.header.generation
   pub table_is : (c : ℕ) → m.index.table c ≡ storage_of table c
   pub stale : (b : ℕ) → m.index.stale b ≡ bit_of k.stale b
-  pub snapshot_is : (b : ℕ) → snapshot b ≡ bit_of k.snapshot b
+  pub snapshot_is : IsSnapshotOf k.snapshot k.stale snapshot
 
 -- ---- the mapping of a chunk
 
@@ -126,17 +126,13 @@ entry-mask : (h : Header) (table : Given) (blocks : List Bool) (chunk : ℕ) →
 unfolding entry_of
 entry-mask h table blocks chunk = refl
 
-module _ (o : Opening) (m : Memory) (snapshot : ℕ → Bool) (table : Given) (k : Keeping) (is : IsMemoryOf m snapshot table k) where
+module _ (o : Opening) (m : Memory) (snapshot : Snapshot) (table : Given) (k : Keeping) (is : IsMemoryOf m snapshot table k) where
   -- what is wanted is what the keeper writes
-  pub wanted-is : (b : ℕ) → bit_of (wanted k) b ≡ true → IsWanted m snapshot b
-  wanted-is b has = elim (or_cases (bit_of k.stale b) (bit_of k.snapshot b) (sym (get_or-either k.stale k.snapshot b) ∙ has)) [
-    | inl stale ↦ inl (is.stale b ∙ stale)
-    | inr snap ↦ inr (is.snapshot_is b ∙ snap)
-  ]
+  pub wanted-is : (b : ℕ) → bit_of (wanted k) b ≡ true → snapshot.wanted b ≡ true
+  wanted-is b has = is.snapshot_is.wanted b ∙ sym (get_or-either k.stale k.snapshot b) ∙ has
 
-  pub is-wanted : (b : ℕ) → IsWanted m snapshot b → bit_of (wanted k) b ≡ true
-  is-wanted b (inl stale) = get_or-either k.stale k.snapshot b ∙ or_left (bit_of k.stale b) (bit_of k.snapshot b) (sym (is.stale b) ∙ stale)
-  is-wanted b (inr snap) = get_or-either k.stale k.snapshot b ∙ or_right (bit_of k.stale b) (bit_of k.snapshot b) (sym (is.snapshot_is b) ∙ snap)
+  pub is-wanted : (b : ℕ) → snapshot.wanted b ≡ true → bit_of (wanted k) b ≡ true
+  is-wanted b is_wanted = get_or-either k.stale k.snapshot b ∙ sym (is.snapshot_is.wanted b) ∙ is_wanted
 
   -- the mapping that a flush writes of a chunk is the wanted one
   pub wanted-mapping : (chunk : ℕ) → IsKeeping k → HasStorage table k → IsWantedMapping (with_header o k.header) m snapshot chunk (mapping_in k.header chunk (entry_of k.header table (wanted k) chunk))
@@ -147,7 +143,8 @@ module _ (o : Opening) (m : Memory) (snapshot : ℕ → Bool) (table : Given) (k
       λ b. ap (λ (n : ℕ). mask_has (chunk * k.header.chunk) n b) (entry-mask k.header table (wanted k) chunk) in
       let gives : (p : ℕ) → storage_in (entry_of k.header table (wanted k) chunk).storage ≡ Some p → m.index.table chunk ≡ Some p = λ p says. is.table_is chunk ∙ entry-given k.header table (wanted k) chunk p says in
       record {
-        kind = grammar.kind;
+        kind = grammar.kind refl ∙ sym (is.snapshot_is.zeros chunk);
+        in_grammar = grammar.kind;
         blocks = λ b. (
           λ says. (let two = mask-has k.header kept.valid (wanted k) chunk b (sym (masks b) ∙ says) in (two.0, wanted-is b two.1)),
           λ two. masks b ∙ has-mask k.header kept.valid (wanted k) chunk b two.0 (is-wanted b two.1),

@@ -1,13 +1,14 @@
 -- A flush is over: its blocks are logged, and its pass has its answer.
+use Rattle.vd_crash.specs.Facts.{IsDrop}
 use Rattle.std.proofs.Common.{◌≡◌, ◌⊎◌, inl, inr, ℕ, ◌+◌, ◌/◌, ◌<◌, Bool, true, false, not, cond, List, Option, Some, None, slice_get, slice_set, sym, refl, ap, ◌∙◌, arith, subst}
 use Rattle.std.specs.Prelude.{◌||◌}
-use Rattle.std.proofs.lemmas.Bool.{cases_Bool, and_parts, and_from, or_left}
+use Rattle.std.proofs.lemmas.Bool.{or_cases, or_right, cases_Bool, and_parts, and_from, or_left}
 use Rattle.vd_law.specs.Entries.{Entry}
 use Rattle.vd_law.specs.Histories.{Numbered}
 use Rattle.vd_format.specs.declared.header.Header.{Header}
 use Rattle.vd_table.specs.Tables.{Given}
 use Rattle.vd_crash.specs.Safe.{Opening}
-use Rattle.vd_crash.specs.Words.{sealed_memory}
+use Rattle.vd_crash.specs.Words.{Sealing, sealed_memory}
 use Rattle.vd_flushes.specs.Flushing.{IsLogged}
 use Rattle.vd_flushes.specs.Stage.{Flight, Idle as NoFlight, Answering, Progress}
 use Rattle.vd_primitives.specs.Core.{Resting, Working, Is_next}
@@ -22,16 +23,16 @@ use Rattle.vd_meta.specs.Keeping.{Keeping}
 use Rattle.vd_meta.specs.Entries.{either}
 use Rattle.vd_meta.specs.Flushes.{is_recycle}
 use Rattle.vd_meta.specs.Moves.{without, sealed, next_header}
-use Rattle.vd_meta.proofs.Rows.{get_or-without}
+use Rattle.vd_meta.proofs.Rows.{get_or-either, get_or-without}
 use Rattle.vd_passes.specs.declared.shape.Shape.{Shape}
 use Rattle.vd_passes.specs.declared.pass.Pass.{Pass}
 use Rattle.vd_passes.specs.declared.pass.Phase.TheVariants.{Flushing}
 use Rattle.vd_passes.specs.Passes.{call_of, after_flush}
 use Rattle.vd_metadata.specs.Flushing.{SealsFlush}
-use Rattle.vd_safety.specs.Mirrors.{bit_of, Mirrors, IsSecured}
+use Rattle.vd_safety.specs.Mirrors.{IsSnapshotOf, bit_of, Mirrors, IsSecured}
 use Rattle.vd_safety.proofs.Updates.{updated, is-updated}
 use Rattle.vd_safety.proofs.Flying.{is_bare, flights-set, idle-flight}
-use Rattle.vd_safety.proofs.Records.{IsMemoryOf, wanted-is, is-wanted, by-header}
+use Rattle.vd_safety.proofs.Records.{by-header}
 use Rattle.vd_safety.proofs.Marked.{chunk-inside}
 use Rattle.vd_safety.proofs.Heads.{next-generation}
 use Rattle.vd_safety.proofs.Putting.{same-chunks}
@@ -56,36 +57,60 @@ module _ (h : Header) (o : Opening) (shape : Shape) (table : Given) (fresh : Lis
   bare : is_bare p.phase ≡ true
   bare = ap is_bare flushes
 
-  abbrev stale : ℕ → Bool
-  stale b = bit_of (either k.stale k.snapshot) b
-
-  abbrev owed : ℕ → Bool
-  owed b = bit_of (without k.owed k.snapshot) b
+  -- what the flush leaves: no chunk was discarded
+  abbrev left : ℕ → Sealing
+  left reach = record {
+    table = s.memory.index.table;
+    stale = λ b. bit_of (either k.stale k.snapshot) b;
+    off_base = λ b. bit_of (either k.stale k.snapshot) b;
+    owed = λ b. bit_of (without k.owed k.snapshot) b;
+    lost = λ c. false;
+    reach = reach;
+  }
 
   idle : s.flights i ≡ NoFlight
   idle = idle-flight passes s.flights i p mirrors.flights there bare
 
+  no-drop : (j n c : ℕ) → IsDrop s.memory.discards.drops s.history j n c → ⊥
+  no-drop j n c drop = let none = mirrors.undiscarded.drops j in let is = drop.is in cc
+
   -- what is logged
-  logged : (pr : Progress) → ((b : ℕ) → pr.snapshot b ≡ bit_of k.snapshot b) → IsLogged s.memory pr.snapshot stale owed
+  logged : (pr : Progress) → IsSnapshotOf k.snapshot k.stale pr.snapshot → IsLogged o s.history s.memory pr.snapshot (left pr.snapshot.begun)
   logged pr snapshot_is =
-      let is : IsMemoryOf s.memory pr.snapshot table k = record { generation = mirrors.generation; table_is = mirrors.storage; stale = mirrors.stale; snapshot_is = snapshot_is } in
       record {
-        stale_is = λ b. (wanted-is o s.memory pr.snapshot table k is b, is-wanted o s.memory pr.snapshot table k is b);
+        stale_was = λ b on. elim (or_cases (bit_of k.stale b) (bit_of k.snapshot b) (sym (get_or-either k.stale k.snapshot b) ∙ on)) [
+          | inl old ↦ inl (mirrors.stale b ∙ old)
+          | inr new ↦ inr (snapshot_is.blocks b ∙ new, λ j n since drop. no-drop j n (o.layout.chunk_of b) drop)
+        ];
+        stale_still = λ b old. get_or-either k.stale k.snapshot b ∙ or_left (bit_of k.stale b) (bit_of k.snapshot b) (sym (mirrors.stale b) ∙ old);
+        snapped = λ b new. inl (get_or-either k.stale k.snapshot b ∙ or_right (bit_of k.stale b) (bit_of k.snapshot b) (sym (snapshot_is.blocks b) ∙ new));
+        off_is = λ b. (
+          λ on. elim (or_cases (bit_of k.stale b) (bit_of k.snapshot b) (sym (get_or-either k.stale k.snapshot b) ∙ on)) [ inl old ↦ inl (mirrors.off_base b ∙ old) | inr new ↦ inr (inl (snapshot_is.blocks b ∙ new)) ],
+          λ after. elim after [
+            | inl old ↦ get_or-either k.stale k.snapshot b ∙ or_left (bit_of k.stale b) (bit_of k.snapshot b) (sym (mirrors.off_base b) ∙ old)
+            | inr (inl new) ↦ get_or-either k.stale k.snapshot b ∙ or_right (bit_of k.stale b) (bit_of k.snapshot b) (sym (snapshot_is.blocks b) ∙ new)
+            | inr (inr lost) ↦ absurd (let none = snapshot_is.lost (o.layout.chunk_of b) in cc)
+          ],
+        );
+        lost_was = λ c lost. absurd cc;
+        lost_still = λ j n c since drop. absurd (no-drop j n c drop);
+        reach = refl;
+        table = λ c. inl refl;
         owed_was = λ b on. mirrors.owed b ∙ (and_parts (bit_of k.owed b) (not (bit_of k.snapshot b)) (sym (get_or-without k.owed k.snapshot b) ∙ on)).0;
         owed_still = λ b on. elim (cases_Bool (bit_of k.snapshot b)) [
-          | inl snap ↦ inr (snapshot_is b ∙ snap)
+          | inl snap ↦ inr (get_or-either k.stale k.snapshot b ∙ or_right (bit_of k.stale b) (bit_of k.snapshot b) snap)
           | inr off ↦ inl (get_or-without k.owed k.snapshot b ∙ and_from (bit_of k.owed b) (not (bit_of k.snapshot b)) (sym (mirrors.owed b) ∙ on) (ap not off))
         ];
       }
 
   -- the core after it
-  over : (generation tracked : ℕ) (sure : Bool) (tried : ℕ → Bool) (cursor a n : ℕ)
-      → KeepsCrashSafety o (state s.log s.history (sealed_memory s.memory generation tracked sure stale tried cursor owed) s.marked (updated s.flights i (Answering (call_of i p) a n)) Resting)
+  over : (generation tracked : ℕ) (sure : Bool) (tried : ℕ → Bool) (cursor a n reach : ℕ)
+      → KeepsCrashSafety o (state s.log s.history (sealed_memory s.memory generation tracked sure tried cursor (left reach)) s.marked (updated s.flights i (Answering (call_of i p) a n)) Resting)
       → generation ≡ (sealed k).header.generation → tracked ≡ (sealed k).header.tracked → sure ≡ (sealed k).sure → ((b : ℕ) → tried b ≡ false) → cursor ≡ (sealed k).next
       → IsSecured o table fresh (sealed k) None (slice_set passes i p') history log
-  over generation tracked sure tried cursor a n after generation_is tracked_is sure_is tried_is cursor_is =
+  over generation tracked sure tried cursor a n reach after generation_is tracked_is sure_is tried_is cursor_is =
       let new : ℕ → Flight = updated s.flights i (Answering (call_of i p) a n) in
-      let mine : Mirrors o table fresh (sealed k) None (slice_set passes i p') history log (state s.log s.history (sealed_memory s.memory generation tracked sure stale tried cursor owed) s.marked new Resting) = record {
+      let mine : Mirrors o table fresh (sealed k) None (slice_set passes i p') history log (state s.log s.history (sealed_memory s.memory generation tracked sure tried cursor (left reach)) s.marked new Resting) = record {
         log_is = mirrors.log_is;
         history_is = mirrors.history_is;
         many = mirrors.many;
@@ -94,6 +119,8 @@ module _ (h : Header) (o : Opening) (shape : Shape) (table : Given) (fresh : Lis
         sure = sure_is;
         storage = mirrors.storage;
         stale = λ b. refl;
+        off_base = λ b. refl;
+        undiscarded = record { drops = mirrors.undiscarded.drops; zeros = mirrors.undiscarded.zeros; lost = λ c. refl };
         tried = tried_is;
         same_tracked = λ t is. tracked-after k.way k.header t is;
         cursor = cursor_is;
@@ -116,19 +143,19 @@ module _ (h : Header) (o : Opening) (shape : Shape) (table : Given) (fresh : Lis
       let plain : is_recycle k.way ≡ false = now.0.recycled seals head in
       let header : (sealed k).header ≡ k.header = plain-header k.way k.header plain in
       let sure : m.index.sure ≡ true = mirrors.sure ∙ now.0.surely plain in
-      let behind : (b : ℕ) → pr.snapshot b ≡ true → (s.marked (o.layout.map_at (o.layout.chunk_of b)) ≡ true) ⊎ (pr.paged (o.layout.chunk_of b) ≡ true) =
+      let behind : (b : ℕ) → pr.snapshot.blocks b ≡ true → (s.marked (o.layout.map_at (o.layout.chunk_of b)) ≡ true) ⊎ (pr.paged (o.layout.chunk_of b) ≡ true) =
       λ b snap.
-      let on : bit_of k.snapshot b ≡ true = sym (w.4.snapshot b) ∙ snap in
+      let on : bit_of k.snapshot b ≡ true = sym (w.4.snapshot.blocks b) ∙ snap in
       let chunk : b / k.header.chunk ≡ o.layout.chunk_of b = by-header h o k around.header (λ x. b / k.header.chunk ≡ x.layout.chunk_of b) refl in
       let inside = chunk-inside k.header around.attended.keeping.valid k.snapshot around.attended.keeping.snapshot_size b on in
       let within : o.layout.chunk_of b < o.layout.chunks = (let e = same-chunks h o k around.header in omega (arith, e, inside, chunk)) in
       let marked : bit_of k.marked (o.layout.chunk_of b / 32) ≡ true = ap (λ (x : ℕ). bit_of k.marked (x / 32)) (sym chunk) ∙ now.0.behind (inl plain) b on in
       inl (mirrors.marked (o.layout.chunk_of b) within ∙ or_left (bit_of k.marked (o.layout.chunk_of b / 32)) (bit_of k.put (o.layout.chunk_of b / 32)) marked) in
       let after = primitive_keeps o (state s.log s.history m s.marked s.flights (Working (call_of i p) w.0 w.1 w.2 pr))
-      (state s.log s.history (sealed_memory m m.index.generation m.index.tracked m.index.sure stale m.index.tried m.index.cursor owed) s.marked (updated s.flights i (Answering (call_of i p) w.0 w.1)) Resting)
-      (Seals_records s.log s.history m s.marked s.flights (updated s.flights i (Answering (call_of i p) w.0 w.1)) i (call_of i p) w.0 w.1 w.2 pr stale owed idle (is-updated s.flights i (Answering (call_of i p) w.0 w.1))
-      (logged pr w.4.snapshot) sure (λ b snap. w.5 b (sym (w.4.snapshot b) ∙ snap)) behind) (keeps-at o s (Working (call_of i p) w.0 w.1 w.2 pr) w.6 was) in
-      over m.index.generation m.index.tracked m.index.sure m.index.tried m.index.cursor w.0 w.1 after (mirrors.generation ∙ ap (λ (x : Header). x.generation) (sym header)) (mirrors.tracked ∙ ap (λ (x : Header). x.tracked) (sym header))
+      (state s.log s.history (sealed_memory m m.index.generation m.index.tracked m.index.sure m.index.tried m.index.cursor (left pr.snapshot.begun)) s.marked (updated s.flights i (Answering (call_of i p) w.0 w.1)) Resting)
+      (Seals_records s.log s.history m s.marked s.flights (updated s.flights i (Answering (call_of i p) w.0 w.1)) i (call_of i p) w.0 w.1 w.2 pr (left pr.snapshot.begun) idle (is-updated s.flights i (Answering (call_of i p) w.0 w.1))
+      (logged pr w.4.snapshot) sure (λ b snap. w.5 b (sym (w.4.snapshot.blocks b) ∙ snap)) (λ b lost. absurd (let none_lost = w.4.snapshot.lost (o.layout.chunk_of b) in cc)) behind (λ c lost. absurd (let none_lost = w.4.snapshot.lost c in cc))) (keeps-at o s (Working (call_of i p) w.0 w.1 w.2 pr) w.6 was) in
+      over m.index.generation m.index.tracked m.index.sure m.index.tried m.index.cursor w.0 w.1 pr.snapshot.begun after (mirrors.generation ∙ ap (λ (x : Header). x.generation) (sym header)) (mirrors.tracked ∙ ap (λ (x : Header). x.tracked) (sym header))
       (mirrors.sure ∙ sym (kept-sure k.sure (is_recycle k.way) plain)) mirrors.tried (mirrors.cursor ∙ sym (kept-next k.next (is_recycle k.way) plain))
     where
       kept-sure : (x y : Bool) → y ≡ false → (x || y) ≡ x
@@ -148,10 +175,10 @@ module _ (h : Header) (o : Opening) (shape : Shape) (table : Given) (fresh : Lis
       let next : Header = next_header k.way k.header in
       let recycle : is_recycle k.way ≡ true = elim (cases_Bool (is_recycle k.way)) [ inl is ↦ is | inr not ↦ absurd (let e = now.0.headless not in cc) ] in
       let after = primitive_keeps o (state s.log s.history m s.marked s.flights (Is_next (call_of i p) w.0 w.1 w.2 pr w.3 w.6 next w.4))
-      (state s.log s.history (sealed_memory m (m.index.generation + 1) next.tracked true stale (λ b. false) 0 owed) s.marked (updated s.flights i (Answering (call_of i p) w.0 w.1)) Resting)
-      (Seals_recycle s.log s.history m s.marked s.marked s.flights (updated s.flights i (Answering (call_of i p) w.0 w.1)) i (call_of i p) w.0 w.1 w.2 w.3 w.4 pr w.6 next stale owed (λ b. false) idle
+      (state s.log s.history (sealed_memory m (m.index.generation + 1) next.tracked true (λ b. false) 0 (left pr.snapshot.begun)) s.marked (updated s.flights i (Answering (call_of i p) w.0 w.1)) Resting)
+      (Seals_recycle s.log s.history m s.marked s.marked s.flights (updated s.flights i (Answering (call_of i p) w.0 w.1)) i (call_of i p) w.0 w.1 w.2 w.3 w.4 pr w.6 next (left pr.snapshot.begun) (λ b. false) idle
       (is-updated s.flights i (Answering (call_of i p) w.0 w.1)) (logged pr w.7.snapshot) (λ b. refl)) (keeps-at o s (Is_next (call_of i p) w.0 w.1 w.2 pr w.3 w.6 next w.4) w.8 was) in
-      over (m.index.generation + 1) next.tracked true (λ b. false) 0 w.0 w.1 after (ap (λ (x : ℕ). x + 1) mirrors.generation ∙ sym (next-generation k.way k.header recycle)) refl
+      over (m.index.generation + 1) next.tracked true (λ b. false) 0 w.0 w.1 pr.snapshot.begun after (ap (λ (x : ℕ). x + 1) mirrors.generation ∙ sym (next-generation k.way k.header recycle)) refl
       (sym (now-sure k.sure (is_recycle k.way) recycle)) (λ b. refl) (sym (first-next k.next (is_recycle k.way) recycle))
     where
       now-sure : (x y : Bool) → y ≡ true → (x || y) ≡ true

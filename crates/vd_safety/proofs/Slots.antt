@@ -1,5 +1,5 @@
 -- The next record of a flush, as the laws of crash safety read it.
-use Rattle.std.proofs.Common.{◌≡◌, ◌⊎◌, inl, inr, ℕ, ◌+◌, ◌-◌, ◌/◌, ◌<◌, Bool, true, List, length, map, take, drop, get_or, Option, Some, None, sym, refl, ap, ◌∙◌, arith, subst, length-take, length-drop, get_or-drop, get_or-take}
+use Rattle.std.proofs.Common.{◌≡◌, ◌⊎◌, inl, inr, ℕ, ◌+◌, ◌-◌, ◌/◌, ◌<◌, true, List, length, map, take, drop, get_or, Option, Some, None, sym, refl, ap, ◌∙◌, arith, subst, length-take, length-drop, get_or-drop, get_or-take}
 use Rattle.std.specs.List.{slice_get, Contains}
 use Rattle.std.specs.Option.{option_map}
 use Rattle.std.proofs.Math.Nat.{div-le_self}
@@ -21,7 +21,7 @@ use Rattle.vd_image.specs.Decoders.{format_of, shape_of, fact_in, record_in, rec
 use Rattle.vd_image.proofs.Records.{record_is_facts}
 use Rattle.vd_crash.specs.Safe.{Opening}
 use Rattle.vd_crash.specs.Facts.{Memory, RecordNames}
-use Rattle.vd_flushes.specs.Flushing.{IsWantedMapping, IsWantedRecord}
+use Rattle.vd_flushes.specs.Flushing.{Snapshot, IsWantedMapping, IsWantedRecord}
 use Rattle.vd_meta.specs.Keeping.{Keeping}
 use Rattle.vd_meta.specs.Entries.{fact_of, HasStorage, wanted, next_chunks, next_facts, chunks_with}
 use Rattle.vd_meta.specs.Flushes.{IsKeeping}
@@ -60,7 +60,7 @@ spelled-record h sector facts valid are is =
     let same : facts_from sector.bytes 24 (count_in sector.bytes) ≡ facts = ap (λ (b : List ℕ). facts_from b 24 (count_in b)) is ∙ record-facts h.generation facts are.most (facts_fit (shape_of h) facts (shape-fits h valid) are) in
     rw (magic, generation, formed, same) refl
 
-module _ (o : Opening) (m : Memory) (snapshot : ℕ → Bool) (table : Given) (k : Keeping) (is : IsMemoryOf m snapshot table k) (kept : IsKeeping k) (has : HasStorage table k) where
+module _ (o : Opening) (m : Memory) (snapshot : Snapshot) (table : Given) (k : Keeping) (is : IsMemoryOf m snapshot table k) (kept : IsKeeping k) (has : HasStorage table k) where
   -- the record of the next facts
   abbrev item : Record
   item = record_in k.header (record { version = 2; generation = k.header.generation; well_formed = true; facts = next_facts table k })
@@ -108,7 +108,7 @@ module _ (o : Opening) (m : Memory) (snapshot : ℕ → Bool) (table : Given) (k
       }
 
 -- The next record of a flush is one that the laws want, and it names each chunk of its facts.
-module _ (h : Header) (o : Opening) (m : Memory) (snapshot : ℕ → Bool) (table : Given) (k : Keeping) (sector : Sector) (of : IsOfHeader h o k) (is : IsMemoryOf m snapshot table k) (kept : IsKeeping k) (has : HasStorage table k)
+module _ (h : Header) (o : Opening) (m : Memory) (snapshot : Snapshot) (table : Given) (k : Keeping) (sector : Sector) (of : IsOfHeader h o k) (is : IsMemoryOf m snapshot table k) (kept : IsKeeping k) (has : HasStorage table k)
     (due : k.logged < length (chunks_with k.header k.snapshot)) (bytes : sector.bytes ≡ record_bytes k.header.generation (next_facts table k)) where
   pub record-wanted : (r : Record) × (o.format.record_of sector ≡ Some r) × IsWantedRecord o m snapshot r
   record-wanted = by-header h o k of (λ p. (r : Record) × (p.format.record_of sector ≡ Some r) × IsWantedRecord p m snapshot r) (item o m snapshot table k is kept has, item-reads o m snapshot table k is kept has sector due bytes, item-wanted o m snapshot table k is kept has due)

@@ -169,5 +169,5 @@ disk_past image h base x v reads consistent has past = by_has has.has
     by_has (inr (none, at)) =
         at
         ∙ ap (λ (g : Header). unmapped base zero_sector g.tracked has.mapping x) same
-        ∙ ap (λ (z : Bool). if z then zero_sector else background base zero_sector h.tracked x) grammar.kind
+        ∙ ap (λ (z : Bool). if z then zero_sector else background base zero_sector h.tracked x) (grammar.kind refl)
         ∙ ap (λ (z : Bool). if z then base x else zero_sector) beyond

@@ -105,6 +105,8 @@ module _ (o : Opening) (table : Given) (fresh : List Bool) (k : Keeping) (flushe
     sure = sure_is;
     storage = was.storage;
     stale = λ b. was.stale b ∙ ap (λ (xs : List Bool). bit_of xs b) (sym same.stale);
+    off_base = λ b. was.off_base b ∙ ap (λ (xs : List Bool). bit_of xs b) (sym same.stale);
+    undiscarded = was.undiscarded;
     tried = was.tried;
     same_tracked = λ t is. tracked t is ∙ ap (λ (h : Header). h.tracked) (sym same.header);
     cursor = cursor_is;

@@ -1,8 +1,8 @@
 -- A flush of what was put has succeeded.
 use Rattle.std.proofs.Common.{◌≡◌, ◌⊎◌, inl, inr, ℕ, ◌-◌, ◌/◌, ◌<◌, Bool, true, false, List, [], ◌∷◌, ◌++◌, take, Some, None, slice_get, slice_set, sym, refl, ap, ◌∙◌, arith, subst}
-use Rattle.std.specs.Prelude.{◌||◌, ◌&&◌}
+use Rattle.std.specs.Prelude.{◌||◌}
 use Rattle.std.specs.List.{Contains}
-use Rattle.std.proofs.lemmas.Bool.{cases_Bool, and_parts, and_from, or_cases, or_left, or_right}
+use Rattle.std.proofs.lemmas.Bool.{cases_Bool, or_cases, or_left, or_right}
 use Rattle.std.proofs.lemmas.List.{take_all}
 use Rattle.vd_law.specs.Entries.{Entry, Reply}
 use Rattle.vd_law.specs.Histories.{Numbered}
@@ -13,7 +13,6 @@ use Rattle.vd_format.specs.Layouts.{chunks_of, map_start}
 use Rattle.vd_table.specs.Tables.{Given}
 use Rattle.vd_image.specs.Log.{Fine}
 use Rattle.vd_crash.specs.Safe.{Opening}
-use Rattle.vd_flushes.specs.Flushing.{IsWanted}
 use Rattle.vd_flushes.specs.Stage.{Progress}
 use Rattle.vd_primitives.specs.Core as core
 use Rattle.vd_primitives.specs.Core.{Working, Syncing, Syncs_next, Is_next}
@@ -77,7 +76,7 @@ module _ (h : Header) (o : Opening) (table : Given) (fresh : List Bool) (k : Kee
     progress = now.1.5
 
     abbrev slotted : ℕ → Bool
-    slotted b = pr.slotted b || (pr.recorded b && (s.memory.index.stale b || pr.snapshot b))
+    slotted b = pr.slotted b || pr.recorded b
 
     abbrev paged : ℕ → Bool
     paged c = pr.paged c || pr.written c
@@ -85,11 +84,8 @@ module _ (h : Header) (o : Opening) (table : Given) (fresh : List Bool) (k : Kee
     abbrev marked : ℕ → Bool
     marked a = bit_of k.marked (a - map_start k.header)
 
-    slots : (b : ℕ) → slotted b ≡ true → (pr.slotted b ≡ true) ⊎ ((pr.recorded b ≡ true) × IsWanted s.memory pr.snapshot b)
-    slots b is = elim (or_cases (pr.slotted b) (pr.recorded b && (s.memory.index.stale b || pr.snapshot b)) is) [
-      | inl old ↦ inl old
-      | inr new ↦ (let two = and_parts (pr.recorded b) (s.memory.index.stale b || pr.snapshot b) new in inr (two.0, or_cases (s.memory.index.stale b) (pr.snapshot b) two.1))
-    ]
+    slots : (b : ℕ) → slotted b ≡ true → (pr.slotted b ≡ true) ⊎ (pr.recorded b ≡ true)
+    slots b is = or_cases (pr.slotted b) (pr.recorded b) is
 
     pages : (c : ℕ) → paged c ≡ true → (pr.paged c ≡ true) ⊎ (pr.written c ≡ true)
     pages c is = or_cases (pr.paged c) (pr.written c) is
@@ -137,8 +133,7 @@ module _ (h : Header) (o : Opening) (table : Given) (fresh : List Bool) (k : Kee
         let all : take k.logged (chunks_with k.header k.snapshot) ≡ chunks_with k.header k.snapshot = take_all k.logged (chunks_with k.header k.snapshot) (now.0.all_logged syncs records) in
         let found : Contains (take k.logged (chunks_with k.header k.snapshot)) (b / k.header.chunk) = subst (λ (xs : List ℕ). Contains xs (b / k.header.chunk)) (sym all) (chunk-among k.header kept.valid k.snapshot kept.snapshot_size b snap) in
         let recorded : pr.recorded b ≡ true = elim (progress.recorded records b snap found) [ inl is ↦ is | inr nowhere ↦ absurd nowhere ] in
-        or_right (pr.slotted b) (pr.recorded b && (s.memory.index.stale b || pr.snapshot b))
-        (and_from (pr.recorded b) (s.memory.index.stale b || pr.snapshot b) recorded (or_right (s.memory.index.stale b) (pr.snapshot b) (progress.snapshot b ∙ snap)))
+        or_right (pr.slotted b) (pr.recorded b) recorded
 
     abbrev stage : core.Stage
     stage = Working (call_of i p) now.1.0 now.1.1 now.1.2 after

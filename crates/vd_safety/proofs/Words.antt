@@ -52,21 +52,21 @@ rising_from (e ∷ entries) (n ∷ numbers) from many since never = (
   rising_from entries numbers n (omega (arith, many)) (λ j m f at. never 0 (suc j) n m e f (omega arith) refl at) (λ i j l m f g less at also. never (suc i) (suc j) l m f g (omega (arith, less)) at also),
 )
 
-kept_numbers : (o : Opening) (s : State) → KeepsCrashSafety o s → AreNumbers o.opened s.log s.history
+kept_numbers : (o : Opening) (s : State) → KeepsCrashSafety o s → AreNumbers o.opened s.log s.memory.discards.drops s.history
 unfolding KeepsCrashSafety
 kept_numbers o s kept = kept.core.holds.facts.numbers
 
 pub secured-rising : (o : Opening) (table : Given) (fresh : List Bool) (k : Keeping) (flusher : Option ℕ) (passes : List Pass) (history : Numbered) (log : List Entry) → IsSecured o table fresh k flusher passes history log → IsRising o.opened history.numbers
 secured-rising o table fresh k flusher passes history log secured =
-    let numbers : AreNumbers o.opened secured.state.log (numbered history.log.entries history.numbers) = subst (λ (h : List NumberedEntry). AreNumbers o.opened secured.state.log h) secured.mirrors.history_is (kept_numbers o secured.state secured.keeps) in
+    let numbers : AreNumbers o.opened secured.state.log secured.state.memory.discards.drops (numbered history.log.entries history.numbers) = subst (λ (h : List NumberedEntry). AreNumbers o.opened secured.state.log secured.state.memory.discards.drops h) secured.mirrors.history_is (kept_numbers o secured.state secured.keeps) in
     rising_from history.log.entries history.numbers o.opened secured.mirrors.many numbers.since_opening numbers.never_fall
 
 -- no number is above the log's length
 pub secured-numbers : (o : Opening) (table : Given) (fresh : List Bool) (k : Keeping) (flusher : Option ℕ) (passes : List Pass) (history : Numbered) (log : List Entry) → IsSecured o table fresh k flusher passes history log
     → (j n : ℕ) (e : Entry) → StandsAs (numbered history.log.entries history.numbers) j n e → n ≤ length log
 secured-numbers o table fresh k flusher passes history log secured =
-    let numbers : AreNumbers o.opened log (numbered history.log.entries history.numbers) = subst (λ (l : List Entry). AreNumbers o.opened l (numbered history.log.entries history.numbers)) secured.mirrors.log_is
-    (subst (λ (h : List NumberedEntry). AreNumbers o.opened secured.state.log h) secured.mirrors.history_is (kept_numbers o secured.state secured.keeps)) in
+    let numbers : AreNumbers o.opened log secured.state.memory.discards.drops (numbered history.log.entries history.numbers) = subst (λ (l : List Entry). AreNumbers o.opened l secured.state.memory.discards.drops (numbered history.log.entries history.numbers)) secured.mirrors.log_is
+    (subst (λ (h : List NumberedEntry). AreNumbers o.opened secured.state.log secured.state.memory.discards.drops h) secured.mirrors.history_is (kept_numbers o secured.state secured.keeps)) in
     numbers.none_above
 
 -- ---- safety

@@ -1,5 +1,5 @@
 -- What a store is given for a piece of a guest's write, as the laws of crash safety want it.
-use Rattle.std.proofs.Common.{◌≡◌, ℕ, zero, suc, ◌+◌, ◌-◌, ◌*◌, ◌%◌, ◌<◌, ◌≤◌, ◌⊎◌, List, [], ◌∷◌, ◌++◌, length, take, drop, refl, ◌∙◌, ap, inl, inr, arith, Some, slice_get, length-drop, length-append}
+use Rattle.std.proofs.Common.{sym, Bool, false, ◌≡◌, ℕ, zero, suc, ◌+◌, ◌-◌, ◌*◌, ◌%◌, ◌<◌, ◌≤◌, ◌⊎◌, List, [], ◌∷◌, ◌++◌, length, take, drop, refl, ◌∙◌, ap, inl, inr, arith, Some, slice_get, length-drop, length-append}
 use Rattle.std.proofs.lemmas.List.{length-take-le}
 use Rattle.std.proofs.lemmas.Option.{slice_get_within, slice_get_cases}
 use Rattle.vd_law.specs.declared.entry.Sector.{Sector}
@@ -10,6 +10,8 @@ use Rattle.vd_format.specs.Layouts.{storage_start}
 use Rattle.vd_image.specs.Layouts.{layout_of}
 use Rattle.vd_crash.specs.Safe.{Opening}
 use Rattle.vd_crash.specs.Words.{IsSameWrite, IsWholeWrite}
+use Rattle.vd_crash.specs.Facts.{Discards}
+use Rattle.std.specs.Prelude.{if◌then◌else◌}
 use Rattle.vd_passes.specs.Laying.{laid}
 use Rattle.vd_passes.specs.Places.{IsIn}
 use Rattle.vd_safety.proofs.Places.{in-block, of-block, place-is}
@@ -93,9 +95,9 @@ module _ (h : Header) (o : Opening) (is : o.layout ≡ layout_of h) (some : 0 < 
   }
 
   -- or with what the rest of its block held
-  pub whole-write : (k : ℕ) (stored : List Sector) → first ≡ h.block * b + k → length stored ≡ h.block
-      → ((n : ℕ) (v : Sector) → slice_get stored n ≡ Some v → Comes k part (λ m u. u ≡ o.disk (h.block * b + m)) n v) → IsWholeWrite o (Issue id first part) (Issue ticket at stored) b p
-  whole-write k stored begins long comes = record {
+  pub whole-write : (d : Discards) (k : ℕ) (stored : List Sector) → ((c : ℕ) → d.zeros c ≡ false) → first ≡ h.block * b + k → length stored ≡ h.block
+      → ((n : ℕ) (v : Sector) → slice_get stored n ≡ Some v → Comes k part (λ m u. u ≡ o.disk (h.block * b + m)) n v) → IsWholeWrite o d (Issue id first part) (Issue ticket at stored) b p
+  whole-write d k stored base begins long comes = record {
     guest_block = λ s v covers. of-block h o.layout is b s some (rw covers.1 (in-piece covers.0 v covers.2));
     whole = λ s in_b.
         let inside = in-block h o.layout is b s some in_b in
@@ -107,7 +109,7 @@ module _ (h : Header) (o : Opening) (is : o.layout ≡ layout_of h) (some : 0 < 
           elim (comes (s - h.block * b) has.0 has.1) [
             | inl own ↦ inl (s - h.block * b - k, (let f = own.0 in omega arith), own.1)
             | inr other ↦ inr (
-              (let f : h.block * b + (s - h.block * b) ≡ s = omega arith in other.1 ∙ ap o.disk f),
+              (let f : h.block * b + (s - h.block * b) ≡ s = omega arith in other.1 ∙ ap o.disk f ∙ sym (ap (λ (z : Bool). if z then o.zeros else o.disk s) (base (o.layout.chunk_of (o.layout.block_of s))))),
               λ u covers. let w = slice_get_within part covers.0 u covers.2 in let f = covers.1 in elim other.0 [ inl before ↦ absurd (omega arith) | inr past ↦ absurd (omega arith) ],
             )
           ],

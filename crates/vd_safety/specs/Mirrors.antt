@@ -17,7 +17,8 @@ use Rattle.vd_image.specs.Layouts.{layout_of}
 use Rattle.vd_image.specs.Decoders.{format_of, mask_has}
 use Rattle.vd_image.specs.CrashImages.{sectors_or, base_at}
 use Rattle.vd_crash.specs.Safe.{Opening, numbered}
-use Rattle.vd_crash.specs.Facts.{RecordNames}
+use Rattle.vd_crash.specs.Facts.{Discards, RecordNames}
+use Rattle.vd_flushes.specs.Flushing.{Snapshot}
 use Rattle.vd_flushes.specs.Stage.{Flight, Idle as NoFlight, Writing, Answering, Progress}
 use Rattle.vd_primitives.specs.Core.{Stage, Resting, Sending, Working, Putting, Syncing, Puts_next, Has_next, Syncs_next, Is_next}
 use Rattle.vd_primitives.specs.Primitives.{State}
@@ -89,10 +90,23 @@ abbrev pub IsPendingOf : (fresh : List Bool) (passes : List Pass) (b : ℕ) → 
 IsPendingOf fresh passes b pending = (pending ≡ None)
     ⊎ ((i : ℕ) × (p : Pass) × (slice_get passes i ≡ Some p) × (p.phase ≡ Issuing) × (p.block ≡ b) × (bit_of fresh b ≡ false))
 
+-- No chunk is discarded, and none was when the image was opened.
+pub record IsUndiscarded (d : Discards) : Type 0 where
+  pub drops : (j : ℕ) → d.drops j ≡ None
+  pub zeros : (c : ℕ) → d.zeros c ≡ false
+  pub lost : (c : ℕ) → d.lost c ≡ false
+
+-- what a flush took when it began: these blocks, with the stale ones
+pub record IsSnapshotOf (snapshot stale : List Bool) (p : Snapshot) : Type 0 where
+  pub blocks : (b : ℕ) → p.blocks b ≡ bit_of snapshot b
+  pub wanted : (b : ℕ) → p.wanted b ≡ (bit_of stale b || bit_of snapshot b)
+  pub zeros : (c : ℕ) → p.zeros c ≡ false
+  pub lost : (c : ℕ) → p.lost c ≡ false
+
 -- How far the flush under way is, by the keeper: each chunk that it has logged stands in a record that is done, or in the one in flight;
 -- and each chunk's sector of the map is right already, or was put, or is in flight, or is still to be put.
 pub record IsProgressOf (k : Keeping) (pr : Progress) (InRecord InPage : ℕ → Type 0) : Type 0 where
-  pub snapshot : (b : ℕ) → pr.snapshot b ≡ bit_of k.snapshot b
+  pub snapshot : IsSnapshotOf k.snapshot k.stale pr.snapshot
   pub recorded : k.way ≡ ways.Records → (b : ℕ) → bit_of k.snapshot b ≡ true → Contains (take k.logged (chunks_with k.header k.snapshot)) (b / k.header.chunk) → (pr.recorded b ≡ true) ⊎ InRecord b
   pub paged : is_recycle k.way ≡ true → (c : ℕ) → c < (layout_of k.header).chunks
       → (pr.paged c ≡ true) ⊎ ((pr.written c ≡ true) × (bit_of k.put (c / 32) ≡ true)) ⊎ InPage c ⊎ (bit_of k.marked (c / 32) ≡ true)
@@ -115,7 +129,7 @@ InPageOf o sector c = sector ≡ o.layout.map_at c
 
 -- The stage of the flush of this call, by the keeper's stage and by what the pass has in flight.
 abbrev pub IsStageBy : stages.Stage → (head : Bool) → Option Ticket → (o : Opening) → (k : Keeping) → CallId → Stage → Type 0
-IsStageBy stage.DataFlush head (Some t) o k call s = (a : ℕ) × (n : ℕ) × (q : ℕ) × (snapshot : ℕ → Bool) × ((b : ℕ) → snapshot b ≡ bit_of k.snapshot b) × (s ≡ Sending call a n q snapshot (ticket_id t))
+IsStageBy stage.DataFlush head (Some t) o k call s = (a : ℕ) × (n : ℕ) × (q : ℕ) × (snapshot : Snapshot) × IsSnapshotOf k.snapshot k.stale snapshot × (s ≡ Sending call a n q snapshot (ticket_id t))
 IsStageBy stage.Puts head None o k call s = (a : ℕ) × (n : ℕ) × (q : ℕ) × (pr : Progress) × IsProgressOf k pr Nowhere Nowhere × (s ≡ Working call a n q pr)
 IsStageBy stage.Puts false (Some t) o k call s = (a : ℕ) × (n : ℕ) × (q : ℕ) × (pr : Progress) × (sector : ℕ) × (at : ℕ) × (v : Sector)
     × IsProgressOf k pr (InRecordOf o k pr.first sector v) (InPageOf o sector) × (s ≡ Putting call a n q pr sector at v (ticket_id t))
@@ -155,6 +169,8 @@ pub record Mirrors (o : Opening) (table : Given) (fresh : List Bool) (k : Keepin
   pub sure : s.memory.index.sure ≡ k.sure
   pub storage : (c : ℕ) → s.memory.index.table c ≡ storage_of table c
   pub stale : (b : ℕ) → s.memory.index.stale b ≡ bit_of k.stale b
+  pub off_base : (b : ℕ) → s.memory.index.off_base b ≡ bit_of k.stale b
+  pub undiscarded : IsUndiscarded s.memory.discards
   -- no header lowers the tracked part
   pub tried : (b : ℕ) → s.memory.index.tried b ≡ false
   pub same_tracked : (t : ℕ) → k.way ≡ ways.Recycle t → t ≡ k.header.tracked

@@ -74,7 +74,7 @@ like_disk h image base s valid version like within =
       maps = maps;
       has = inr (
         (λ p local. gives_none h image h.generation chunk p like (good.0, maps, local.0)),
-        ap (λ (b : Bool). if b then zero_sector else background base zero_sector h.tracked s) (sym good.2.kind),
+        ap (λ (b : Bool). if b then zero_sector else background base zero_sector h.tracked s) (sym (good.2.kind refl)),
       );
     }
 
