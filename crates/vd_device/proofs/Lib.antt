@@ -1,3 +1,4 @@
 pub mod Flights
+pub mod Keeping
 pub mod Logs
 pub mod Stopping

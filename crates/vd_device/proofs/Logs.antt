@@ -9,7 +9,7 @@ use Rattle.vd_law.specs.declared.entry.CallId.{CallId}
 use Rattle.vd_law.specs.Entries.{Entry, Ask, Read as Asks_read, Flush as Asks_flush, Issue, Done, Broke, Seen, Reply, past}
 use Rattle.vd_law.specs.Contents.{open_writes, opened, sector_in, written}
 use Rattle.vd_law.proofs.Appending.{after-push}
-use Rattle.vd_law.specs.declared.entry.Answer.TheVariants.{StoreFault}
+use Rattle.vd_law.specs.declared.entry.Answer.TheVariants.{Ok as Fine, StoreFault}
 use Rattle.vd_device.specs.declared.ticket.Ticket.{Ticket}
 use Rattle.vd_device.specs.declared.ticket.Kind.TheVariants.{Read, Write, Flush}
 use Rattle.vd_device.specs.Tickets.{IsTicket}
@@ -90,6 +90,9 @@ flush_is ticket number n = cc
 
 pub unflushed_is : (ticket : Ticket) (number : ℕ) → number ≡ ticket.number → ticket.kind ≡ Flush → failed_entry ticket.kind ticket ≡ Reply (call_number number) (StoreFault number 0)
 unflushed_is ticket number n k = rw k cc
+
+pub flushed_is : (ticket : Ticket) (number : ℕ) (out : List Sector) → number ≡ ticket.number → ticket.kind ≡ Flush → done_entry ticket.kind ticket out ≡ Reply (call_number number) Fine
+flushed_is ticket number out n k = rw k cc
 
 pub records_as : (a b x y : Entry) (e0 e1 e2 : ℕ) (old mid new : Disk) → x ≡ a → y ≡ b → Records (x ∷ []) e0 e1 old mid → Records (y ∷ []) e1 e2 mid new → RecordsSome (a ∷ b ∷ []) e0 e2 old new
 records_as a b x y e0 e1 e2 old mid new p q r s =

@@ -1,17 +1,18 @@
--- A store that has stopped, in a call or before it, stands as it stood.
-use Rattle.std.proofs.Common.{ℕ, ◌≡◌, ◌⊎◌, inl, inr, List, ◌++◌, arith}
+-- What one call's events say of the log: it has gone on, and a store that had stopped stands as it stood.
+use Rattle.std.proofs.Common.{ℕ, inl, inr, List, [], ◌∙◌, sym, arith}
+use Rattle.std.proofs.lemmas.List.{append-nil}
 use Rattle.vd_law.specs.Entries.{Entry}
-use Rattle.vd_device.specs.Disks.{Disk, IsRunning, HasStopped, TellsOrStopped, TellsOrStood, Records}
+use Rattle.vd_device.specs.Disks.{Disk, HasStopped, HasStood, Records}
+use Rattle.vd_device.specs.Frames.{GoesOn}
 
--- after one call
-pub stood-after : (more : List Entry) (before after : ℕ) (old new : Disk) (tells : Type 0) → Records more before after old new → TellsOrStopped tells after new → TellsOrStood tells after old new
-stood-after more before after old new tells records (inl told) = inl told
-stood-after more before after old new tells records (inr stopped) = inr (record {
-  stopped = stopped;
-  start = records.start;
-  log = same records.goes_on;
-})
-  where
-    same : (IsRunning before old × IsRunning after new × (new.log ≡ old.log ++ more)) ⊎ (HasStopped after new × (new.log ≡ old.log)) → new.log ≡ old.log
-    same (inl runs) = absurd (omega (arith, runs.1, stopped))
-    same (inr stands) = stands.1
+pub recorded-goes-on : (es : List Entry) (before after : ℕ) (old new : Disk) → Records es before after old new → GoesOn old new
+recorded-goes-on es before after old new r = elim r.goes_on [
+  | inl runs ↦ record { start = r.start; more = es; log = runs.2 }
+  | inr stands ↦ record { start = r.start; more = []; log = stands.1 ∙ sym (append-nil old.log) }
+]
+
+pub recorded-stood : (es : List Entry) (before after : ℕ) (old new : Disk) → Records es before after old new → HasStopped before old → HasStood after old new
+recorded-stood es before after old new r stopped = elim r.goes_on [
+  | inl runs ↦ absurd (omega (arith, runs.0, stopped))
+  | inr stands ↦ record { stopped = stands.0; start = r.start; log = stands.1 }
+]

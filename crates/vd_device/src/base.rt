@@ -5,7 +5,8 @@ ghost use Rattle.vd_law.specs.declared.entry.Sector.{Sector as AnySector};
 ghost use Rattle.vd_device.specs.declared.ticket.Ticket.{Ticket as AnyTicket};
 ghost use Rattle.vd_device.specs.declared.ticket.Kind.TheVariants.{Read};
 ghost use Rattle.vd_device.specs.Tickets.{IsRange, IsFree, IsInFlight, Puts, IsTicket, reads};
-ghost use Rattle.vd_device.specs.Calls.{IsCalm, Settles, Gives, IsCaused, next_number, settled_of};
+ghost use Rattle.vd_device.specs.Frames.{ContentStands, CountsStand, IsNext};
+ghost use Rattle.vd_device.specs.Calls.{Gives, Settles, IsCaused, settled_of};
 
 use crate::settled::{Settled, Waited};
 use crate::ticket::Ticket;
@@ -60,14 +61,10 @@ pub trait Base {
         requires range { IsRange (sectors self.old) first count }
         requires free { IsFree (flies self.old) (depth self.old) first count }
         ensures ticket { IsTicket result Read first count }
-        ensures number { result.number ≡ next_number (last self.old) }
-        ensures last { last self.new ≡ result.number }
+        ensures next { IsNext last result self.old self.new }
         ensures flight { Puts result (flies self.old) (flies self.new) }
-        ensures calm { IsCalm (faults self.old) (faults self.new) (late self.old) (late self.new) }
-        ensures sectors { sectors self.new ≡ sectors self.old }
-        ensures depth { depth self.new ≡ depth self.old }
-        ensures told_before { tells self.new → tells self.old }
-        ensures content { tells self.new → content self.new ≡ content self.old };
+        ensures counts { CountsStand sectors depth faults late self.old self.new }
+        ensures telling { ContentStands tells content self.old self.new };
 
     /// Asks once how the ticket went on. `out` has as many sectors as the ticket reads; it is left as it was where the
     /// answer isn't Done. Failed and NotYet come only where their count rose or stands at the greatest u64.
@@ -75,24 +72,20 @@ pub trait Base {
         requires mine { IsInFlight (flies self.old) ticket }
         requires room { length out.old ≡ reads ticket }
         ensures settles { Settles result ticket out.old out.new (flies self.old) (flies self.new) }
-        ensures cause { IsCaused result (faults self.old) (faults self.new) (late self.old) (late self.new) }
+        ensures cause { IsCaused faults late result self.old self.new }
         ensures last { last self.new ≡ last self.old }
-        ensures sectors { sectors self.new ≡ sectors self.old }
-        ensures depth { depth self.new ≡ depth self.old }
-        ensures told_before { tells self.new → tells self.old }
-        ensures content { tells self.new → content self.new ≡ content self.old }
-        ensures told { tells self.new → Gives result ticket out.new (content self.new) };
+        ensures counts { CountsStand sectors depth faults late self.old self.new }
+        ensures telling { ContentStands tells content self.old self.new }
+        ensures gives { tells self.new → Gives result ticket out.new (content self.new) };
 
     /// Waits for the ticket's end. It always returns. Else as `settle`.
     fn wait(&mut self, ticket: Ticket, out: &mut [Sector]) -> Waited
         requires mine { IsInFlight (flies self.old) ticket }
         requires room { length out.old ≡ reads ticket }
         ensures settles { Settles (settled_of result) ticket out.old out.new (flies self.old) (flies self.new) }
-        ensures cause { IsCaused (settled_of result) (faults self.old) (faults self.new) (late self.old) (late self.new) }
+        ensures cause { IsCaused faults late (settled_of result) self.old self.new }
         ensures last { last self.new ≡ last self.old }
-        ensures sectors { sectors self.new ≡ sectors self.old }
-        ensures depth { depth self.new ≡ depth self.old }
-        ensures told_before { tells self.new → tells self.old }
-        ensures content { tells self.new → content self.new ≡ content self.old }
-        ensures told { tells self.new → Gives (settled_of result) ticket out.new (content self.new) };
+        ensures counts { CountsStand sectors depth faults late self.old self.new }
+        ensures telling { ContentStands tells content self.old self.new }
+        ensures gives { tells self.new → Gives (settled_of result) ticket out.new (content self.new) };
 }

@@ -4,9 +4,10 @@ ghost use Rattle.std.specs.Prelude.{◌≡◌, ◌+◌, ◌-◌, ◌*◌, ◌^�
 ghost use Rattle.vd_device.specs.declared.ticket.Ticket.{Ticket as AnyTicket};
 ghost use Rattle.vd_device.specs.declared.ticket.Kind.TheVariants.{Read, Write, Flush};
 ghost use Rattle.vd_device.specs.Tickets.{IsRange, HasPlace, IsFree, IsInFlight, Puts, IsTicket, reads};
-ghost use Rattle.vd_device.specs.Disks.{Disk, Adds, AreWrites, IsHonest, IsRunning, Records, TellsOrStopped};
+ghost use Rattle.vd_device.specs.Disks.{Disk, AreWrites, HasStopped, IsHonest, IsRunning, TellsOrStopped};
+ghost use Rattle.vd_device.specs.Frames.{CountsStand, IsNext, TakesEvents};
 ghost use Rattle.vd_device.specs.Orders.{IsInOrder};
-ghost use Rattle.vd_device.specs.Calls.{IsCalm, Settles, Tells, IsCaused, next_number, asked_read, asked_flush, issued, settled_of, settle_entries};
+ghost use Rattle.vd_device.specs.Calls.{Gives, Settles, IsCaused, IsUndone, asked_read, asked_flush, issued, settled_of, settle_entries};
 
 use crate::settled::{Settled, Waited};
 use crate::ticket::Ticket;
@@ -85,88 +86,58 @@ pub trait Store {
         requires range { IsRange (sectors self.old) first (length content.now) }
         requires free { IsFree (flies self.old) (depth self.old) first (length content.now) }
         ensures ticket { IsTicket result Write first (length content.now) }
-        ensures number { result.number ≡ next_number (last self.old) }
-        ensures last { last self.new ≡ result.number }
+        ensures next { IsNext last result self.old self.new }
+        ensures rises { tells self.new → last self.old < result.number }
         ensures flight { Puts result (flies self.old) (flies self.new) }
-        ensures calm { IsCalm (faults self.old) (faults self.new) (late self.old) (late self.new) }
-        ensures events { events self.old ≤ events self.new }
-        ensures sectors { sectors self.new ≡ sectors self.old }
-        ensures depth { depth self.new ≡ depth self.old }
-        ensures told_before { tells self.new → tells self.old }
-        ensures told { tells self.new → Adds (issued result content.now) (disk self.old) (disk self.new) }
-        ensures new_number { tells self.new → last self.old < result.number }
-        ensures recorded_before { records self.new → records self.old }
-        ensures recorded { records self.new → Records (issued result content.now ∷ []) (events self.old) (events self.new) (disk self.old) (disk self.new) }
-        ensures stopped { records self.new → TellsOrStopped (tells self.new) (events self.new) (disk self.new) };
+        ensures counts { CountsStand sectors depth faults late self.old self.new }
+        ensures takes { TakesEvents tells records disk events (issued result content.now ∷ []) self.old self.new };
 
     /// Submits a read of `count` sectors from `first` on.
     fn submit_read(&mut self, first: u64, count: u64) -> Ticket
         requires range { IsRange (sectors self.old) first count }
         requires free { IsFree (flies self.old) (depth self.old) first count }
         ensures ticket { IsTicket result Read first count }
-        ensures number { result.number ≡ next_number (last self.old) }
-        ensures last { last self.new ≡ result.number }
+        ensures next { IsNext last result self.old self.new }
+        ensures rises { tells self.new → last self.old < result.number }
         ensures flight { Puts result (flies self.old) (flies self.new) }
-        ensures calm { IsCalm (faults self.old) (faults self.new) (late self.old) (late self.new) }
-        ensures events { events self.old ≤ events self.new }
-        ensures sectors { sectors self.new ≡ sectors self.old }
-        ensures depth { depth self.new ≡ depth self.old }
-        ensures told_before { tells self.new → tells self.old }
-        ensures told { tells self.new → Adds (asked_read result) (disk self.old) (disk self.new) }
-        ensures new_number { tells self.new → last self.old < result.number }
-        ensures recorded_before { records self.new → records self.old }
-        ensures recorded { records self.new → Records (asked_read result ∷ []) (events self.old) (events self.new) (disk self.old) (disk self.new) }
-        ensures stopped { records self.new → TellsOrStopped (tells self.new) (events self.new) (disk self.new) };
+        ensures counts { CountsStand sectors depth faults late self.old self.new }
+        ensures takes { TakesEvents tells records disk events (asked_read result ∷ []) self.old self.new };
 
     /// Submits a flush: once it is done, each write that was done before this call is durable.
     fn submit_flush(&mut self) -> Ticket
         requires place { HasPlace (flies self.old) (depth self.old) }
         ensures kind { result.kind ≡ Flush }
-        ensures number { result.number ≡ next_number (last self.old) }
-        ensures last { last self.new ≡ result.number }
+        ensures next { IsNext last result self.old self.new }
+        ensures rises { tells self.new → last self.old < result.number }
         ensures flight { Puts result (flies self.old) (flies self.new) }
-        ensures calm { IsCalm (faults self.old) (faults self.new) (late self.old) (late self.new) }
-        ensures events { events self.old ≤ events self.new }
-        ensures sectors { sectors self.new ≡ sectors self.old }
-        ensures depth { depth self.new ≡ depth self.old }
-        ensures told_before { tells self.new → tells self.old }
-        ensures told { tells self.new → Adds (asked_flush result) (disk self.old) (disk self.new) }
-        ensures new_number { tells self.new → last self.old < result.number }
-        ensures recorded_before { records self.new → records self.old }
-        ensures recorded { records self.new → Records (asked_flush result ∷ []) (events self.old) (events self.new) (disk self.old) (disk self.new) }
-        ensures stopped { records self.new → TellsOrStopped (tells self.new) (events self.new) (disk self.new) };
+        ensures counts { CountsStand sectors depth faults late self.old self.new }
+        ensures takes { TakesEvents tells records disk events (asked_flush result ∷ []) self.old self.new };
 
     /// Asks once how the ticket went on. `out` has as many sectors as the ticket reads, else none; it is left as it was
     /// where the answer isn't Done. Failed comes only where the count of faults rose, NotYet only where that of late
-    /// settles did, or where these stand at the greatest u64.
+    /// settles did, or where these stand at the greatest u64. A store that has stopped never answers Done.
     fn settle(&mut self, ticket: Ticket, out: &mut [Sector]) -> Settled
         requires mine { IsInFlight (flies self.old) ticket }
         requires room { length out.old ≡ reads ticket }
         ensures settles { Settles result ticket out.old out.new (flies self.old) (flies self.new) }
-        ensures cause { IsCaused result (faults self.old) (faults self.new) (late self.old) (late self.new) }
+        ensures cause { IsCaused faults late result self.old self.new }
         ensures last { last self.new ≡ last self.old }
-        ensures events { events self.old ≤ events self.new }
-        ensures sectors { sectors self.new ≡ sectors self.old }
-        ensures depth { depth self.new ≡ depth self.old }
-        ensures told_before { tells self.new → tells self.old }
-        ensures told { tells self.new → Tells result ticket out.new (disk self.old) (disk self.new) }
-        ensures recorded_before { records self.new → records self.old }
-        ensures recorded { records self.new → Records (settle_entries result ticket out.new) (events self.old) (events self.new) (disk self.old) (disk self.new) }
-        ensures stopped { records self.new → TellsOrStopped (tells self.new) (events self.new) (disk self.new) };
+        ensures counts { CountsStand sectors depth faults late self.old self.new }
+        ensures takes { TakesEvents tells records disk events (settle_entries result ticket out.new) self.old self.new }
+        ensures gives { tells self.new → Gives result ticket out.new (disk self.new).held }
+        // a store that has stopped answers no call Done
+        ensures undone { records self.new → HasStopped (events self.new) (disk self.new) → IsUndone result };
 
     /// Waits for the ticket's end. It always returns. Else as `settle`.
     fn wait(&mut self, ticket: Ticket, out: &mut [Sector]) -> Waited
         requires mine { IsInFlight (flies self.old) ticket }
         requires room { length out.old ≡ reads ticket }
         ensures settles { Settles (settled_of result) ticket out.old out.new (flies self.old) (flies self.new) }
-        ensures cause { IsCaused (settled_of result) (faults self.old) (faults self.new) (late self.old) (late self.new) }
+        ensures cause { IsCaused faults late (settled_of result) self.old self.new }
         ensures last { last self.new ≡ last self.old }
-        ensures events { events self.old ≤ events self.new }
-        ensures sectors { sectors self.new ≡ sectors self.old }
-        ensures depth { depth self.new ≡ depth self.old }
-        ensures told_before { tells self.new → tells self.old }
-        ensures told { tells self.new → Tells (settled_of result) ticket out.new (disk self.old) (disk self.new) }
-        ensures recorded_before { records self.new → records self.old }
-        ensures recorded { records self.new → Records (settle_entries (settled_of result) ticket out.new) (events self.old) (events self.new) (disk self.old) (disk self.new) }
-        ensures stopped { records self.new → TellsOrStopped (tells self.new) (events self.new) (disk self.new) };
+        ensures counts { CountsStand sectors depth faults late self.old self.new }
+        ensures takes { TakesEvents tells records disk events (settle_entries (settled_of result) ticket out.new) self.old self.new }
+        ensures gives { tells self.new → Gives (settled_of result) ticket out.new (disk self.new).held }
+        // a store that has stopped answers no call Done
+        ensures undone { records self.new → HasStopped (events self.new) (disk self.new) → IsUndone (settled_of result) };
 }

@@ -1,33 +1,40 @@
-use Rattle.std.proofs.Common.{◌∙◌}
+use Rattle.std.proofs.Common.{◌∙◌, sym, arith}
 use Rattle.vd_device.proofs.Flights.{put_flies, put_taken}
+use Rattle.vd_device.proofs.Keeping.{keeps-on}
 use Rattle.vd_device.proofs.Logs.{issued_is, written_is, broke_is, records_as, writes_as}
 use Rattle.vd_device.proofs.now.write_now.Goals as goal
 
 pub wait-requires-clause-mine : goal.wait-requires-clause-mine
 wait-requires-clause-mine g c = put_flies _ _ _ _ c.requires.free.1 c.submit_write-ticket.ensures.flight
 
-pub returns-in-Done-clause-flight : goal.returns-in-Done-clause-flight
-returns-in-Done-clause-flight g c = put_taken _ _ _ _ c.submit_write-ticket.ensures.flight c.in-Done.ensures.settles
-
-pub returns-in-Failed-clause-flight : goal.returns-in-Failed-clause-flight
-returns-in-Failed-clause-flight g c = put_taken _ _ _ _ c.submit_write-ticket.ensures.flight c.in-Failed.ensures.settles.2
+pub returns-in-Done-clause-calls : goal.returns-in-Done-clause-calls
+returns-in-Done-clause-calls g c =
+    let t = c.submit_write-ticket.ensures in let w = c.in-Done.ensures in let number = w.last ∙ t.next.last in record {
+      number = number ∙ t.next.number;
+      fault = tt;
+      cause = tt;
+      flight = put_taken _ _ _ _ t.flight w.settles;
+      keeps = keeps-on _ _ _ _ (record { counts = t.counts; telling = t.takes.keeps }) (record { counts = w.counts; telling = w.takes.keeps });
+      recorded = λ r. records_as _ _ _ _ _ _ _ _ _ _ (issued_is _ _ _ _ _ number t.ticket) (written_is _ _ _ _ _ number t.ticket) (t.takes.recorded (w.takes.keeps.recorded_before r)) (w.takes.recorded r);
+    }
 
 pub returns-in-Done-clause-told : goal.returns-in-Done-clause-told
 returns-in-Done-clause-told g c told =
-    writes_as _ _ _ _ _ _ _ _ _ (issued_is _ _ _ _ _ (c.in-Done.ensures.last ∙ c.submit_write-ticket.ensures.last) c.submit_write-ticket.ensures.ticket) (written_is _ _ _ _ _ (c.in-Done.ensures.last ∙ c.submit_write-ticket.ensures.last) c.submit_write-ticket.ensures.ticket)
-    (c.submit_write-ticket.ensures.told (c.in-Done.ensures.told_before told)) (c.in-Done.ensures.told told).grows
+    let t = c.submit_write-ticket.ensures in let w = c.in-Done.ensures in let number = w.last ∙ t.next.last in
+    writes_as _ _ _ _ _ _ _ _ _ (issued_is _ _ _ _ _ number t.ticket) (written_is _ _ _ _ _ number t.ticket) (t.takes.told (w.takes.keeps.told_before told)) (w.takes.told told)
 
-pub returns-in-Done-clause-recorded : goal.returns-in-Done-clause-recorded
-returns-in-Done-clause-recorded g c recorded =
-    records_as _ _ _ _ _ _ _ _ _ _ (issued_is _ _ _ _ _ (c.in-Done.ensures.last ∙ c.submit_write-ticket.ensures.last) c.submit_write-ticket.ensures.ticket) (written_is _ _ _ _ _ (c.in-Done.ensures.last ∙ c.submit_write-ticket.ensures.last) c.submit_write-ticket.ensures.ticket)
-    (c.submit_write-ticket.ensures.recorded (c.in-Done.ensures.recorded_before recorded)) (c.in-Done.ensures.recorded recorded)
+pub returns-in-Failed-clause-calls : goal.returns-in-Failed-clause-calls
+returns-in-Failed-clause-calls g c =
+    let t = c.submit_write-ticket.ensures in let w = c.in-Failed.ensures in let number = w.last ∙ t.next.last in record {
+      number = number ∙ t.next.number;
+      fault = w.settles.0 ∙ sym (w.last ∙ t.next.last);
+      cause = (let r = w.cause in let p = t.counts.faults in omega arith);
+      flight = put_taken _ _ _ _ t.flight w.settles.2;
+      keeps = keeps-on _ _ _ _ (record { counts = t.counts; telling = t.takes.keeps }) (record { counts = w.counts; telling = w.takes.keeps });
+      recorded = λ r. records_as _ _ _ _ _ _ _ _ _ _ (issued_is _ _ _ _ _ number t.ticket) (broke_is _ _ _ _ number t.ticket) (t.takes.recorded (w.takes.keeps.recorded_before r)) (w.takes.recorded r);
+    }
 
 pub returns-in-Failed-clause-told : goal.returns-in-Failed-clause-told
 returns-in-Failed-clause-told g c told =
-    writes_as _ _ _ _ _ _ _ _ _ (issued_is _ _ _ _ _ (c.in-Failed.ensures.last ∙ c.submit_write-ticket.ensures.last) c.submit_write-ticket.ensures.ticket) (broke_is _ _ _ _ (c.in-Failed.ensures.last ∙ c.submit_write-ticket.ensures.last) c.submit_write-ticket.ensures.ticket)
-    (c.submit_write-ticket.ensures.told (c.in-Failed.ensures.told_before told)) (c.in-Failed.ensures.told told).grows
-
-pub returns-in-Failed-clause-recorded : goal.returns-in-Failed-clause-recorded
-returns-in-Failed-clause-recorded g c recorded =
-    records_as _ _ _ _ _ _ _ _ _ _ (issued_is _ _ _ _ _ (c.in-Failed.ensures.last ∙ c.submit_write-ticket.ensures.last) c.submit_write-ticket.ensures.ticket) (broke_is _ _ _ _ (c.in-Failed.ensures.last ∙ c.submit_write-ticket.ensures.last) c.submit_write-ticket.ensures.ticket)
-    (c.submit_write-ticket.ensures.recorded (c.in-Failed.ensures.recorded_before recorded)) (c.in-Failed.ensures.recorded recorded)
+    let t = c.submit_write-ticket.ensures in let w = c.in-Failed.ensures in let number = w.last ∙ t.next.last in
+    writes_as _ _ _ _ _ _ _ _ _ (issued_is _ _ _ _ _ number t.ticket) (broke_is _ _ _ _ number t.ticket) (t.takes.told (w.takes.keeps.told_before told)) (w.takes.told told)

@@ -1,0 +1,37 @@
+-- What a call leaves of a base, which is one value before and one after.
+use Rattle.std.specs.Prelude.{ℕ, ◌≡◌, List, ⊤, Result, IfErr, OnErr}
+use Rattle.vd_law.specs.declared.entry.Sector.{Sector}
+use Rattle.vd_device.specs.declared.base.Base as base
+use Rattle.vd_device.specs.declared.ticket.Ticket.{Ticket}
+use Rattle.vd_device.specs.declared.settled.Settled.{Settled}
+use Rattle.vd_device.specs.Tickets.{Keeps, Puts}
+use Rattle.vd_device.specs.Calls.{Gives, IsCaused, Rose, Settles, next_number}
+use Rattle.vd_device.specs.Frames.{CountsStand, ContentStands, IsNext}
+
+module _ {B : Type 0} (h : base.Ghosts B) where
+  -- What any run of calls leaves of a base.
+  pub record KeepsBase (b b' : B) : Type 0 where
+    pub counts : CountsStand h.sectors h.depth h.faults h.late b b'
+    pub telling : ContentStands h.tells h.content b b'
+
+  -- a read was submitted
+  pub record SubmitsToBase (ticket : Ticket) (b b' : B) : Type 0 where
+    pub next : IsNext h.last ticket b b'
+    pub flight : Puts ticket (h.flies b) (h.flies b')
+    pub keeps : KeepsBase b b'
+
+  -- a read was settled
+  pub record SettlesInBase (answer : Settled) (ticket : Ticket) (out out' : List Sector) (b b' : B) : Type 0 where
+    pub settles : Settles answer ticket out out' (h.flies b) (h.flies b')
+    pub cause : IsCaused h.faults h.late answer b b'
+    pub last : h.last b' ≡ h.last b
+    pub keeps : KeepsBase b b'
+    pub gives : h.tells b' → Gives answer ticket out' (h.content b')
+
+  -- A read was submitted and waited for: one ticket was taken.
+  pub record CallsBase (result : Result ⊤ ℕ) (b b' : B) : Type 0 where
+    pub number : h.last b' ≡ next_number (h.last b)
+    pub fault : IfErr result (λ (n : ℕ). n ≡ h.last b')
+    pub cause : OnErr result (Rose (h.faults b) (h.faults b'))
+    pub flight : Keeps (h.flies b) (h.flies b')
+    pub keeps : KeepsBase b b'
