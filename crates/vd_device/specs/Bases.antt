@@ -23,7 +23,7 @@ module _ {B : Type 0} (h : base.Ghosts B) where
   -- a read was settled
   pub record SettlesInBase (answer : Settled) (ticket : Ticket) (out out' : List Sector) (b b' : B) : Type 0 where
     pub settles : Settles answer ticket out out' (h.flies b) (h.flies b')
-    pub cause : IsCaused h.faults h.late answer b b'
+    pub cause : IsCaused answer (h.faults b) (h.faults b') (h.late b) (h.late b')
     pub last : h.last b' ≡ h.last b
     pub keeps : KeepsBase b b'
     pub gives : h.tells b' → Gives answer ticket out' (h.content b')

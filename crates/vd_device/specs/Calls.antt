@@ -12,6 +12,7 @@ use Rattle.vd_device.specs.declared.settled.Settled.TheVariants.{Done, NotYet, F
 use Rattle.vd_device.specs.declared.settled.Waited.{Waited}
 use Rattle.vd_device.specs.declared.settled.Waited.TheVariants as waited
 use Rattle.vd_device.specs.Tickets.{ticket_id, Takes, Keeps}
+use Rattle.vd_device.specs.Disks.{Disk, GrowsBy}
 
 -- the number of the next ticket: they rise from 1, and the greatest u64 is given again
 abbrev pub next_number : ℕ → ℕ
@@ -54,11 +55,15 @@ Settles Done ticket out out' old new = Takes ticket old new
 Settles (NotYet same) ticket out out' old new = (same ≡ ticket) × (out' ≡ out) × Keeps old new
 Settles (Failed number) ticket out out' old new = (number ≡ ticket.number) × (out' ≡ out) × Takes ticket old new
 
+-- no count of failed or late calls falls
+abbrev pub IsCalm : (faults faults' late late' : ℕ) → Type 0
+IsCalm faults faults' late late' = (faults ≤ faults') × (late ≤ late')
+
 -- A failure and a delay have their cause: the count of them rose in this call, or stands at its last value.
-abbrev pub IsCaused : {S : Type 0} (faults_of late_of : S → ℕ) → Settled → S → S → Type 0
-IsCaused faults_of late_of Done s s' = Unit {0}
-IsCaused faults_of late_of (NotYet same) s s' = Rose (late_of s) (late_of s')
-IsCaused faults_of late_of (Failed number) s s' = Rose (faults_of s) (faults_of s')
+abbrev pub IsCaused : Settled → (faults faults' late late' : ℕ) → Type 0
+IsCaused Done faults faults' late late' = IsCalm faults faults' late late'
+IsCaused (NotYet same) faults faults' late late' = IsCalm faults faults' late late' × Rose late late'
+IsCaused (Failed number) faults faults' late late' = IsCalm faults faults' late late' × Rose faults faults'
 
 -- the call isn't done
 abbrev pub IsUndone : Settled → Type 0
@@ -81,3 +86,8 @@ abbrev pub Gives : Settled → Ticket → (out held : List Sector) → Type 0
 Gives Done ticket out held = ticket.kind ≡ Read → IsHeld ticket.first out held
 Gives (NotYet same) ticket out held = Unit {0}
 Gives (Failed number) ticket out held = Unit {0}
+
+-- what a settle of a store that tells its contents did
+pub record Tells (answer : Settled) (ticket : Ticket) (out : List Sector) (old new : Disk) : Type 0 where
+  pub grows : GrowsBy (settle_entries answer ticket out) old new
+  pub gives : Gives answer ticket out new.held

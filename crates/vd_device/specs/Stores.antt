@@ -41,7 +41,7 @@ module _ {S : Type 0} (g : store.Ghosts S) where
   -- A call was settled. A store that has stopped answers no call Done.
   pub record SettlesCall (answer : Settled) (ticket : Ticket) (out out' : List Sector) (s s' : S) : Type 0 where
     pub settles : Settles answer ticket out out' (g.flies s) (g.flies s')
-    pub cause : IsCaused g.faults g.late answer s s'
+    pub cause : IsCaused answer (g.faults s) (g.faults s') (g.late s) (g.late s')
     pub last : g.last s' ≡ g.last s
     pub counts : StoreCountsStand s s'
     pub takes : StoreTakes (settle_entries answer ticket out') s s'

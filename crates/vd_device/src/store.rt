@@ -120,7 +120,7 @@ pub trait Store {
         requires mine { IsInFlight (flies self.old) ticket }
         requires room { length out.old ≡ reads ticket }
         ensures settles { Settles result ticket out.old out.new (flies self.old) (flies self.new) }
-        ensures cause { IsCaused faults late result self.old self.new }
+        ensures cause { IsCaused result (faults self.old) (faults self.new) (late self.old) (late self.new) }
         ensures last { last self.new ≡ last self.old }
         ensures counts { CountsStand sectors depth faults late self.old self.new }
         ensures takes { TakesEvents tells records disk events (settle_entries result ticket out.new) self.old self.new }
@@ -133,7 +133,7 @@ pub trait Store {
         requires mine { IsInFlight (flies self.old) ticket }
         requires room { length out.old ≡ reads ticket }
         ensures settles { Settles (settled_of result) ticket out.old out.new (flies self.old) (flies self.new) }
-        ensures cause { IsCaused faults late (settled_of result) self.old self.new }
+        ensures cause { IsCaused (settled_of result) (faults self.old) (faults self.new) (late self.old) (late self.new) }
         ensures last { last self.new ≡ last self.old }
         ensures counts { CountsStand sectors depth faults late self.old self.new }
         ensures takes { TakesEvents tells records disk events (settle_entries (settled_of result) ticket out.new) self.old self.new }

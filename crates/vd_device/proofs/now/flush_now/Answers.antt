@@ -23,7 +23,7 @@ returns-in-Failed-clause-calls g c =
     let t = c.submit_flush-ticket.ensures in let w = c.in-Failed.ensures in let number = w.last ∙ t.next.last in record {
       number = number ∙ t.next.number;
       fault = w.settles.0 ∙ sym (w.last ∙ t.next.last);
-      cause = (let r = w.cause in let p = t.counts.faults in omega arith);
+      cause = (let r = w.cause.1 in let p = t.counts.faults in omega arith);
       flight = put_taken _ _ _ _ t.flight w.settles.2;
       keeps = keeps-on _ _ _ _ (record { counts = t.counts; telling = t.takes.keeps }) (record { counts = w.counts; telling = w.takes.keeps });
       recorded = λ r. records_as _ _ _ _ _ _ _ _ _ _ (flush_is c.submit_flush-ticket.result _ number) (unflushed_is c.submit_flush-ticket.result _ number t.kind) (t.takes.recorded (w.takes.keeps.recorded_before r)) (w.takes.recorded r);

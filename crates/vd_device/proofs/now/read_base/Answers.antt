@@ -21,7 +21,7 @@ returns-in-Failed-clause-calls g c =
     let t = c.submit_read-ticket.ensures in let w = c.in-Failed.ensures in record {
       number = w.last ∙ t.next.last ∙ t.next.number;
       fault = w.settles.0 ∙ sym (w.last ∙ t.next.last);
-      cause = (let r = w.cause in let p = t.counts.faults in omega arith);
+      cause = (let r = w.cause.1 in let p = t.counts.faults in omega arith);
       flight = put_taken _ _ _ _ t.flight w.settles.2;
       keeps = base-keeps-on _ _ _ _ (record { counts = t.counts; telling = t.telling }) (record { counts = w.counts; telling = w.telling });
     }
