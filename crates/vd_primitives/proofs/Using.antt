@@ -29,9 +29,9 @@ pub kept_zeros : (o : Opening) (s : State) (t : ℕ) → KeepsCrashSafety o s �
     → IsLastDrop s.memory.discards.drops s.history (o.layout.chunk_of (o.layout.block_of t)) ⊎ (NoDropFrom s.memory.discards.drops s.history 0 (o.layout.chunk_of (o.layout.block_of t)) × (o.disk t ≡ o.zeros))
 unfolding KeepsCrashSafety
 kept_zeros o s t kept not_fresh zeros = elim (kept.core.holds.facts.zeros.from (o.layout.chunk_of (o.layout.block_of t)) zeros) [
-    | inl dropped ↦ inl dropped
-    | inr never ↦ inr (never.0, never.1 t refl (is_false (s.memory.index.stale (o.layout.block_of t)) not_stale))
-  ]
+  | inl dropped ↦ inl dropped
+  | inr never ↦ inr (never.0, never.1 t refl (is_false (s.memory.index.stale (o.layout.block_of t)) not_stale))
+]
   where
     not_stale : s.memory.index.stale (o.layout.block_of t) ≡ true → ⊥
     not_stale stale = let fresh = (kept.core.holds.blocks.stale_settled (o.layout.block_of t) stale).0 in cc
@@ -40,12 +40,12 @@ kept_zeros o s t kept not_fresh zeros = elim (kept.core.holds.facts.zeros.from (
 pub kept_unwritten : (o : Opening) (s : State) (b j : ℕ) → KeepsCrashSafety o s → s.memory.fresh b ≡ false → IsWrittenBefore o s.memory.discards.drops s.history (length s.history) b j → IsDroppedAfter s.memory.discards.drops s.history j (o.layout.chunk_of b)
 unfolding KeepsCrashSafety
 kept_unwritten o s b j kept not_fresh written = elim (kept.core.holds.blocks.unlogged_untouched b j written) [
-    | inr dropped ↦ dropped
-    | inl known ↦ absurd (elim known [
-        | inl stale ↦ (let fresh = (kept.core.holds.blocks.stale_settled b stale).0 in cc)
-        | inr owed ↦ (let fresh = kept.core.holds.blocks.owed_local b owed in cc)
-      ])
-  ]
+  | inr dropped ↦ dropped
+  | inl known ↦ absurd (elim known [
+    | inl stale ↦ (let fresh = (kept.core.holds.blocks.stale_settled b stale).0 in cc)
+    | inr owed ↦ (let fresh = kept.core.holds.blocks.owed_local b owed in cc)
+  ])
+]
 
 -- a local block exists, and its chunk has storage
 pub kept_local : (o : Opening) (s : State) (b : ℕ) → KeepsCrashSafety o s → s.memory.fresh b ≡ true → (b < o.layout.blocks) × ((p : ℕ) × (s.memory.index.table (o.layout.chunk_of b) ≡ Some p))
