@@ -1,10 +1,10 @@
 -- What is remembered of contents when sectors are put behind the others, and copies of one sector.
-use Rattle.std.proofs.Common.{◌≡◌, ℕ, ◌+◌, ◌-◌, ◌<◌, ◌≤◌, List, [], ◌∷◌, ◌++◌, length, take, drop, refl, ap, sym, ◌∙◌, subst, arith, length-append, length-set}
-use Rattle.std.specs.Prelude.{replicate, slice_index_or, slice_set}
+use Rattle.std.proofs.Common.{◌≡◌, ℕ, ◌+◌, ◌-◌, ◌<◌, ◌≤◌, List, [], ◌∷◌, ◌++◌, length, take, drop, refl, ap, sym, ◌∙◌, subst, arith, length-append}
+use Rattle.std.specs.Prelude.{replicate, slice_index_or}
 use Rattle.std.proofs.lemmas.List.{get_or-drop, get_or-take, get_or-replicate, take-take, take-replicate, length-replicate}
 use Rattle.std.proofs.Math.Seq.{drop-append_seam}
 use Rattle.std.specs.List.{All}
-use Rattle.std.proofs.lemmas.List.Elements.{All-head, All-tail, All-weaker, All-replicate, All-set}
+use Rattle.std.proofs.lemmas.List.Elements.{All-head, All-tail, All-weaker, All-replicate}
 use Rattle.vd_law.specs.declared.entry.Sector.{Sector}
 use Rattle.vd_law.specs.declared.sharing.Stretch.{Stretch}
 use Rattle.vd_law.specs.declared.sharing.Shared.{Shared}

@@ -1,8 +1,7 @@
-use Rattle.std.proofs.Common.{◌≡◌, List, length, sym, ◌∙◌, ap, subst, arith, length-append, length-set}
+use Rattle.std.proofs.Common.{List, sym, ◌∙◌, ap, subst, arith, length-set}
 use Rattle.std.specs.Prelude.{replicate}
 use Rattle.std.proofs.lemmas.List.Elements.{All-set, All-get_or}
 use Rattle.vd_law.specs.declared.entry.Sector.{Sector}
-use Rattle.vd_law.specs.declared.sharing.Stretch.{Stretch}
 use Rattle.vd_law.specs.StoredEntries.{content_at, IsRun, IsShared}
 use Rattle.vd_law.proofs.Copies.{shared-append, kept-run, kept-copies}
 use Rattle.vd_law.proofs.sharing.share_copies.Goals as goal
