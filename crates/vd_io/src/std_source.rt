@@ -1,13 +1,19 @@
 //! A source over a reader of std.
 
-ghost use Rattle.std.specs.Prelude.{◌≡◌, ◌≤◌, length, IfOk};
+ghost use Rattle.std.specs.Prelude.{◌≡◌, ◌≤◌, IfOk, OnErr, drop, length};
+ghost use Rattle.std.specs.Io.KnownBytes.{ReadConsumes};
+ghost use Rattle.vd_io.specs.Streams.{Reads, Rose};
+ghost use Rattle.vd_io.specs.Told.{AlwaysKnown, Counts, IsKnown, bytes_of};
 
 use crate::Failed;
 use crate::source::Source;
 use std::io::{ErrorKind, Read};
 use std::marker::Model;
 
-/// A source over a reader, of whose bytes nothing is told. It counts the reads that failed.
+/// The most bytes that one read asks the reader for.
+const PIECE: usize = 8192;
+
+/// A source over a reader. It tells its bytes where every reader of this type does, and counts the reads that failed.
 #[derive(Drop)]
 pub struct StdSource<R> {
     inner: R,
@@ -15,16 +21,17 @@ pub struct StdSource<R> {
 }
 
 impl<R> Model for StdSource<R> {
-    ghost use Rattle.std.specs.Prelude.{ℕ};
+    ghost use Rattle.vd_io.specs.Told.{Over};
 
-    ghost Value = { ℕ };
+    ghost Value = { Over R };
 
-    ghost view = { λ s. s.faults };
+    ghost view = { λ s. record { inner = s.inner; faults = s.faults } };
 }
 
-/// Reads once, and again where a signal interrupted the read.
+/// Reads once, and again where a signal interrupted the read, which then took nothing.
 fn read_through<R: Read>(inner: &mut R, room: &mut [u8]) -> Result<usize, Failed>
-    ensures { IfOk result (λ n. n ≤ length room.new) }
+    ensures within { IfOk result (λ n. n ≤ length room.new) }
+    ensures bytes { ReadConsumes (R.remaining inner.old) (R.remaining inner.new) result room.new }
 {
     for _ in 0..u64::MAX {
         match inner.read(room) {
@@ -39,28 +46,48 @@ fn read_through<R: Read>(inner: &mut R, room: &mut [u8]) -> Result<usize, Failed
     Err(Failed)
 }
 
+/// Puts bytes of the reader at the front of the room. A reader may write to all that it is lent, so it is lent a
+/// piece of its own.
+fn read_piece<R: Read>(inner: &mut R, room: &mut [u8]) -> Result<usize, Failed>
+    ensures within { IfOk result (λ n. n ≤ length room.new) }
+    ensures bytes { ReadConsumes (R.remaining inner.old) (R.remaining inner.new) result room.new }
+    ensures others { IfOk result (λ n. drop n room.new ≡ drop n room.old) }
+    ensures failed { OnErr result (room.new ≡ room.old) }
+{
+    let mut piece = [0; PIECE];
+    let most = room.len().min(PIECE);
+    let count = read_through(inner, &mut piece[..most])?;
+    room[..count].copy_from_slice(&piece[..count]);
+    Ok(count)
+}
+
 impl<R> StdSource<R> {
     /// A source over this reader.
     pub fn new(inner: R) -> StdSource<R>
-        ensures { result ≡ 0 }
+        ensures { result ≡ record { inner = inner; faults = 0 } }
     {
         StdSource { inner, faults: 0 }
     }
 }
 
 impl<R: Read> Source for StdSource<R> {
-    ghost use Rattle.std.specs.Prelude.{[]};
+    ghost tells = { λ _. AlwaysKnown R.remaining };
 
-    ghost tells = { λ s. ⊥ };
+    ghost rest = { bytes_of R.remaining };
 
-    ghost rest = { λ s. [] };
+    ghost faults = { λ s. s.faults };
 
-    ghost faults = { λ s. s };
-
-    fn read(&mut self, room: &mut [u8]) -> Result<usize, Failed> {
-        match read_through(&mut self.inner, room) {
+    fn read(&mut self, room: &mut [u8]) -> Result<usize, Failed>
+        ensures within { IfOk result (λ n. n ≤ length room.new) }
+        ensures known { IsKnown R.remaining self.old → IsKnown R.remaining self.new }
+        ensures bytes { IsKnown R.remaining self.old → Reads result (bytes_of R.remaining self.old) (bytes_of R.remaining self.new) room.old room.new }
+        ensures calm { self.old.faults ≤ self.new.faults }
+        ensures cause { OnErr result (Rose self.old.faults self.new.faults) }
+        ensures counts { Counts result self.old.faults self.new.faults }
+    {
+        match read_piece(&mut self.inner, room) {
             Ok(count) => Ok(count),
-            Err(_) => {
+            Err(Failed) => {
                 self.faults = self.faults.saturating_add(1);
                 Err(Failed)
             }

@@ -107,3 +107,79 @@ fn std_reads_and_writes(rt: HostRuntime) -> Result<(), Fail> {
     assert_eq!(rt; narrow.bytes.as_slice(), b"abcde".as_slice());
     Ok(())
 }
+
+/// A reader and writer that keeps what it is given until it is flushed, and whose flush may fail.
+#[derive(Drop)]
+struct Late {
+    bytes: Vec<u8>,
+    flushed: usize,
+    fails: bool,
+}
+
+impl Read for Late {
+    fn read(&mut self, buf: &mut [u8]) -> io::Result<usize> {
+        let count = buf.len().min(2);
+        for (at, byte) in buf[..count].iter_mut().enumerate() {
+            *byte = if at == 0 { b'y' } else { b'z' };
+        }
+        Ok(count)
+    }
+}
+
+impl Write for Late {
+    fn write(&mut self, buf: &[u8]) -> io::Result<usize> {
+        self.bytes.extend_from_slice(buf)?;
+        Ok(buf.len())
+    }
+
+    fn flush(&mut self) -> io::Result<()> {
+        if self.fails {
+            return Err(Error::from(ErrorKind::StorageFull));
+        }
+        self.flushed = self.bytes.len();
+        Ok(())
+    }
+}
+
+#[test]
+fn flushes_and_bytes(rt: HostRuntime) -> Result<(), Fail> {
+    let alloc = rt.alloc();
+    let mut late = Late {
+        bytes: Vec::new(alloc),
+        flushed: 0,
+        fails: false,
+    };
+    let long = [b'x'; 1025];
+    let mut sink = StdSink::new(&mut late);
+    assert_eq!(rt; sink.write(&long), Ok(()));
+    assert_eq!(rt; sink.flush(), Ok(()));
+    assert_eq!(rt; (late.bytes.len(), late.flushed), (1025, 1025));
+    late.fails = true;
+    let mut sink = StdSink::new(&mut late);
+    assert_eq!(rt; sink.flush(), Err(Failed));
+    assert_eq!(rt; sink.faults(), 1);
+    let mut source = StdSource::new(&mut late);
+    let mut room = [0; 3];
+    assert_eq!(rt; source.read(&mut room), Ok(2));
+    assert_eq!(rt; room, [b'y', b'z', 0]);
+    Ok(())
+}
+
+#[test]
+fn slices_end_and_fill_up(rt: HostRuntime) -> Result<(), Fail> {
+    let long = [b'l'; 8193];
+    let mut source = StdSource::new(long.as_slice());
+    let mut room = [0; 8200];
+    assert_eq!(rt; source.read(&mut room), Ok(8192));
+    assert_eq!(rt; &room[8190..8194], [b'l', b'l', 0, 0].as_slice());
+    assert_eq!(rt; source.read(&mut room), Ok(1));
+    assert_eq!(rt; source.read(&mut room), Ok(0));
+    assert_eq!(rt; source.faults(), 0);
+    let mut full = [0; 2];
+    let mut sink = StdSink::new(full.as_mut_slice());
+    assert_eq!(rt; sink.write(b"abc"), Err(Failed));
+    assert_eq!(rt; sink.write(b""), Ok(()));
+    assert_eq!(rt; sink.faults(), 1);
+    assert_eq!(rt; full, [b'a', b'b']);
+    Ok(())
+}

@@ -5,7 +5,7 @@ use Rattle.vd_bits.proofs.SetLaws.{set_there}
 use Rattle.vd_device.specs.declared.ticket.Ticket.{Ticket}
 use Rattle.vd_device.specs.declared.ticket.Kind.TheVariants.{Write, Flush}
 use Rattle.vd_device.specs.declared.settled.Settled.TheVariants as settled
-use Rattle.vd_device.specs.Disks.{Disk}
+use Rattle.vd_device.specs.declared.store.Store as store
 use Rattle.vd_format.specs.Layouts.{blocks_of, chunks_of, storage_start}
 use Rattle.vd_format.specs.declared.header.Header.{Header}
 use Rattle.vd_table.specs.Tables.{Given}
@@ -30,7 +30,7 @@ use Rattle.vd_passes.specs.declared.pass.Phase.TheVariants.{Asked, Flushing}
 use Rattle.vd_passes.specs.declared.pass.Fault.TheVariants as fault
 use Rattle.vd_passes.specs.Passes.{after_meta, after_fault, after_flush}
 use Rattle.vd_passes.specs.Steps.{EndsFlush}
-use Rattle.vd_metadata.specs.Flushing.{BeginsFlush, IsWornOut, PutsNext, SyncsPuts, SettlesMeta, SealsFlush}
+use Rattle.vd_metadata.specs.Flushing.{meta_state, BeginsFlush, IsWornOut, PutsNext, SyncsPuts, SettlesMeta, SealsFlush}
 use Rattle.vd_metadata.specs.Attending.{IsAtStage, IsAttended}
 use Rattle.vd_metadata.proofs.Members.{same-member}
 use Rattle.vd_metadata.proofs.Due.{begun-due}
@@ -100,8 +100,8 @@ unfolding way_of
 way-tracked (routes.Recycle t) k u tracked e = let same : u ≡ t = cc in same ∙ tracked t refl
 way-tracked routes.Owed k u tracked e = chosen-tracked (not k.sure || nat_lt (k.header.slots - k.next) (records_for (length (chunks_with k.header k.owed)))) (none_of k.owed) k.header.tracked u e
 
-pub begin-attended : {route : Route} {shape : Shape} {table : Given} {fresh : List Bool} {i : ℕ} {k k' : Keeping} {passes passes' : List Pass} {flies flies' : List Ticket → Type 0} {tells tells' : Type 0} {disk disk' : Disk} {last last' : ℕ}
-    → IsAttended shape table fresh passes None k → ((t : ℕ) → route ≡ routes.Recycle t → t ≡ k.header.tracked) → BeginsFlush route shape i k k' passes passes' flies flies' tells tells' disk disk' last last' → IsAttended shape table fresh passes' (Some i) k'
+pub begin-attended : {route : Route} {shape : Shape} {table : Given} {fresh : List Bool} {i : ℕ} {k k' : Keeping} {passes passes' : List Pass} {S : Type 0} {g : store.Ghosts S} {s s' : S}
+    → IsAttended shape table fresh passes None k → ((t : ℕ) → route ≡ routes.Recycle t → t ≡ k.header.tracked) → BeginsFlush g route shape i (meta_state k passes) (meta_state k' passes') s s' → IsAttended shape table fresh passes' (Some i) k'
 begin-attended {route} {shape} {table} {fresh} {i} {k} {k'} {passes} {passes'} a tracked b =
     let put = (a.keeping.at_rest (a.resting refl)).1 in
     let kept = begun-kept route k a.keeping (λ t e. let same = tracked t e in omega (arith, same)) b.not_worn put in
@@ -123,8 +123,8 @@ worn-attended {route} {shape} {table} {fresh} {i} {k} {passes} {passes'} {flushe
 
 -- ---- a call is submitted
 
-pub put-attended : {shape : Shape} {table : Given} {fresh : List Bool} {i : ℕ} {k k' : Keeping} {passes passes' : List Pass} {flusher : Option ℕ} {flies flies' : List Ticket → Type 0} {tells tells' : Type 0} {disk disk' : Disk} {last last' : ℕ}
-    → IsAttended shape table fresh passes flusher k → k.stage ≡ Puts → PutsNext table shape i k k' passes passes' flies flies' tells tells' disk disk' last last' → IsAttended shape table fresh passes' flusher k'
+pub put-attended : {shape : Shape} {table : Given} {fresh : List Bool} {i : ℕ} {k k' : Keeping} {passes passes' : List Pass} {flusher : Option ℕ} {S : Type 0} {g : store.Ghosts S} {s s' : S}
+    → IsAttended shape table fresh passes flusher k → k.stage ≡ Puts → PutsNext g table shape i (meta_state k passes) (meta_state k' passes') s s' → IsAttended shape table fresh passes' flusher k'
 put-attended {shape} {table} {fresh} {i} {k} {k'} {passes} {passes'} {flusher} a stage n =
     let p = n.sends.pass in let new = after_meta n.sends.pass n.sends.ticket in
     let due = due-at a i p n.sends.there stage n.under_way n.sends.none in
@@ -136,8 +136,8 @@ put-attended {shape} {table} {fresh} {i} {k} {k'} {passes} {passes'} {flusher} a
     (goes-on passes i p new flusher k' n.sends.there a.flushing (inr mine) refl at') in
     subst (λ (f : Option ℕ). IsAttended shape table fresh passes' f k') (sym mine) (subst (λ (ps : List Pass). IsAttended shape table fresh ps (Some i) k') (sym n.sends.after) done)
 
-pub sync-attended : {shape : Shape} {table : Given} {fresh : List Bool} {i : ℕ} {k : Keeping} {passes passes' : List Pass} {flusher : Option ℕ} {flies flies' : List Ticket → Type 0} {tells tells' : Type 0} {disk disk' : Disk} {last last' : ℕ}
-    → IsAttended shape table fresh passes flusher k → k.stage ≡ Syncs → SyncsPuts shape i passes passes' flies flies' tells tells' disk disk' last last' → IsAttended shape table fresh passes' flusher k
+pub sync-attended : {shape : Shape} {table : Given} {fresh : List Bool} {i : ℕ} {k : Keeping} {passes passes' : List Pass} {flusher : Option ℕ} {S : Type 0} {g : store.Ghosts S} {s s' : S}
+    → IsAttended shape table fresh passes flusher k → k.stage ≡ Syncs → SyncsPuts g shape i passes passes' s s' → IsAttended shape table fresh passes' flusher k
 sync-attended {shape} {table} {fresh} {i} {k} {passes} {passes'} {flusher} a stage s =
     let p = s.sends.pass in let new = after_meta s.sends.pass s.sends.ticket in
     let mine = is-flusher a i p s.sends.there s.under_way in
@@ -149,8 +149,8 @@ sync-attended {shape} {table} {fresh} {i} {k} {passes} {passes'} {flusher} a sta
 
 -- ---- a call is settled
 
-pub done-attended : {shape : Shape} {table : Given} {fresh : List Bool} {i : ℕ} {k k' : Keeping} {passes passes' : List Pass} {flusher : Option ℕ} {flies flies' : List Ticket → Type 0} {tells tells' : Type 0} {disk disk' : Disk} {last last' : ℕ}
-    → IsAttended shape table fresh passes flusher k → SettlesMeta settled.Done i k k' passes passes' flies flies' tells tells' disk disk' last last' → IsAttended shape table fresh passes' flusher k'
+pub done-attended : {shape : Shape} {table : Given} {fresh : List Bool} {i : ℕ} {k k' : Keeping} {passes passes' : List Pass} {flusher : Option ℕ} {S : Type 0} {g : store.Ghosts S} {s s' : S}
+    → IsAttended shape table fresh passes flusher k → SettlesMeta g settled.Done i (meta_state k passes) (meta_state k' passes') s s' → IsAttended shape table fresh passes' flusher k'
 done-attended {shape} {table} {fresh} {i} {k} {k'} {passes} {passes'} {flusher} a m =
     let s = m.settles in let p = s.pass in let new = record p { ticket = None } in let next = gone_on k.stage k in
     let mine = is-flusher a i p s.there s.phase in
@@ -161,15 +161,15 @@ done-attended {shape} {table} {fresh} {i} {k} {k'} {passes} {passes'} {flusher} 
     subst (λ (x : Keeping). IsAttended shape table fresh passes' flusher x) (sym m.after)
     (subst (λ (f : Option ℕ). IsAttended shape table fresh passes' f next) (sym mine) (subst (λ (ps : List Pass). IsAttended shape table fresh ps (Some i) next) (sym s.after) done))
 
-pub late-attended : {same : Ticket} {shape : Shape} {table : Given} {fresh : List Bool} {i : ℕ} {k k' : Keeping} {passes passes' : List Pass} {flusher : Option ℕ} {flies flies' : List Ticket → Type 0} {tells tells' : Type 0} {disk disk' : Disk} {last last' : ℕ}
-    → IsAttended shape table fresh passes flusher k → SettlesMeta (settled.NotYet same) i k k' passes passes' flies flies' tells tells' disk disk' last last' → IsAttended shape table fresh passes' flusher k'
+pub late-attended : {same : Ticket} {shape : Shape} {table : Given} {fresh : List Bool} {i : ℕ} {k k' : Keeping} {passes passes' : List Pass} {flusher : Option ℕ} {S : Type 0} {g : store.Ghosts S} {s s' : S}
+    → IsAttended shape table fresh passes flusher k → SettlesMeta g (settled.NotYet same) i (meta_state k passes) (meta_state k' passes') s s' → IsAttended shape table fresh passes' flusher k'
 late-attended {same} {shape} {table} {fresh} {i} {k} {k'} {passes} {passes'} {flusher} a m =
     let s = m.settles in
     let is : passes' ≡ passes = s.after ∙ set_there passes i s.pass s.there in
     subst (λ (x : Keeping). IsAttended shape table fresh passes' flusher x) (sym m.after) (subst (λ (ps : List Pass). IsAttended shape table fresh ps flusher k) (sym is) a)
 
-pub failed-attended : {number : ℕ} {shape : Shape} {table : Given} {fresh : List Bool} {i : ℕ} {k k' : Keeping} {passes passes' : List Pass} {flusher : Option ℕ} {flies flies' : List Ticket → Type 0} {tells tells' : Type 0} {disk disk' : Disk} {last last' : ℕ}
-    → IsAttended shape table fresh passes flusher k → SettlesMeta (settled.Failed number) i k k' passes passes' flies flies' tells tells' disk disk' last last' → IsAttended shape table fresh passes' None k'
+pub failed-attended : {number : ℕ} {shape : Shape} {table : Given} {fresh : List Bool} {i : ℕ} {k k' : Keeping} {passes passes' : List Pass} {flusher : Option ℕ} {S : Type 0} {g : store.Ghosts S} {s s' : S}
+    → IsAttended shape table fresh passes flusher k → SettlesMeta g (settled.Failed number) i (meta_state k passes) (meta_state k' passes') s s' → IsAttended shape table fresh passes' None k'
 failed-attended {number} {shape} {table} {fresh} {i} {k} {k'} {passes} {passes'} {flusher} a m =
     let s = m.settles in let p = s.pass in let new = after_fault (fault.Store s.ticket.number) p in
     let mine = is-flusher a i p s.there s.phase in

@@ -10,7 +10,7 @@ use Rattle.vd_law.specs.Entries.{Entry}
 use Rattle.vd_bits.specs.Marks.{count_true}
 use Rattle.vd_device.specs.declared.ticket.Ticket.{Ticket}
 use Rattle.vd_device.specs.declared.settled.Settled.TheVariants as settled
-use Rattle.vd_device.specs.Disks.{Disk}
+use Rattle.vd_device.specs.declared.store.Store as store
 use Rattle.vd_table.specs.Tables.{Given}
 use Rattle.vd_meta.specs.declared.stage.Stage.{Stage}
 use Rattle.vd_meta.specs.declared.stage.Stage.TheVariants.{Rest, DataFlush, Puts, Syncs, Seals, Broken}
@@ -35,7 +35,7 @@ use Rattle.vd_passes.specs.declared.pass.Phase.TheVariants.{Asked, Flushing, Rea
 use Rattle.vd_passes.specs.declared.pass.Fault.TheVariants as fault
 use Rattle.vd_passes.specs.Passes.{after_meta, after_fault, after_flush, after_reply}
 use Rattle.vd_passes.specs.Steps.{Replies}
-use Rattle.vd_metadata.specs.Flushing.{BeginsFlush, IsWornOut, PutsNext, SyncsPuts, SettlesMeta, SealsFlush}
+use Rattle.vd_metadata.specs.Flushing.{meta_state, BeginsFlush, IsWornOut, PutsNext, SyncsPuts, SettlesMeta, SealsFlush}
 use Rattle.vd_metadata.specs.Attending.{HasPut, IsAtStage, IsAttended}
 use Rattle.vd_metadata.specs.Measures.{puts_left, syncs_left, calls_left, steps_at, steps_in, flush_steps}
 use Rattle.vd_metadata.proofs.Members.{same-member, set-here}
@@ -200,8 +200,8 @@ after passes passes' i k' next old new p' was set_is kept there =
 
 -- ---- each step lowers them
 
-pub begin-lowers : {shape : Shape} {i : ℕ} {k k' : Keeping} {passes passes' : List Pass} {flies flies' : List Ticket → Type 0} {tells tells' : Type 0} {disk disk' : Disk} {last last' : ℕ} (p p' : Pass)
-    → BeginsFlush Owed shape i k k' passes passes' flies flies' tells tells' disk disk' last last' → slice_get passes i ≡ Some p → slice_get passes' i ≡ Some p' → flush_steps k' p' < flush_steps k p
+pub begin-lowers : {shape : Shape} {i : ℕ} {k k' : Keeping} {passes passes' : List Pass} {S : Type 0} {g : store.Ghosts S} {s s' : S} (p p' : Pass)
+    → BeginsFlush g Owed shape i (meta_state k passes) (meta_state k' passes') s s' → slice_get passes i ≡ Some p → slice_get passes' i ≡ Some p' → flush_steps k' p' < flush_steps k p
 begin-lowers {shape} {i} {k} {k'} {passes} {passes'} p p' b there there' =
     let old = b.sends.pass in let new = after_meta b.sends.pass b.sends.ticket in
     let was = before passes i k old p b.sends.there there in
@@ -216,8 +216,8 @@ worn-lowers {route} {i} {k} {passes} {passes'} p p' w there there' =
     let is = after passes passes' i k k old new p' w.ends.there w.ends.after refl there' in
     omega (arith, was, is, asked-steps k old (worn-asked w.ends))
 
-pub put-lowers : {shape : Shape} {i : ℕ} {k k' : Keeping} {passes passes' : List Pass} {table : Given} {fresh : List Bool} {flusher : Option ℕ} {flies flies' : List Ticket → Type 0} {tells tells' : Type 0} {disk disk' : Disk} {last last' : ℕ} (p p' : Pass)
-    → IsAttended shape table fresh passes flusher k → k.stage ≡ Puts → PutsNext table shape i k k' passes passes' flies flies' tells tells' disk disk' last last' → slice_get passes i ≡ Some p → slice_get passes' i ≡ Some p' → flush_steps k' p' < flush_steps k p
+pub put-lowers : {shape : Shape} {i : ℕ} {k k' : Keeping} {passes passes' : List Pass} {table : Given} {fresh : List Bool} {flusher : Option ℕ} {S : Type 0} {g : store.Ghosts S} {s s' : S} (p p' : Pass)
+    → IsAttended shape table fresh passes flusher k → k.stage ≡ Puts → PutsNext g table shape i (meta_state k passes) (meta_state k' passes') s s' → slice_get passes i ≡ Some p → slice_get passes' i ≡ Some p' → flush_steps k' p' < flush_steps k p
 put-lowers {shape} {i} {k} {k'} {passes} {passes'} {table} p p' a stage n there there' =
     let old = n.sends.pass in let new = after_meta n.sends.pass n.sends.ticket in
     let was = before passes i k old p n.sends.there there in
@@ -228,8 +228,8 @@ put-lowers {shape} {i} {k} {k'} {passes} {passes'} {table} p p' a stage n there 
     let less = put-less table k k' n.put (due-at a i old n.sends.there stage n.under_way n.sends.none) n.next in
     omega (arith, was, is, waits, sent, less)
 
-pub sync-lowers : {shape : Shape} {i : ℕ} {passes passes' : List Pass} {flies flies' : List Ticket → Type 0} {tells tells' : Type 0} {disk disk' : Disk} {last last' : ℕ} (k : Keeping) (p p' : Pass)
-    → k.stage ≡ Syncs → SyncsPuts shape i passes passes' flies flies' tells tells' disk disk' last last' → slice_get passes i ≡ Some p → slice_get passes' i ≡ Some p' → flush_steps k p' < flush_steps k p
+pub sync-lowers : {shape : Shape} {i : ℕ} {passes passes' : List Pass} {S : Type 0} {g : store.Ghosts S} {s s' : S} (k : Keeping) (p p' : Pass)
+    → k.stage ≡ Syncs → SyncsPuts g shape i passes passes' s s' → slice_get passes i ≡ Some p → slice_get passes' i ≡ Some p' → flush_steps k p' < flush_steps k p
 sync-lowers {shape} {i} {passes} {passes'} k p p' stage s there there' =
     let old = s.sends.pass in let new = after_meta s.sends.pass s.sends.ticket in
     let was = before passes i k old p s.sends.there there in
@@ -238,8 +238,8 @@ sync-lowers {shape} {i} {passes} {passes'} k p p' stage s there there' =
     let sent = flushing-steps k new Syncs true refl stage refl in
     omega (arith, was, is, waits, sent)
 
-pub done-lowers : {shape : Shape} {i : ℕ} {k k' : Keeping} {passes passes' : List Pass} {table : Given} {fresh : List Bool} {flusher : Option ℕ} {flies flies' : List Ticket → Type 0} {tells tells' : Type 0} {disk disk' : Disk} {last last' : ℕ} (p p' : Pass)
-    → IsAttended shape table fresh passes flusher k → SettlesMeta settled.Done i k k' passes passes' flies flies' tells tells' disk disk' last last' → slice_get passes i ≡ Some p → slice_get passes' i ≡ Some p' → flush_steps k' p' < flush_steps k p
+pub done-lowers : {shape : Shape} {i : ℕ} {k k' : Keeping} {passes passes' : List Pass} {table : Given} {fresh : List Bool} {flusher : Option ℕ} {S : Type 0} {g : store.Ghosts S} {s s' : S} (p p' : Pass)
+    → IsAttended shape table fresh passes flusher k → SettlesMeta g settled.Done i (meta_state k passes) (meta_state k' passes') s s' → slice_get passes i ≡ Some p → slice_get passes' i ≡ Some p' → flush_steps k' p' < flush_steps k p
 done-lowers {shape} {i} {k} {k'} {passes} {passes'} p p' a m there there' =
     let s = m.settles in let old = s.pass in let new = record old { ticket = None } in
     let was = before passes i k old p s.there there in
@@ -249,8 +249,8 @@ done-lowers {shape} {i} {k} {k'} {passes} {passes'} p p' a m there there' =
     let less = done-less k k.stage old s.ticket s.has (at-stage a i old s.there s.phase) in
     omega (arith, was, is, waits, next, less)
 
-pub failed-lowers : {shape : Shape} {i : ℕ} {k k' : Keeping} {passes passes' : List Pass} {number : ℕ} {table : Given} {fresh : List Bool} {flusher : Option ℕ} {flies flies' : List Ticket → Type 0} {tells tells' : Type 0} {disk disk' : Disk} {last last' : ℕ} (p p' : Pass)
-    → IsAttended shape table fresh passes flusher k → SettlesMeta (settled.Failed number) i k k' passes passes' flies flies' tells tells' disk disk' last last' → slice_get passes i ≡ Some p → slice_get passes' i ≡ Some p' → flush_steps k' p' < flush_steps k p
+pub failed-lowers : {shape : Shape} {i : ℕ} {k k' : Keeping} {passes passes' : List Pass} {number : ℕ} {table : Given} {fresh : List Bool} {flusher : Option ℕ} {S : Type 0} {g : store.Ghosts S} {s s' : S} (p p' : Pass)
+    → IsAttended shape table fresh passes flusher k → SettlesMeta g (settled.Failed number) i (meta_state k passes) (meta_state k' passes') s s' → slice_get passes i ≡ Some p → slice_get passes' i ≡ Some p' → flush_steps k' p' < flush_steps k p
 failed-lowers {shape} {i} {k} {k'} {passes} {passes'} p p' a m there there' =
     let s = m.settles in let old = s.pass in let new = after_fault (fault.Store s.ticket.number) old in
     let was = before passes i k old p s.there there in
@@ -278,8 +278,8 @@ reply-lowers {answer} {i} {passes} {passes'} k k' p p' r there there' ready =
 -- ---- what leaves them as they are
 
 -- a call that is late
-pub late-leaves : {i : ℕ} {k k' : Keeping} {passes passes' : List Pass} {same : Ticket} {flies flies' : List Ticket → Type 0} {tells tells' : Type 0} {disk disk' : Disk} {last last' : ℕ} (p p' : Pass)
-    → SettlesMeta (settled.NotYet same) i k k' passes passes' flies flies' tells tells' disk disk' last last' → slice_get passes i ≡ Some p → slice_get passes' i ≡ Some p' → flush_steps k' p' ≡ flush_steps k p
+pub late-leaves : {i : ℕ} {k k' : Keeping} {passes passes' : List Pass} {same : Ticket} {S : Type 0} {g : store.Ghosts S} {s s' : S} (p p' : Pass)
+    → SettlesMeta g (settled.NotYet same) i (meta_state k passes) (meta_state k' passes') s s' → slice_get passes i ≡ Some p → slice_get passes' i ≡ Some p' → flush_steps k' p' ≡ flush_steps k p
 late-leaves {i} {k} {k'} {passes} {passes'} p p' m there there' =
     let s = m.settles in after passes passes' i k' k s.pass s.pass p' s.there s.after m.after there' ∙ sym (before passes i k s.pass p s.there there)
 

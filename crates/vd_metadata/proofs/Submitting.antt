@@ -1,11 +1,13 @@
 -- A pass whose flush has submitted a call.
 use Rattle.std.proofs.Common.{◌≡◌, ℕ, List, [], ◌∷◌, sym, ap, subst, ◌∙◌, inr, Some, None, slice_get, slice_set}
 use Rattle.vd_law.specs.declared.entry.Sector.{Sector}
+use Rattle.vd_device.specs.declared.store.Store as store
 use Rattle.vd_device.specs.declared.ticket.Ticket.{Ticket}
 use Rattle.vd_device.specs.declared.ticket.Kind.TheVariants.{Write, Flush}
 use Rattle.vd_device.specs.declared.settled.Settled.{Settled}
 use Rattle.vd_device.specs.Calls.{Tells, next_number, asked_flush, issued}
 use Rattle.vd_device.specs.Disks.{Disk, Adds}
+use Rattle.vd_device.specs.Stores.{Submits}
 use Rattle.vd_passes.specs.declared.pass.Pass.{Pass}
 use Rattle.vd_passes.specs.declared.pass.Fault.TheVariants as fault
 use Rattle.vd_passes.specs.Causes.{OfStore, IsNumbered, flying_of}
@@ -26,6 +28,14 @@ flush-told t disk disk' kind adds = subst (λ k. Adds (meta_entry k t []) disk d
 
 pub write-told : (t : Ticket) (content content' : Sector) (disk disk' : Disk) → t.kind ≡ Write → content ≡ content' → Adds (issued t (content ∷ [])) disk disk' → Adds (meta_entry t.kind t (content' ∷ [])) disk disk'
 write-told t content content' disk disk' kind same adds = subst (λ k. Adds (meta_entry k t (content' ∷ [])) disk disk') (sym kind) (subst (λ (s : Sector). Adds (issued t (s ∷ [])) disk disk') same adds)
+
+pub flush-submits : {S : Type 0} (g : store.Ghosts S) (t : Ticket) (s s' : S) → t.kind ≡ Flush → Submits g t (asked_flush t) s s' → Submits g t (meta_entry t.kind t []) s s'
+flush-submits g t s s' kind submits = subst (λ k. Submits g t (meta_entry k t []) s s') (sym kind) submits
+
+pub write-submits : {S : Type 0} (g : store.Ghosts S) (t : Ticket) (content content' : Sector) (s s' : S) → t.kind ≡ Write → content ≡ content' → Submits g t (issued t (content ∷ [])) s s'
+    → Submits g t (meta_entry t.kind t (content' ∷ [])) s s'
+write-submits g t content content' s s' kind same submits =
+    subst (λ k. Submits g t (meta_entry k t (content' ∷ [])) s s') (sym kind) (subst (λ (x : Sector). Submits g t (issued t (x ∷ [])) s s') same submits)
 
 -- the ticket was put back
 pub put-back : (q r s : Pass) (t same : Ticket) → r ≡ record q { ticket = None } → q.ticket ≡ Some t → same ≡ t → s ≡ record r { ticket = Some same } → s ≡ q

@@ -5,8 +5,9 @@ use Rattle.vd_device.specs.declared.ticket.Ticket.{Ticket}
 use Rattle.vd_device.specs.declared.ticket.Kind.TheVariants.{Write, Flush}
 use Rattle.vd_device.specs.declared.settled.Settled.{Settled}
 use Rattle.vd_device.specs.declared.settled.Settled.TheVariants as settled
+use Rattle.vd_device.specs.declared.store.Store as store
 use Rattle.vd_device.specs.Tickets.{IsInFlight}
-use Rattle.vd_device.specs.Disks.{Disk}
+use Rattle.vd_device.specs.Stores.{Submits, SettlesCall}
 use Rattle.vd_format.specs.declared.header.Header.{Header}
 use Rattle.vd_format.specs.Layouts.{map_start, slots_start}
 use Rattle.vd_table.specs.Tables.{Given}
@@ -22,7 +23,7 @@ use Rattle.vd_passes.specs.declared.pass.Phase.TheVariants.{Asked, Flushing}
 use Rattle.vd_passes.specs.declared.pass.Fault.TheVariants.{Worn}
 use Rattle.vd_metadata.specs.declared.outcome.Outcome.{Outcome}
 use Rattle.vd_metadata.specs.declared.outcome.Outcome.TheVariants as outcome
-use Rattle.vd_passes.specs.Steps.{SubmitsMeta, MetaSettled, EndsFlush}
+use Rattle.vd_passes.specs.Steps.{SubmitsMeta, MetaSettled, EndsFlush, meta_entry}
 
 -- the sector of the store that is written, and its content
 abbrev pub put_at : Header → Put → ℕ
@@ -35,33 +36,18 @@ put_sector (puts.Record slot sector) = sector
 put_sector (puts.Page at sector) = sector
 put_sector (puts.Head sector) = sector
 
--- a flush has begun: what is owed is its snapshot, and in the same step the data flush is submitted
-pub record BeginsFlush (route : Route) (shape : Shape) (i : ℕ) (k k' : Keeping) (passes passes' : List Pass) (flies flies' : List Ticket → Type 0) (tells tells' : Type 0) (disk disk' : Disk) (last last' : ℕ) : Type 0 where
-  pub sends : SubmitsMeta [] shape i passes passes' flies flies' tells tells' disk disk' last last'
-  pub kind : sends.ticket.kind ≡ Flush
-  pub asked : sends.pass.phase ≡ Asked
-  pub not_worn : is_worn route k ≡ false
-  pub after : k' ≡ begun route k
+-- what a step of a flush changes beside the store: the keeper of the metadata, and the passes
+pub record MetaState : Type 0 where
+  pub keeping : Keeping
+  pub passes : List Pass
+
+abbrev pub meta_state : Keeping → List Pass → MetaState
+meta_state keeping passes = record { keeping = keeping; passes = passes }
 
 -- a recycle is needed at the last generation, so that no flush was begun
 pub record IsWornOut (route : Route) (i : ℕ) (k : Keeping) (passes passes' : List Pass) : Type 0 where
   pub worn : is_worn route k ≡ true
   pub ends : EndsFlush (Some (Worn last_generation)) i passes passes'
-
--- the next record, sector of the map or header is submitted, in its place
-pub record PutsNext (table : Given) (shape : Shape) (i : ℕ) (k k' : Keeping) (passes passes' : List Pass) (flies flies' : List Ticket → Type 0) (tells tells' : Type 0) (disk disk' : Disk) (last last' : ℕ) : Type 0 where
-  pub put : Put
-  pub next : Puts_next table k put k'
-  pub sends : SubmitsMeta (put_sector put ∷ []) shape i passes passes' flies flies' tells tells' disk disk' last last'
-  pub kind : sends.ticket.kind ≡ Write
-  pub under_way : sends.pass.phase ≡ Flushing
-  pub at : sends.ticket.first ≡ put_at k.header put
-
--- a flush of what was put is submitted
-pub record SyncsPuts (shape : Shape) (i : ℕ) (passes passes' : List Pass) (flies flies' : List Ticket → Type 0) (tells tells' : Type 0) (disk disk' : Disk) (last last' : ℕ) : Type 0 where
-  pub sends : SubmitsMeta [] shape i passes passes' flies flies' tells tells' disk disk' last last'
-  pub kind : sends.ticket.kind ≡ Flush
-  pub under_way : sends.pass.phase ≡ Flushing
 
 -- what the settle of a call of a flush makes of the keeper
 abbrev pub kept_after : Settled → Keeping → Keeping
@@ -69,9 +55,47 @@ kept_after settled.Done k = gone_on k.stage k
 kept_after (settled.NotYet same) k = k
 kept_after (settled.Failed number) k = broken k
 
-pub record SettlesMeta (answer : Settled) (i : ℕ) (k k' : Keeping) (passes passes' : List Pass) (flies flies' : List Ticket → Type 0) (tells tells' : Type 0) (disk disk' : Disk) (last last' : ℕ) : Type 0 where
-  pub settles : MetaSettled answer i passes passes' flies flies' tells tells' disk disk' last last'
-  pub after : k' ≡ kept_after answer k
+module _ {S : Type 0} (g : store.Ghosts S) where
+  -- the pass has submitted a call of its flush: a store flush, or a write of this content
+  abbrev pub SendsMeta : (content : List Sector) → Shape → (i : ℕ) → (passes passes' : List Pass) → (s s' : S) → Type 0
+  SendsMeta content shape i passes passes' s s' =
+      SubmitsMeta content shape i passes passes' (g.flies s) (g.flies s') (g.tells s) (g.tells s') (g.disk s) (g.disk s') (g.last s) (g.last s')
+
+  abbrev pub MetaSettles : Settled → (i : ℕ) → (passes passes' : List Pass) → (s s' : S) → Type 0
+  MetaSettles answer i passes passes' s s' =
+      MetaSettled answer i passes passes' (g.flies s) (g.flies s') (g.tells s) (g.tells s') (g.disk s) (g.disk s') (g.last s) (g.last s')
+
+  -- a flush has begun: what is owed is its snapshot, and in the same step the data flush is submitted
+  pub record BeginsFlush (route : Route) (shape : Shape) (i : ℕ) (m m' : MetaState) (s s' : S) : Type 0 where
+    pub sends : SendsMeta [] shape i m.passes m'.passes s s'
+    pub submits : Submits g sends.ticket (meta_entry sends.ticket.kind sends.ticket []) s s'
+    pub kind : sends.ticket.kind ≡ Flush
+    pub asked : sends.pass.phase ≡ Asked
+    pub not_worn : is_worn route m.keeping ≡ false
+    pub after : m'.keeping ≡ begun route m.keeping
+
+  -- the next record, sector of the map or header is submitted, in its place
+  pub record PutsNext (table : Given) (shape : Shape) (i : ℕ) (m m' : MetaState) (s s' : S) : Type 0 where
+    pub put : Put
+    pub next : Puts_next table m.keeping put m'.keeping
+    pub sends : SendsMeta (put_sector put ∷ []) shape i m.passes m'.passes s s'
+    pub submits : Submits g sends.ticket (meta_entry sends.ticket.kind sends.ticket (put_sector put ∷ [])) s s'
+    pub kind : sends.ticket.kind ≡ Write
+    pub under_way : sends.pass.phase ≡ Flushing
+    pub at : sends.ticket.first ≡ put_at m.keeping.header put
+
+  -- a flush of what was put is submitted
+  pub record SyncsPuts (shape : Shape) (i : ℕ) (passes passes' : List Pass) (s s' : S) : Type 0 where
+    pub sends : SendsMeta [] shape i passes passes' s s'
+    pub submits : Submits g sends.ticket (meta_entry sends.ticket.kind sends.ticket []) s s'
+    pub kind : sends.ticket.kind ≡ Flush
+    pub under_way : sends.pass.phase ≡ Flushing
+
+  -- a call of the flush is settled
+  pub record SettlesMeta (answer : Settled) (i : ℕ) (m m' : MetaState) (s s' : S) : Type 0 where
+    pub settles : MetaSettles answer i m.passes m'.passes s s'
+    pub call : SettlesCall g answer settles.ticket settles.settles.0 settles.settles.1 s s'
+    pub after : m'.keeping ≡ kept_after answer m.keeping
 
 -- the flush is over
 pub record SealsFlush (i : ℕ) (k k' : Keeping) (passes passes' : List Pass) : Type 0 where

@@ -2,8 +2,7 @@
 
 ghost use Rattle.std.specs.Prelude.{ℕ, ◌≡◌, ◌≢◌, ◌⊎◌, ◌+◌, ◌<◌, ◌≤◌, true, false, None, Some, length};
 ghost use Rattle.vd_device.specs.declared.settled.Settled.{Settled as AnySettled};
-ghost use Rattle.vd_device.specs.Calls.{IsCalm, IsCaused, next_number};
-ghost use Rattle.vd_device.specs.Disks.{TellsOrStood};
+ghost use Rattle.vd_device.specs.Stores.{KeepsStore};
 ghost use Rattle.vd_device.specs.Tickets.{HasPlace, IsFree};
 ghost use Rattle.vd_format.specs.Headers.{IsValid};
 ghost use Rattle.vd_format.specs.Layouts.{storage_start};
@@ -15,7 +14,7 @@ ghost use Rattle.vd_passes.specs.declared.shape.Shape.{Shape};
 ghost use Rattle.vd_passes.specs.declared.pass.Phase.TheVariants.{Asked, Flushing};
 ghost use Rattle.vd_passes.specs.Steps.{IsAt};
 ghost use Rattle.vd_passes.specs.Causes.{OfStore, IsNumbered};
-ghost use Rattle.vd_metadata.specs.Flushing.{put_at, put_sector, BeginsFlush, IsWornOut, PutsNext, SyncsPuts, SettlesMeta, SealsFlush, IsWaitingMeta, outcome_of};
+ghost use Rattle.vd_metadata.specs.Flushing.{put_at, put_sector, meta_state, BeginsFlush, IsWornOut, PutsNext, SyncsPuts, SettlesMeta, SealsFlush, IsWaitingMeta, outcome_of};
 
 use crate::outcome::Outcome;
 use vd_device::{Settled, Store};
@@ -38,14 +37,12 @@ pub fn begin<S: Store>(
     requires rest { (keeper.old.stage ≡ Rest) ⊎ (keeper.old.stage ≡ Broken) }
     requires tracked { (t : ℕ) → route ≡ Recycle t → t ≤ keeper.old.header.tracked }
     requires place { HasPlace (S.flies store.old) (S.depth store.old) }
-    ensures begun { result ≡ true → (shape : Shape) → BeginsFlush route shape pass keeper.old keeper.new passes.old.items passes.new.items (S.flies store.old) (S.flies store.new) (S.tells store.old) (S.tells store.new) (S.disk store.old) (S.disk store.new) (S.last store.old) (S.last store.new) }
+    ensures begun { result ≡ true → (shape : Shape) → BeginsFlush S.Store route shape pass (meta_state keeper.old passes.old.items)
+        (meta_state keeper.new passes.new.items) store.old store.new }
     ensures number { result ≡ true → IsAt passes.new.items pass (IsNumbered OfStore (S.last store.old) (S.last store.new)) }
     ensures worn { result ≡ false → IsWornOut route pass keeper.old passes.old.items passes.new.items }
     ensures unchanged { result ≡ false → (store.new ≡ store.old) × (keeper.new ≡ keeper.old) }
-    ensures recorded_before { S.records store.new → S.records store.old }
-    ensures stopped { result ≡ true → S.records store.new → TellsOrStood (S.tells store.new) (S.events store.new) (S.disk store.old) (S.disk store.new) }
-    ensures calm { IsCalm (S.faults store.old) (S.faults store.new) (S.late store.old) (S.late store.new) }
-    ensures stays { (S.sectors store.new ≡ S.sectors store.old) × (S.depth store.new ≡ S.depth store.old) × (S.events store.old ≤ S.events store.new) }
+    ensures keeps { result ≡ true → KeepsStore S.Store store.old store.new }
 {
     if !keeper.begin(route) {
         passes[pass].end_flush(Some(Fault::Worn(keeper.header().generation)));
@@ -71,12 +68,10 @@ pub fn put<S: Store>(
     requires due { IsDue keeper.old }
     requires inside { storage_start keeper.old.header ≤ S.sectors store.old }
     requires free { (first : ℕ) → first + 1 ≤ storage_start keeper.old.header → IsFree (S.flies store.old) (S.depth store.old) first 1 }
-    ensures puts { (shape : Shape) → shape.storage_at ≡ storage_start keeper.old.header → PutsNext table.now shape pass keeper.old keeper.new passes.old.items passes.new.items (S.flies store.old) (S.flies store.new) (S.tells store.old) (S.tells store.new) (S.disk store.old) (S.disk store.new) (S.last store.old) (S.last store.new) }
+    ensures puts { (shape : Shape) → shape.storage_at ≡ storage_start keeper.old.header → PutsNext S.Store table.now shape pass
+        (meta_state keeper.old passes.old.items) (meta_state keeper.new passes.new.items) store.old store.new }
     ensures number { IsAt passes.new.items pass (IsNumbered OfStore (S.last store.old) (S.last store.new)) }
-    ensures recorded_before { S.records store.new → S.records store.old }
-    ensures stopped { S.records store.new → TellsOrStood (S.tells store.new) (S.events store.new) (S.disk store.old) (S.disk store.new) }
-    ensures calm { IsCalm (S.faults store.old) (S.faults store.new) (S.late store.old) (S.late store.new) }
-    ensures stays { (S.sectors store.new ≡ S.sectors store.old) × (S.depth store.new ≡ S.depth store.old) × (S.events store.old ≤ S.events store.new) }
+    ensures keeps { KeepsStore S.Store store.old store.new }
 {
     let header = keeper.header();
     let put = keeper.put(table);
@@ -104,12 +99,9 @@ fn placed(header: &Header, put: Put) -> (u64, Sector)
 pub fn sync<S: Store>(store: &mut S, passes: &mut Vec<Pass>, pass: usize)
     requires under_way { IsAt passes.old.items pass (λ p. (p.phase ≡ Flushing) × (p.flush ≡ true) × (p.ticket ≡ None)) }
     requires place { HasPlace (S.flies store.old) (S.depth store.old) }
-    ensures syncs { (shape : Shape) → SyncsPuts shape pass passes.old.items passes.new.items (S.flies store.old) (S.flies store.new) (S.tells store.old) (S.tells store.new) (S.disk store.old) (S.disk store.new) (S.last store.old) (S.last store.new) }
+    ensures syncs { (shape : Shape) → SyncsPuts S.Store shape pass passes.old.items passes.new.items store.old store.new }
     ensures number { IsAt passes.new.items pass (IsNumbered OfStore (S.last store.old) (S.last store.new)) }
-    ensures recorded_before { S.records store.new → S.records store.old }
-    ensures stopped { S.records store.new → TellsOrStood (S.tells store.new) (S.events store.new) (S.disk store.old) (S.disk store.new) }
-    ensures calm { IsCalm (S.faults store.old) (S.faults store.new) (S.late store.old) (S.late store.new) }
-    ensures stays { (S.sectors store.new ≡ S.sectors store.old) × (S.depth store.new ≡ S.depth store.old) × (S.events store.old ≤ S.events store.new) }
+    ensures keeps { KeepsStore S.Store store.old store.new }
 {
     // Sectors of the map are durable before the header that counts on them, and records and the header before the seal.
     let ticket = store.submit_flush();
@@ -126,11 +118,9 @@ pub fn settle<S: Store>(
 ) -> Outcome
     requires waiting { IsAt passes.old.items pass (λ p. (p.phase ≡ Flushing) × IsWaitingMeta (S.flies store.old) p) }
     requires stage { is_settling keeper.old.stage ≡ true }
-    ensures settled { (answer : AnySettled) × (result ≡ outcome_of answer) × SettlesMeta answer pass keeper.old keeper.new passes.old.items passes.new.items (S.flies store.old) (S.flies store.new) (S.tells store.old) (S.tells store.new) (S.disk store.old) (S.disk store.new) (S.last store.old) (S.last store.new)
-        × IsCaused answer (S.faults store.old) (S.faults store.new) (S.late store.old) (S.late store.new) }
-    ensures recorded_before { S.records store.new → S.records store.old }
-    ensures stopped { S.records store.new → TellsOrStood (S.tells store.new) (S.events store.new) (S.disk store.old) (S.disk store.new) }
-    ensures stays { (S.sectors store.new ≡ S.sectors store.old) × (S.depth store.new ≡ S.depth store.old) × (S.events store.old ≤ S.events store.new) }
+    ensures settled { (answer : AnySettled) × (result ≡ outcome_of answer) × SettlesMeta S.Store answer pass
+        (meta_state keeper.old passes.old.items) (meta_state keeper.new passes.new.items) store.old store.new }
+    ensures keeps { KeepsStore S.Store store.old store.new }
 {
     let ticket = passes[pass].take_ticket();
     match store.settle(ticket, &mut []) {

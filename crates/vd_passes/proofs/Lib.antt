@@ -23,10 +23,12 @@ pub mod Onward
 pub mod Places
 pub mod PlacesGiven
 pub mod Ready
+pub mod Sent
 pub mod Regions
 pub mod Replying
 pub mod Settling
 pub mod Standing
+pub mod Stopping
 pub mod Tracing
 pub mod TracingSteps
 pub mod Tracks

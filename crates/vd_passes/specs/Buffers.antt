@@ -1,10 +1,11 @@
 -- What a settled base read makes of a buffer.
 use Rattle.std.specs.Prelude.{◌≡◌, ◌-◌, List, ◌++◌, length, replicate}
 use Rattle.vd_law.specs.declared.entry.Sector.{Sector}
+use Rattle.vd_device.specs.declared.base.Base as base
 use Rattle.vd_device.specs.declared.ticket.Ticket.{Ticket}
 use Rattle.vd_device.specs.declared.settled.Settled.{Settled}
 use Rattle.vd_device.specs.declared.settled.Settled.TheVariants.{Done, NotYet, Failed}
-use Rattle.vd_device.specs.Calls.{Settles, Gives}
+use Rattle.vd_device.specs.Bases.{SettlesInBase}
 use Rattle.vd_reading.specs.Background.{zero_sector}
 
 -- what was read comes first, and zeros behind it; else the buffer stays
@@ -13,9 +14,11 @@ buffer_after Done content old = content ++ replicate (length old - length conten
 buffer_after (NotYet same) content old = old
 buffer_after (Failed number) content old = old
 
-pub record BufferSettled (answer : Settled) (ticket : Ticket) (old new : List Sector) (flies flies' : List Ticket → Type 0) (tells' : Type 0) (base : List Sector) : Type 0 where
-  pub content : List Sector
-  pub long : length content ≡ ticket.count
-  pub after : new ≡ buffer_after answer content old
-  pub settles : (out : List Sector) × Settles answer ticket out content flies flies'
-  pub gives : tells' → Gives answer ticket content base
+module _ {B : Type 0} (h : base.Ghosts B) where
+  -- a base read was settled, over what stood at the buffer's front
+  pub record BufferSettled (answer : Settled) (ticket : Ticket) (old new : List Sector) (b b' : B) : Type 0 where
+    pub front : List Sector
+    pub content : List Sector
+    pub settles : SettlesInBase h answer ticket front content b b'
+    pub long : length content ≡ ticket.count
+    pub after : new ≡ buffer_after answer content old

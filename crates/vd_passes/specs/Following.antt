@@ -1,5 +1,5 @@
 -- What a core keeps so that each store fault is traced: where a pass's call stands in the history and in the store's log.
-use Rattle.std.specs.Prelude.{ℕ, ◌≡◌, ◌≢◌, ◌<◌, ◌≤◌, List, length, Some, slice_get}
+use Rattle.std.specs.Prelude.{ℕ, ◌≡◌, ◌≢◌, ◌≤◌, List, length, Some, slice_get}
 use Rattle.vd_law.specs.Entries.{Asked, Entry, Ask}
 use Rattle.vd_device.specs.declared.ticket.Ticket.{Ticket}
 use Rattle.vd_passes.specs.declared.pass.Pass.{Pass}

@@ -1,9 +1,9 @@
 -- Where the call that a store fault names stands in the store's log.
-use Rattle.std.specs.Prelude.{ℕ, ◌≡◌, ◌<◌, ◌≤◌, Bool, false, List, Some, slice_get}
+use Rattle.std.specs.Prelude.{ℕ, ◌≡◌, ◌<◌, ◌≤◌, false, List, Some, slice_get}
 use Rattle.vd_law.specs.declared.entry.Sector.{Sector}
 use Rattle.vd_law.specs.declared.entry.CallId.{CallId}
 use Rattle.vd_law.specs.declared.entry.Answer.TheVariants.{StoreFault}
-use Rattle.vd_law.specs.Entries.{Asked, Read, Write, Flush, Entry, Ask, Issue, Done, Broke, Seen, Reply}
+use Rattle.vd_law.specs.Entries.{Asked, Read, Write, Flush, Entry, Ask, Issue, Broke, Reply}
 use Rattle.vd_law.specs.Rules.{is_ok}
 use Rattle.vd_device.specs.Now.{call_number}
 

@@ -4,7 +4,6 @@ ghost use Rattle.std.specs.Prelude.{◌≡◌, ◌+◌, ◌-◌, ◌≤◌, IfOk
 ghost use Rattle.vd_reading.specs.Background.{zero_sector};
 ghost use Rattle.vd_device.specs.declared.ticket.Kind.TheVariants.{Read};
 ghost use Rattle.vd_device.specs.Tickets.{IsInFlight};
-ghost use Rattle.vd_device.specs.Calls.{IsCaused};
 ghost use Rattle.vd_passes.specs.Laying.{laid};
 ghost use Rattle.vd_passes.specs.Buffers.{BufferSettled};
 
@@ -75,13 +74,7 @@ impl Buffer {
         requires mine { IsInFlight (B.flies base.old) ticket }
         requires kind { ticket.kind ≡ Read }
         requires fits { ticket.count ≤ length self.old }
-        ensures settled { BufferSettled result ticket self.old self.new (B.flies base.old) (B.flies base.new) (B.tells base.new) (B.content base.new) }
-        ensures cause { IsCaused result (B.faults base.old) (B.faults base.new) (B.late base.old) (B.late base.new) }
-        ensures last { B.last base.new ≡ B.last base.old }
-        ensures sectors { B.sectors base.new ≡ B.sectors base.old }
-        ensures depth { B.depth base.new ≡ B.depth base.old }
-        ensures told_before { B.tells base.new → B.tells base.old }
-        ensures content { B.tells base.new → B.content base.new ≡ B.content base.old }
+        ensures { BufferSettled B.Base result ticket self.old self.new base.old base.new }
     {
         let count = ticket.count() as usize;
         let (front, back) = self.sectors.split_at_mut(count);

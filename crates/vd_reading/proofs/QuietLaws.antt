@@ -1,6 +1,6 @@
 -- Calls that write nothing.
 use Rattle.std.proofs.Common.{ℕ, zero, suc, ◌≡◌, ◌≤◌, length-append, List, [], ◌∷◌, ◌++◌, length, take, Some, None, Result, Ok, Err, inl, inr, refl, ap, sym, ◌∙◌, subst, arith}
-use Rattle.std.specs.Prelude.{slice_get, ⊤, OnOk, OnErr, IfErr}
+use Rattle.std.specs.Prelude.{slice_get, ⊤, OnOk, IfErr}
 use Rattle.std.specs.List.{All, AllByRecursion, fold}
 use Rattle.std.proofs.lemmas.List.Elements.{All-head}
 use Rattle.std.proofs.lemmas.List.{append_assoc, append-nil}
@@ -9,10 +9,14 @@ use Rattle.vd_law.specs.declared.entry.Answer.TheVariants.{StoreFault}
 use Rattle.vd_law.specs.Entries.{Read, Flush, Entry, Ask, Issue, Done, Broke, Seen, Reply, Past, nothing, ◌▸◌, past}
 use Rattle.vd_law.specs.Contents.{Open, open_writes}
 use Rattle.vd_law.proofs.RuleLaws.{past-append}
+use Rattle.vd_device.specs.declared.store.Store as store
+use Rattle.vd_device.specs.declared.base.Base as base
 use Rattle.vd_device.specs.Disks.{Disk, GrowsBy, RecordsSome, IsOneOf}
-use Rattle.vd_device.specs.Calls.{Rose}
 use Rattle.vd_device.specs.Now.{call_number, read_entries, flush_entries}
-use Rattle.vd_reading.specs.Quiet.{IsAtRest, IsNoWrite, AddsNoWrite, AddsFlush, IsReady, OnlyReads, EndsBadly, IsLoggedFault, IsStoreFault, IsFault}
+use Rattle.vd_device.specs.Stores.{CallsStore}
+use Rattle.vd_device.specs.Bases.{CallsBase}
+use Rattle.vd_device.proofs.Keeping.{keeps-on, keeps-same, base-keeps-on, base-keeps-same}
+use Rattle.vd_reading.specs.Quiet.{IsAtRest, IsNoWrite, AddsNoWrite, AddsFlush, IsReady, OnlyReads, EndsBadly, IsCallFault, IsLoggedFault, IsStoreFault, OnlyReadsBase, IsFault}
 
 -- two lists are the same where each of their places is
 pub same_list : {X : Type 0} (xs ys : List X) → length xs ≡ length ys → ((i : ℕ) → slice_get xs i ≡ slice_get ys i) → xs ≡ ys
@@ -79,21 +83,15 @@ flush_idle number (Ok done) = (tt, (tt, tt))
 flush_idle number (Err failed) = (tt, (tt, tt))
 
 -- a call that adds such entries only reads
-pub only_reads : (es : List Entry) {idle' : Type 0} {sectors sectors' depth depth' faults faults' : ℕ} {tells tells' records records' : Type 0} {before after : ℕ} {old new : Disk} → AllByRecursion IsIdle es → (tells → IsAtRest old)
-    → idle' → sectors' ≡ sectors → depth' ≡ depth → faults ≤ faults'
-    → (tells' → tells) → (tells' → GrowsBy es old new) → (records' → records) → (records' → RecordsSome es before after old new)
-    → OnlyReads idle' sectors sectors' depth depth' faults faults' tells tells' records records' old new
-only_reads es {before = before} {after = after} {old = old} {new = new} only_idle rest idle sectors depth calm told_before told recorded_before recorded = record {
-  idle = idle;
-  sectors_same = sectors;
-  depth_same = depth;
-  calm = calm;
-  told_before = told_before;
-  held = λ t. held_after es old new only_idle (told t) (rest (told_before t));
-  rest = λ r t. rest_after es old new only_idle (told t).log (r (told_before t));
+pub only_reads : {S : Type 0} {g : store.Ghosts S} {s s' : S} (es : List Entry) {result : Result ⊤ ℕ} → AllByRecursion IsIdle es → IsReady g s
+    → CallsStore g es result s s' → (g.tells s' → GrowsBy es (g.disk s) (g.disk s')) → OnlyReads g s s'
+only_reads {g = g} {s} {s'} es only_idle ready calls told = record {
+  keeps = calls.keeps;
+  idle = calls.flight [] ready.idle_is;
+  held = λ t. held_after es (g.disk s) (g.disk s') only_idle (told t) (ready.rest (calls.keeps.telling.told_before t));
+  rest = λ r t. rest_after es (g.disk s) (g.disk s') only_idle (told t).log (r (calls.keeps.telling.told_before t));
   added = λ t. record { start = (told t).start; more = es; none = no_write es only_idle; log = (told t).log };
-  recorded_before = recorded_before;
-  recorded = λ r. recorded_after es before after old new only_idle (recorded r);
+  recorded = λ r. recorded_after es (g.events s) (g.events s') (g.disk s) (g.disk s') only_idle (calls.recorded r);
 }
 
 no_write_append : (xs ys : List Entry) → AllByRecursion IsNoWrite xs → AllByRecursion IsNoWrite ys → AllByRecursion IsNoWrite (xs ++ ys)
@@ -109,40 +107,45 @@ adds_twice a b c x y = record {
   log = y.log ∙ ap (λ l. l ++ y.more) x.log ∙ append_assoc a.log x.more y.more;
 }
 
-pub reads_twice : {i1 i2 : Type 0} {s0 s1 s2 d0 d1 d2 f0 f1 f2 : ℕ} {t0 t1 t2 r0 r1 r2 : Type 0} {a b c : Disk} → OnlyReads i1 s0 s1 d0 d1 f0 f1 t0 t1 r0 r1 a b → OnlyReads i2 s1 s2 d1 d2 f1 f2 t1 t2 r1 r2 b c
-    → OnlyReads i2 s0 s2 d0 d2 f0 f2 t0 t2 r0 r2 a c
-reads_twice {a = a} {b = b} {c = c} x y = record {
+pub reads_twice : {S : Type 0} {g : store.Ghosts S} {r s t : S} → OnlyReads g r s → OnlyReads g s t → OnlyReads g r t
+reads_twice {g = g} {r} {s} {t} x y = record {
+  keeps = keeps-on g r s t x.keeps y.keeps;
   idle = y.idle;
-  sectors_same = y.sectors_same ∙ x.sectors_same;
-  depth_same = y.depth_same ∙ x.depth_same;
-  calm = (let p = x.calm in let q = y.calm in omega arith);
-  told_before = λ t. x.told_before (y.told_before t);
-  held = λ t. y.held t ∙ x.held (y.told_before t);
-  rest = λ r. y.rest (x.rest r);
-  added = λ t. adds_twice a b c (x.added (y.told_before t)) (y.added t);
-  recorded_before = λ r. x.recorded_before (y.recorded_before r);
-  recorded = λ r. adds_twice a b c (x.recorded (y.recorded_before r)) (y.recorded r);
+  held = λ h. y.held h ∙ x.held (y.keeps.telling.told_before h);
+  rest = λ q. y.rest (x.rest q);
+  added = λ h. adds_twice (g.disk r) (g.disk s) (g.disk t) (x.added (y.keeps.telling.told_before h)) (y.added h);
+  recorded = λ h. adds_twice (g.disk r) (g.disk s) (g.disk t) (x.recorded (y.keeps.telling.recorded_before h)) (y.recorded h);
 }
 
 -- a store that does nothing only reads
-pub reads_nothing : {idle : Type 0} {sectors depth faults : ℕ} {tells records : Type 0} {d : Disk} → idle → OnlyReads idle sectors sectors depth depth faults faults tells tells records records d d
-reads_nothing idle = record {
-  idle = idle;
-  sectors_same = refl;
-  depth_same = refl;
-  calm = omega arith;
-  told_before = λ t. t;
+pub reads_nothing : {S : Type 0} {g : store.Ghosts S} {s : S} → IsReady g s → OnlyReads g s s
+reads_nothing {g = g} {s} ready = record {
+  keeps = keeps-same g s ready.told;
+  idle = ready.idle_is;
   held = λ t. refl;
   rest = λ r. r;
   added = λ t. record { start = refl; more = []; none = tt; log = sym (append-nil _) };
-  recorded_before = λ r. r;
   recorded = λ r. record { start = refl; more = []; none = tt; log = sym (append-nil _) };
 }
 
 -- it is ready after such calls
-pub ready_again : {idle idle' : Type 0} {sectors sectors' depth depth' faults faults' : ℕ} {tells tells' records records' : Type 0} {old new : Disk} → IsReady idle depth tells old
-    → OnlyReads idle' sectors sectors' depth depth' faults faults' tells tells' records records' old new → IsReady idle' depth' tells' new
-ready_again ready reads = record { idle_is = reads.idle; deep = (let e = reads.depth_same in let d = ready.deep in omega arith); rest = reads.rest ready.rest }
+pub ready_again : {S : Type 0} {g : store.Ghosts S} {s s' : S} → IsReady g s → OnlyReads g s s' → IsReady g s'
+ready_again ready reads = record {
+  idle_is = reads.idle;
+  deep = (let e = reads.keeps.counts.depth in let d = ready.deep in omega arith);
+  rest = reads.rest ready.rest;
+  told = reads.keeps.telling.state;
+}
+
+-- the same of a base
+pub base_reads_twice : {B : Type 0} {h : base.Ghosts B} {a b c : B} → OnlyReadsBase h a b → OnlyReadsBase h b c → OnlyReadsBase h a c
+base_reads_twice {h = h} {a} {b} {c} x y = record { keeps = base-keeps-on h a b c x.keeps y.keeps; idle = y.idle }
+
+pub base_reads_nothing : {B : Type 0} {h : base.Ghosts B} {b : B} → h.flies b [] → OnlyReadsBase h b b
+base_reads_nothing {h = h} {b} idle = record { keeps = base-keeps-same h b; idle = idle }
+
+pub base_only_reads : {B : Type 0} {h : base.Ghosts B} {b b' : B} {result : Result ⊤ ℕ} → h.flies b [] → CallsBase h result b b' → OnlyReadsBase h b b'
+base_only_reads idle calls = record { keeps = calls.keeps; idle = calls.flight [] idle }
 
 pub on_ok : {T E : Type 0} {P Q : Type 0} (r : Result T E) → (P → Q) → OnOk r P → OnOk r Q
 on_ok (Ok t) f p = f p
@@ -192,23 +195,27 @@ ended_badly ticket asked old new grown = record {
   after = omega arith;
 }
 
-pub read_failed : (first count last faults faults' : ℕ) {tells' : Type 0} {old new : Disk} (out : List Sector) (result : Result ⊤ ℕ) → IfErr result (λ number. number ≡ last) → OnErr result (Rose faults faults')
-    → (tells' → GrowsBy (read_entries last first count out result) old new) → IfErr result (λ number. IsStoreFault number last faults faults' tells' old new)
-read_failed first count last faults faults' out (Ok done) is rose told = tt
-read_failed first count last faults faults' {old = old} {new = new} out (Err number) is rose told = record {
-  ticket = is;
-  rose = rose;
-  logged = λ t. subst (λ (n : ℕ). EndsBadly n (length old.log) new.log) (sym is) (ended_badly last (Ask (call_number last) (Read first count)) old.log new.log (told t).log);
+pub read_failed : {S : Type 0} {g : store.Ghosts S} {s s' : S} (first count : ℕ) (out : List Sector) (result : Result ⊤ ℕ) → CallsStore g (read_entries (g.last s') first count out result) result s s'
+    → (g.tells s' → GrowsBy (read_entries (g.last s') first count out result) (g.disk s) (g.disk s')) → IfErr result (IsStoreFault g s s')
+read_failed first count out (Ok done) calls told = tt
+read_failed {g = g} {s} {s'} first count out (Err number) calls told = record {
+  ticket = calls.fault;
+  rose = calls.cause;
+  logged = λ t. subst (λ (n : ℕ). EndsBadly n (length (g.disk s).log) (g.disk s').log) (sym calls.fault) (ended_badly (g.last s') (Ask (call_number (g.last s')) (Read first count)) (g.disk s).log (g.disk s').log (told t).log);
 }
 
-pub flush_failed : (last faults faults' : ℕ) {tells' : Type 0} {old new : Disk} (result : Result ⊤ ℕ) → IfErr result (λ number. number ≡ last) → OnErr result (Rose faults faults')
-    → (tells' → GrowsBy (flush_entries last result) old new) → IfErr result (λ number. IsStoreFault number last faults faults' tells' old new)
-flush_failed last faults faults' (Ok done) is rose told = tt
-flush_failed last faults faults' {old = old} {new = new} (Err number) is rose told = record {
-  ticket = is;
-  rose = rose;
-  logged = λ t. subst (λ (n : ℕ). EndsBadly n (length old.log) new.log) (sym is) (ended_badly last (Ask (call_number last) Flush) old.log new.log (told t).log);
+pub flush_failed : {S : Type 0} {g : store.Ghosts S} {s s' : S} (result : Result ⊤ ℕ) → CallsStore g (flush_entries (g.last s') result) result s s'
+    → (g.tells s' → GrowsBy (flush_entries (g.last s') result) (g.disk s) (g.disk s')) → IfErr result (IsStoreFault g s s')
+flush_failed (Ok done) calls told = tt
+flush_failed {g = g} {s} {s'} (Err number) calls told = record {
+  ticket = calls.fault;
+  rose = calls.cause;
+  logged = λ t. subst (λ (n : ℕ). EndsBadly n (length (g.disk s).log) (g.disk s').log) (sym calls.fault) (ended_badly (g.last s') (Ask (call_number (g.last s')) Flush) (g.disk s).log (g.disk s').log (told t).log);
 }
+
+pub base_failed : {B : Type 0} {h : base.Ghosts B} {b b' : B} (result : Result ⊤ ℕ) → CallsBase h result b b' → IfErr result (IsFault h b b')
+base_failed (Ok done) calls = tt
+base_failed (Err number) calls = record { ticket = calls.fault; rose = calls.cause }
 
 -- what has ended so goes on to have ended while the log is added to
 pub ends_later : {ticket from : ℕ} {old new : Disk} → AddsNoWrite old new → EndsBadly ticket from old.log → EndsBadly ticket from new.log
@@ -225,30 +232,34 @@ pub log_longer : {old new : Disk} → AddsNoWrite old new → length old.log ≤
 log_longer {old = old} adds = let e = ap length adds.log in let n = length-append old.log adds.more in omega arith
 
 -- a failure is one of a longer work, which had only read before
-pub fault_of_longer : {i1 i2 : Type 0} {s0 s1 s2 d0 d1 d2 f0 f1 f2 : ℕ} {t0 t1 t2 r0 r1 r2 : Type 0} {a b c : Disk} {number last : ℕ} → OnlyReads i1 s0 s1 d0 d1 f0 f1 t0 t1 r0 r1 a b → OnlyReads i2 s1 s2 d1 d2 f1 f2 t1 t2 r1 r2 b c
-    → IsStoreFault number last f1 f2 t2 b c → IsStoreFault number last f0 f2 t2 a c
+pub fault_of_longer : {S : Type 0} {g : store.Ghosts S} {r s t : S} {number : ℕ} → OnlyReads g r s → OnlyReads g s t → IsStoreFault g s t number → IsStoreFault g r t number
 fault_of_longer before reads fault = record {
   ticket = fault.ticket;
-  rose = (let r = fault.rose in let p = before.calm in omega arith);
-  logged = λ t. ends_earlier (log_longer (before.added (reads.told_before t))) (fault.logged t);
+  rose = (let r = fault.rose in let p = before.keeps.counts.faults in omega arith);
+  logged = λ t. ends_earlier (log_longer (before.added (reads.keeps.telling.told_before t))) (fault.logged t);
 }
 
-pub logged_of_longer : {i1 i2 : Type 0} {s0 s1 s2 d0 d1 d2 f0 f1 f2 : ℕ} {t0 t1 t2 r0 r1 r2 : Type 0} {a b c : Disk} {number : ℕ} → OnlyReads i1 s0 s1 d0 d1 f0 f1 t0 t1 r0 r1 a b → OnlyReads i2 s1 s2 d1 d2 f1 f2 t1 t2 r1 r2 b c
-    → IsLoggedFault number f1 f2 t2 b c → IsLoggedFault number f0 f2 t2 a c
+pub logged_of_longer : {S : Type 0} {g : store.Ghosts S} {r s t : S} {number : ℕ} → OnlyReads g r s → OnlyReads g s t → IsLoggedFault g s t number → IsLoggedFault g r t number
 logged_of_longer before reads fault = record {
-  rose = (let r = fault.rose in let p = before.calm in omega arith);
-  logged = λ t. ends_earlier (log_longer (before.added (reads.told_before t))) (fault.logged t);
+  rose = (let r = fault.rose in let p = before.keeps.counts.faults in omega arith);
+  logged = λ t. ends_earlier (log_longer (before.added (reads.keeps.telling.told_before t))) (fault.logged t);
 }
 
 -- and of one that only reads after it
-pub logged_before_more : {i2 : Type 0} {s1 s2 d1 d2 f0 f1 f2 : ℕ} {t1 t2 r1 r2 : Type 0} {a b c : Disk} {number : ℕ} → OnlyReads i2 s1 s2 d1 d2 f1 f2 t1 t2 r1 r2 b c → IsLoggedFault number f0 f1 t1 a b → IsLoggedFault number f0 f2 t2 a c
+pub logged_before_more : {S : Type 0} {g : store.Ghosts S} {r s t : S} {number : ℕ} → OnlyReads g s t → IsLoggedFault g r s number → IsLoggedFault g r t number
 logged_before_more after fault = record {
-  rose = (let r = fault.rose in let p = after.calm in omega arith);
-  logged = λ t. ends_later (after.added t) (fault.logged (after.told_before t));
+  rose = (let r = fault.rose in let p = after.keeps.counts.faults in omega arith);
+  logged = λ t. ends_later (after.added t) (fault.logged (after.keeps.telling.told_before t));
 }
 
-pub fault_logged : {number last faults faults' : ℕ} {tells' : Type 0} {old new : Disk} → IsStoreFault number last faults faults' tells' old new → IsLoggedFault number faults faults' tells' old new
+pub fault_logged : {S : Type 0} {g : store.Ghosts S} {s s' : S} {number : ℕ} → IsStoreFault g s s' number → IsLoggedFault g s s' number
 fault_logged fault = record { rose = fault.rose; logged = fault.logged }
 
-pub fault_of : {number last faults faults' : ℕ} {tells' : Type 0} {old new : Disk} → IsStoreFault number last faults faults' tells' old new → IsFault number last faults faults'
+pub fault_of : {S : Type 0} {g : store.Ghosts S} {s s' : S} {number : ℕ} → IsStoreFault g s s' number → IsCallFault g s s' number
 fault_of fault = record { ticket = fault.ticket; rose = fault.rose }
+
+pub base_fault_of_longer : {B : Type 0} {h : base.Ghosts B} {a b c : B} {number : ℕ} → OnlyReadsBase h a b → IsFault h b c number → IsFault h a c number
+base_fault_of_longer before fault = record {
+  ticket = fault.ticket;
+  rose = (let r = fault.rose in let p = before.keeps.counts.faults in omega arith);
+}

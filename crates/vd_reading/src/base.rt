@@ -1,15 +1,16 @@
 //! Reads of the background: the base in the tracked part of the disk, zeros from there on.
 
-ghost use Rattle.std.specs.Prelude.{◌≡◌, ◌-◌, ◌<◌, ◌≤◌, [], length, min, replicate, OnOk, IfErr};
+ghost use Rattle.std.specs.Prelude.{◌≡◌, ◌<◌, ◌≤◌, [], length, replicate, OnOk, OnErr, IfErr};
+ghost use Rattle.vd_device.specs.Calls.{next_number};
 ghost use Rattle.vd_reading.specs.Quiet.{OnlyReadsBase, IsFault};
-ghost use Rattle.vd_reading.specs.Background.{background_run, zero_sector};
+ghost use Rattle.vd_reading.specs.Background.{background_run, count_in_base, zero_sector};
 
 use vd_device::{Base, read_base};
 use vd_law::entry::Sector;
 
 /// How many of `count` sectors from `first` on lie below both the base's end and `tracked`.
 fn sectors_of_base(sectors: u64, tracked: u64, first: u64, count: usize) -> usize
-    ensures { result ≡ min (min sectors tracked - first) count }
+    ensures { result ≡ count_in_base sectors tracked first count }
 {
     sectors.min(tracked).saturating_sub(first).min(count as u64) as usize
 }
@@ -20,8 +21,8 @@ fn clear(out: &mut [Sector])
     out.fill(Sector::filled(0));
 }
 
-/// Fills `out`, of at most 2,048 sectors, with the background from sector `first` of the disk on, by at most one read of
-/// the base. The error is the failed ticket's number.
+/// Fills `out`, of at most 2,048 sectors, with the background from sector `first` of the disk on, by one read of the base,
+/// or none where no sector of it is the base's. The error is the failed ticket's number.
 pub fn read_background<B: Base>(
     base: &mut B,
     tracked: u64,
@@ -30,8 +31,11 @@ pub fn read_background<B: Base>(
 ) -> Result<(), u64>
     requires idle { B.flies base.old [] }
     requires most { length out.old ≤ 2048 }
-    ensures quiet { OnlyReadsBase (B.flies base.new []) (B.sectors base.old) (B.sectors base.new) (B.faults base.old) (B.faults base.new) (B.tells base.old) (B.tells base.new) (B.content base.old) (B.content base.new) }
-    ensures fault { IfErr result (λ number. IsFault number (B.last base.new) (B.faults base.old) (B.faults base.new)) }
+    ensures quiet { OnlyReadsBase B.Base base.old base.new }
+    ensures fault { IfErr result (IsFault B.Base base.old base.new) }
+    ensures asked { OnErr result (0 < count_in_base (B.sectors base.old) tracked first (length out.old)) }
+    ensures untouched { count_in_base (B.sectors base.old) tracked first (length out.old) ≡ 0 → base.new ≡ base.old }
+    ensures number { 0 < count_in_base (B.sectors base.old) tracked first (length out.old) → B.last base.new ≡ next_number (B.last base.old) }
     ensures size { length out.new ≡ length out.old }
     ensures read { OnOk result (B.tells base.new → out.new ≡ background_run (B.content base.new) tracked first (length out.old)) }
 {

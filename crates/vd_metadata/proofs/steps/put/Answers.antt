@@ -6,9 +6,8 @@ use Rattle.vd_passes.specs.declared.pass.Pass.{Pass}
 use Rattle.vd_metadata.specs.Flushing.{put_at}
 use Rattle.vd_metadata.proofs.Members.{read-there, picked}
 use Rattle.vd_metadata.proofs.Places.{put-inside}
-use Rattle.vd_metadata.proofs.Submitting.{numbered, write-told}
+use Rattle.vd_metadata.proofs.Submitting.{numbered, write-told, write-submits}
 use Rattle.vd_metadata.proofs.steps.put.Given.{Over}
-use Rattle.vd_device.proofs.Stopping.{stood-after}
 use Rattle.vd_metadata.proofs.steps.put.Goals as goal
 use Rattle.vd_metadata.proofs.steps.put.Goals.{After-put-put, After-placed-at}
 
@@ -62,10 +61,11 @@ returns-clause-puts g c shape storage =
         is_meta = inr (got.ticket.kind_is, omega (arith, less, is, storage, got.ticket.first_is, got.ticket.count_is));
         count = λ write. got.ticket.count_is;
         flight = got.flight;
-        number = got.last;
-        told_before = got.told_before;
-        told = λ tells. (write-told t c.placed-at.result.1 _ (g.S.Store.disk c.args.store.now) (g.S.Store.disk c.submit_write-ticket.new.self) got.ticket.kind_is c.placed-at.ensures.sector (got.told tells), got.new_number tells);
+        number = got.next.last;
+        told_before = got.takes.keeps.told_before;
+        told = λ tells. (write-told t c.placed-at.result.1 _ (g.S.Store.disk c.args.store.now) (g.S.Store.disk c.submit_write-ticket.new.self) got.ticket.kind_is c.placed-at.ensures.sector (got.takes.told tells), got.rises tells);
       };
+      submits = write-submits g.S.Store t c.placed-at.result.1 _ c.args.store.now c.submit_write-ticket.new.self got.ticket.kind_is c.placed-at.ensures.sector (record { next = got.next; rises = got.rises; flight = got.flight; counts = got.counts; takes = got.takes });
       kind = got.ticket.kind_is;
       under_way = ap (λ (x : Pass). x.phase) (sym same) ∙ at.2.0;
       at = got.ticket.first_is ∙ is;
@@ -75,7 +75,4 @@ pub returns-clause-number : goal.returns-clause-number
 returns-clause-number g c =
     let at = c.requires.under_way in let q = c.index_mut.result.now in let got = c.submit_write-ticket.ensures in
     numbered c.args.passes.now.items c.args.pass q c.begin_meta.new.self c.submit_write-ticket.result (g.S.Store.last c.args.store.now) (g.S.Store.last c.submit_write-ticket.new.self)
-    (read-there c.args.passes.now.items c.args.pass at.0 q at.1 c.index_mut.ensures.value) c.begin_meta.ensures got.number got.last
-
-pub returns-clause-stopped : goal.returns-clause-stopped
-returns-clause-stopped g c records = let got = c.submit_write-ticket.ensures in stood-after _ _ _ _ _ _ (got.recorded records) (got.stopped records)
+    (read-there c.args.passes.now.items c.args.pass at.0 q at.1 c.index_mut.ensures.value) c.begin_meta.ensures got.next.number got.next.last

@@ -1,4 +1,4 @@
-use Rattle.std.proofs.Common.{◌≡◌, ap, ◌∙◌, replicate, length}
+use Rattle.std.proofs.Common.{ap, ◌∙◌, replicate, length}
 use Rattle.vd_law.specs.declared.entry.Sector.{Sector}
 use Rattle.vd_reading.proofs.BackgroundLaws.{filled_zero}
 use Rattle.vd_reading.proofs.base.clear.Goals as goal

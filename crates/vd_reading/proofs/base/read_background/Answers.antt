@@ -1,11 +1,11 @@
-use Rattle.std.proofs.Common.{ℕ, ◌≡◌, ◌+◌, ◌-◌, ◌<◌, ◌≤◌, List, length, min, ap, arith}
+use Rattle.std.proofs.Common.{length, ap, arith}
 use Rattle.vd_reading.proofs.BackgroundLaws.{read_parts}
 use Rattle.vd_reading.proofs.base.read_background.Goals as goal
 
 pub returns-in_ok-read_base-clause-read : goal.returns-in_ok-read_base-clause-read
 returns-in_ok-read_base-clause-read g c told =
-    let same = c.in_ok-read_base.ensures.content told in
-    let size = c.sectors.ensures.content (c.in_ok-read_base.ensures.told_before told) in
+    let same = c.in_ok-read_base.ensures.calls.keeps.telling.content told in
+    let size = c.sectors.ensures.content (c.in_ok-read_base.ensures.calls.keeps.telling.told_before told) in
     let many = ap length same in
     read_parts _ c.read_base.new.out c.clear.new.out c.args.tracked c.args.first _ (length c.split_at_mut-front.result.1.now) c.clear.ensures (omega arith) (omega arith)
     (λ some. c.in_ok-read_base.ensures.read told)

@@ -1,13 +1,10 @@
-use Rattle.std.proofs.Common.{[]}
 use Rattle.vd_device.specs.Now.{flush_entries}
 use Rattle.vd_reading.proofs.QuietLaws.{only_reads, flush_idle, flush_failed}
 use Rattle.vd_reading.proofs.store.flush_only.Goals as goal
 
 pub returns-clause-fault : goal.returns-clause-fault
-returns-clause-fault g c = flush_failed (g.S.Store.last c.flush_now.new.store) _ _ c.flush_now.result c.flush_now.ensures.fault c.flush_now.ensures.cause c.flush_now.ensures.told
+returns-clause-fault g c = flush_failed c.flush_now.result c.flush_now.ensures.calls c.flush_now.ensures.told
 
 pub returns-clause-quiet : goal.returns-clause-quiet
 returns-clause-quiet g c =
-    only_reads (flush_entries (g.S.Store.last c.flush_now.new.store) c.flush_now.result) (flush_idle _ _) c.requires.ready.rest (c.flush_now.ensures.flight [] c.requires.ready.idle_is)
-    c.flush_now.ensures.sectors c.flush_now.ensures.depth c.flush_now.ensures.calm.0
-    c.flush_now.ensures.told_before c.flush_now.ensures.told c.flush_now.ensures.recorded_before c.flush_now.ensures.recorded
+    only_reads (flush_entries (g.S.Store.last c.flush_now.new.store) c.flush_now.result) (flush_idle _ _) c.requires.ready c.flush_now.ensures.calls c.flush_now.ensures.told

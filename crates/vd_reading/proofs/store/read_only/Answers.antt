@@ -1,4 +1,4 @@
-use Rattle.std.proofs.Common.{length, [], ap, ◌∙◌}
+use Rattle.std.proofs.Common.{length, ap, ◌∙◌}
 use Rattle.vd_device.specs.Now.{read_entries}
 use Rattle.vd_reading.specs.Quiet.{sectors_from}
 use Rattle.vd_reading.proofs.BackgroundLaws.{held_part}
@@ -6,13 +6,12 @@ use Rattle.vd_reading.proofs.QuietLaws.{only_reads, read_idle, on_ok, read_faile
 use Rattle.vd_reading.proofs.store.read_only.Goals as goal
 
 pub returns-clause-fault : goal.returns-clause-fault
-returns-clause-fault g c = read_failed c.args.first (length c.args.out.now) (g.S.Store.last c.read_now.new.store) _ _ c.read_now.new.out c.read_now.result c.read_now.ensures.fault c.read_now.ensures.cause c.read_now.ensures.told
+returns-clause-fault g c = read_failed c.args.first (length c.args.out.now) c.read_now.new.out c.read_now.result c.read_now.ensures.calls c.read_now.ensures.told
 
 pub returns-clause-quiet : goal.returns-clause-quiet
 returns-clause-quiet g c =
-    only_reads (read_entries (g.S.Store.last c.read_now.new.store) c.args.first (length c.args.out.now) c.read_now.new.out c.read_now.result) (read_idle _ _ _ _ _) c.requires.ready.rest (c.read_now.ensures.flight [] c.requires.ready.idle_is)
-    c.read_now.ensures.sectors c.read_now.ensures.depth c.read_now.ensures.calm.0
-    c.read_now.ensures.told_before c.read_now.ensures.told c.read_now.ensures.recorded_before c.read_now.ensures.recorded
+    only_reads (read_entries (g.S.Store.last c.read_now.new.store) c.args.first (length c.args.out.now) c.read_now.new.out c.read_now.result) (read_idle _ _ _ _ _)
+    c.requires.ready c.read_now.ensures.calls c.read_now.ensures.told
 
 pub returns-clause-read : goal.returns-clause-read
 returns-clause-read g c =
