@@ -6,10 +6,10 @@ use Rattle.std.specs.List.{list_any}
 use Rattle.std.proofs.lemmas.Bool.{or_parts, not-false, or_left}
 use Rattle.vd_law.specs.Entries.{Entry, Ask, Flush}
 use Rattle.vd_law.specs.Histories.{Numbered}
+use Rattle.vd_device.specs.declared.store.Store as store
 use Rattle.vd_device.specs.declared.ticket.Ticket.{Ticket}
 use Rattle.vd_device.specs.declared.ticket.Kind.{Kind}
 use Rattle.vd_device.specs.Tickets.{ticket_id}
-use Rattle.vd_device.specs.Disks.{Disk}
 use Rattle.vd_format.specs.declared.header.Header.{Header}
 use Rattle.vd_format.specs.Layouts.{map_start}
 use Rattle.vd_table.specs.Tables.{Given}
@@ -38,7 +38,7 @@ use Rattle.vd_passes.specs.declared.pass.Phase.TheVariants.{Asked}
 use Rattle.vd_passes.specs.declared.pass.Fault.TheVariants.{Worn}
 use Rattle.vd_passes.specs.Passes.{call_of, after_meta, after_flush}
 use Rattle.vd_passes.specs.Steps.{meta_entry}
-use Rattle.vd_metadata.specs.Flushing.{BeginsFlush, IsWornOut}
+use Rattle.vd_metadata.specs.Flushing.{meta_state, BeginsFlush, IsWornOut}
 use Rattle.vd_safety.specs.Mirrors.{bit_of, IsStageOf, IsBegunOf, IsOfHeader, IsSecured}
 use Rattle.vd_safety.proofs.Records.{by-header}
 use Rattle.vd_safety.proofs.Marked.{chunk-among, chunk-inside, page-among, still-marked}
@@ -140,10 +140,10 @@ or-is x y true e more = absurd cc
 
 -- ---- it begins
 
-module _ {h : Header} {o : Opening} {shape : Shape} {table : Given} {fresh : List Bool} {k k' : Keeping} {flusher : Option ℕ} {passes passes' : List Pass} {history : Numbered} {flies flies' : List Ticket → Type 0} {tells tells' : Type 0} {disk disk' : Disk} {last last' i : ℕ} {asked : route.Route} where
-  pub begin-secured : IsFlushing h o shape table fresh k flusher passes last → BeginsFlush asked shape i k k' passes passes' flies flies' tells tells' disk disk' last last' → flusher ≡ None
-      → ((t : ℕ) → asked ≡ routes.Recycle t → t ≡ k.header.tracked) → ((p : Pass) → slice_get passes i ≡ Some p → p.phase ≡ Asked → p.flush ≡ true → (a : ℕ) × At history.log.entries a (Ask (call_of i p) Flush)) → tells'
-      → IsSecured o table fresh k flusher passes history disk.log → IsSecured o table fresh k' (Some i) passes' history disk'.log
+module _ {h : Header} {o : Opening} {shape : Shape} {table : Given} {fresh : List Bool} {k k' : Keeping} {flusher : Option ℕ} {passes passes' : List Pass} {history : Numbered} {i : ℕ} {S : Type 0} {g : store.Ghosts S} {from to : S} {asked : route.Route} where
+  pub begin-secured : IsFlushing h o shape table fresh k flusher passes (g.last from) → BeginsFlush g asked shape i (meta_state k passes) (meta_state k' passes') from to → flusher ≡ None
+      → ((t : ℕ) → asked ≡ routes.Recycle t → t ≡ k.header.tracked) → ((p : Pass) → slice_get passes i ≡ Some p → p.phase ≡ Asked → p.flush ≡ true → (a : ℕ) × At history.log.entries a (Ask (call_of i p) Flush)) → g.tells to
+      → IsSecured o table fresh k flusher passes history (g.disk from).log → IsSecured o table fresh k' (Some i) passes' history (g.disk to).log
   begin-secured around step idle same ask told was =
       let s : State = was.state in
       let mirrors = was.mirrors in
@@ -165,13 +165,13 @@ module _ {h : Header} {o : Opening} {shape : Shape} {table : Given} {fresh : Lis
       let after = primitive_keeps o (state s.log s.history s.memory marks s.flights Resting) (state (s.log ++ Ask (ticket_id t) Flush ∷ []) s.history s.memory marks s.flights (Sending (call_of i p) found.0 entry.0 (length s.log) (snapshot_of s.memory s.history) (ticket_id t)))
       (Begins s.log s.history s.memory marks s.flights (call_of i p) (ticket_id t) found.0 entry.0 numbered_at) marked in
       let bare : is_bare p.phase ≡ true = ap is_bare step.asked in
-      let mine = moved o table fresh k flusher passes history disk.log s mirrors i p p' there new (Some i) (disk.log ++ Ask (ticket_id t) Flush ∷ []) (s.log ++ Ask (ticket_id t) Flush ∷ []) s.memory.index.sure s.memory.index.cursor marks
+      let mine = moved o table fresh k flusher passes history (g.disk from).log s mirrors i p p' there new (Some i) ((g.disk from).log ++ Ask (ticket_id t) Flush ∷ []) (s.log ++ Ask (ticket_id t) Flush ∷ []) s.memory.index.sure s.memory.index.cursor marks
       (Sending (call_of i p) found.0 entry.0 (length s.log) (snapshot_of s.memory s.history) (ticket_id t)) bare
       (ap (λ (l : List Entry). l ++ Ask (ticket_id t) Flush ∷ []) mirrors.log_is) (record { header = refl; stale = refl; owed = refl }) mirrors.sure mirrors.cursor (λ u is. way-same asked k u same is)
       (λ c inside. let here = page-of h o k around.header c in let empty : bit_of k.put (c / 32) ≡ false = ap (λ (xs : List Bool). bit_of xs (c / 32)) rests.1 ∙ get_or-nothing (pages_of k.header) (c / 32) in
       ap (λ (x : Bool). x || bit_of new.marked (o.layout.map_at c - map_start k.header)) (mirrors.marked c inside) ∙ ap (λ (page : ℕ). (bit_of k.marked (c / 32) || bit_of k.put (c / 32)) || bit_of new.marked page) here
       ∙ or-is (bit_of k.marked (c / 32)) (bit_of new.marked (c / 32)) (bit_of k.put (c / 32)) empty (still-marked k.header k.marked (chunks_with k.header k.owed) (c / 32)))
-      (flights-after o table fresh k flusher passes history disk.log s mirrors i p p' there bare refl)
+      (flights-after o table fresh k flusher passes history (g.disk from).log s mirrors i p p' there bare refl)
       (stage-by DataFlush false (Some t) i p p' o new passes (Sending (call_of i p) found.0 entry.0 (length s.log) (snapshot_of s.memory s.history) (ticket_id t)) there refl refl refl (begun-of asked k kept rests.1) (
         found.0,
         entry.0,
@@ -186,8 +186,8 @@ module _ {h : Header} {o : Opening} {shape : Shape} {table : Given} {fresh : Lis
         refl,
       )) in
       let tale = (step.sends.told told).0 in
-      secured-as o table fresh k' new (Some i) passes' (slice_set passes i p') history disk'.log (disk.log ++ Ask (ticket_id t) Flush ∷ []) step.after step.sends.after
-      (tale.log ∙ ap (λ (kind : Kind). disk.log ++ meta_entry kind t [] ∷ []) step.kind) (record { state = _; keeps = after; mirrors = mine })
+      secured-as o table fresh k' new (Some i) passes' (slice_set passes i p') history (g.disk to).log ((g.disk from).log ++ Ask (ticket_id t) Flush ∷ []) step.after step.sends.after
+      (tale.log ∙ ap (λ (kind : Kind). (g.disk from).log ++ meta_entry kind t [] ∷ []) step.kind) (record { state = _; keeps = after; mirrors = mine })
 
 -- or not, at the last generation
 module _ {o : Opening} {table : Given} {fresh : List Bool} {k : Keeping} {flusher : Option ℕ} {passes passes' : List Pass} {history : Numbered} {log : List Entry} {i : ℕ} {asked : route.Route} where

@@ -6,10 +6,10 @@ use Rattle.std.proofs.lemmas.List.{get_or_past}
 use Rattle.vd_law.specs.declared.entry.Sector.{Sector}
 use Rattle.vd_law.specs.Entries.{Entry, Issue}
 use Rattle.vd_law.specs.Histories.{Numbered}
+use Rattle.vd_device.specs.declared.store.Store as store
 use Rattle.vd_device.specs.declared.ticket.Ticket.{Ticket}
 use Rattle.vd_device.specs.declared.ticket.Kind.{Kind}
 use Rattle.vd_device.specs.Tickets.{ticket_id}
-use Rattle.vd_device.specs.Disks.{Disk}
 use Rattle.vd_bits.specs.Marks.{IsLowest, NoneFrom}
 use Rattle.vd_format.specs.declared.header.Header.{Header}
 use Rattle.vd_format.specs.Layouts.{chunks_of, slots_start, map_start}
@@ -40,7 +40,7 @@ use Rattle.vd_passes.specs.declared.pass.Pass.{Pass}
 use Rattle.vd_passes.specs.declared.pass.Phase.TheVariants.{Flushing}
 use Rattle.vd_passes.specs.Passes.{call_of, after_meta}
 use Rattle.vd_passes.specs.Steps.{meta_entry}
-use Rattle.vd_metadata.specs.Flushing.{PutsNext, put_at, put_sector}
+use Rattle.vd_metadata.specs.Flushing.{meta_state, PutsNext, put_at, put_sector}
 use Rattle.vd_safety.specs.Mirrors.{bit_of, IsBegunOf, IsProgressOf, Nowhere, InRecordOf, InPageOf, IsStageBy, Mirrors, IsSecured}
 use Rattle.vd_safety.proofs.Records.{IsMemoryOf}
 use Rattle.vd_safety.proofs.Slots.{record-wanted, record-names, logged-more}
@@ -275,17 +275,17 @@ module _ (h : Header) (o : Opening) (shape : Shape) (table : Given) (fresh : Lis
   put-any what k' (Next_page page v recycle lowest bytes) at = put-page page v recycle lowest bytes at
   put-any what k' (Next_header v recycle empty bytes) at = put-header v recycle empty bytes at
 
-module _ {h : Header} {o : Opening} {shape : Shape} {table : Given} {fresh : List Bool} {k k' : Keeping} {flusher : Option ℕ} {passes passes' : List Pass} {history : Numbered} {flies flies' : List Ticket → Type 0} {tells tells' : Type 0} {disk disk' : Disk} {last last' i : ℕ} where
-  pub put-secured : IsFlushing h o shape table fresh k flusher passes last → PutsNext table shape i k k' passes passes' flies flies' tells tells' disk disk' last last' → k.stage ≡ Puts → tells'
-      → IsSecured o table fresh k flusher passes history disk.log → IsSecured o table fresh k' flusher passes' history disk'.log
+module _ {h : Header} {o : Opening} {shape : Shape} {table : Given} {fresh : List Bool} {k k' : Keeping} {flusher : Option ℕ} {passes passes' : List Pass} {history : Numbered} {i : ℕ} {S : Type 0} {g : store.Ghosts S} {from to : S} where
+  pub put-secured : IsFlushing h o shape table fresh k flusher passes (g.last from) → PutsNext g table shape i (meta_state k passes) (meta_state k' passes') from to → k.stage ≡ Puts → g.tells to
+      → IsSecured o table fresh k flusher passes history (g.disk from).log → IsSecured o table fresh k' flusher passes' history (g.disk to).log
   put-secured around step puts told was =
       let p : Pass = step.sends.pass in
       let t : Ticket = step.sends.ticket in
       let flush : flusher ≡ Some i = flusher-is around i p step.sends.there step.under_way in
-      let mine : IsFlushing h o shape table fresh k (Some i) passes last = subst (λ (f : Option ℕ). IsFlushing h o shape table fresh k f passes last) flush around in
-      let secured : IsSecured o table fresh k (Some i) passes history disk.log = subst (λ (f : Option ℕ). IsSecured o table fresh k f passes history disk.log) flush was in
+      let mine : IsFlushing h o shape table fresh k (Some i) passes (g.last from) = subst (λ (f : Option ℕ). IsFlushing h o shape table fresh k f passes (g.last from)) flush around in
+      let secured : IsSecured o table fresh k (Some i) passes history (g.disk from).log = subst (λ (f : Option ℕ). IsSecured o table fresh k f passes history (g.disk from).log) flush was in
       let tale = step.sends.told told in
-      let done = put-any h o shape table fresh k passes history disk.log secured.state last i p t mine secured.keeps secured.mirrors step.sends.there step.under_way step.sends.none puts tale.1 step.put k' step.next step.at in
+      let done = put-any h o shape table fresh k passes history (g.disk from).log secured.state (g.last from) i p t mine secured.keeps secured.mirrors step.sends.there step.under_way step.sends.none puts tale.1 step.put k' step.next step.at in
       flusher-as flusher (Some i) flush
-      (secured-as o table fresh k' k' (Some i) passes' (slice_set passes i (after_meta p t)) history disk'.log (disk.log ++ Issue (ticket_id t) t.first (put_sector step.put ∷ []) ∷ []) refl step.sends.after
-      (tale.0.log ∙ ap (λ (kind : Kind). disk.log ++ meta_entry kind t (put_sector step.put ∷ []) ∷ []) step.kind) done)
+      (secured-as o table fresh k' k' (Some i) passes' (slice_set passes i (after_meta p t)) history (g.disk to).log ((g.disk from).log ++ Issue (ticket_id t) t.first (put_sector step.put ∷ []) ∷ []) refl step.sends.after
+      (tale.0.log ∙ ap (λ (kind : Kind). (g.disk from).log ++ meta_entry kind t (put_sector step.put ∷ []) ∷ []) step.kind) done)

@@ -3,12 +3,12 @@ use Rattle.std.proofs.Common.{◌≡◌, inl, inr, ℕ, Bool, List, [], ◌∷�
 use Rattle.std.proofs.lemmas.List.{append-nil}
 use Rattle.vd_law.specs.Entries.{Entry}
 use Rattle.vd_law.specs.Histories.{Numbered}
+use Rattle.vd_device.specs.declared.store.Store as store
 use Rattle.vd_device.specs.declared.ticket.Ticket.{Ticket}
 use Rattle.vd_device.specs.declared.ticket.Kind.{Kind}
 use Rattle.vd_device.specs.declared.settled.Settled.{Settled}
 use Rattle.vd_device.specs.declared.settled.Settled.TheVariants as settled
 use Rattle.vd_device.specs.Calls.{settle_entries, done_entry}
-use Rattle.vd_device.specs.Disks.{Disk}
 use Rattle.vd_format.specs.declared.header.Header.{Header}
 use Rattle.vd_table.specs.Tables.{Given}
 use Rattle.vd_crash.specs.Safe.{Opening}
@@ -21,7 +21,7 @@ use Rattle.vd_passes.specs.declared.shape.Shape.{Shape}
 use Rattle.vd_passes.specs.declared.pass.Pass.{Pass}
 use Rattle.vd_passes.specs.declared.pass.Phase.TheVariants.{Flushing}
 use Rattle.vd_passes.specs.Steps.{meta_settled}
-use Rattle.vd_metadata.specs.Flushing.{SettlesMeta, kept_after}
+use Rattle.vd_metadata.specs.Flushing.{meta_state, SettlesMeta, kept_after}
 use Rattle.vd_safety.specs.Mirrors.{Mirrors, IsSecured}
 use Rattle.vd_safety.proofs.Updates.{set-same}
 use Rattle.vd_safety.proofs.Stepping.{IsFlushing, flusher-is, flusher-as, secured-as}
@@ -57,16 +57,16 @@ module _ (h : Header) (o : Opening) (shape : Shape) (table : Given) (fresh : Lis
       secured-as o table fresh k k (Some i) (slice_set passes i p) passes history (log ++ []) log refl (set-same passes i p there) (append-nil log) (record { state = s; keeps = was; mirrors = mirrors })
   settled-any (settled.Failed number) = any-failed o table fresh k passes history log s i p t was mirrors there flushes has (what-is-out i p t around there has)
 
-module _ {h : Header} {o : Opening} {shape : Shape} {table : Given} {fresh : List Bool} {k k' : Keeping} {flusher : Option ℕ} {passes passes' : List Pass} {history : Numbered} {flies flies' : List Ticket → Type 0} {tells tells' : Type 0} {disk disk' : Disk} {last last' i : ℕ} {answer : Settled} where
-  pub settle_meta-secured : IsFlushing h o shape table fresh k flusher passes last → SettlesMeta answer i k k' passes passes' flies flies' tells tells' disk disk' last last' → tells'
-      → IsSecured o table fresh k flusher passes history disk.log → IsSecured o table fresh k' (flusher_after answer flusher) passes' history disk'.log
+module _ {h : Header} {o : Opening} {shape : Shape} {table : Given} {fresh : List Bool} {k k' : Keeping} {flusher : Option ℕ} {passes passes' : List Pass} {history : Numbered} {i : ℕ} {S : Type 0} {g : store.Ghosts S} {from to : S} {answer : Settled} where
+  pub settle_meta-secured : IsFlushing h o shape table fresh k flusher passes (g.last from) → SettlesMeta g answer i (meta_state k passes) (meta_state k' passes') from to → g.tells to
+      → IsSecured o table fresh k flusher passes history (g.disk from).log → IsSecured o table fresh k' (flusher_after answer flusher) passes' history (g.disk to).log
   settle_meta-secured around step told was =
       let p : Pass = step.settles.pass in
       let t : Ticket = step.settles.ticket in
       let flush : flusher ≡ Some i = flusher-is around i p step.settles.there step.settles.phase in
-      let mine : IsFlushing h o shape table fresh k (Some i) passes last = subst (λ (f : Option ℕ). IsFlushing h o shape table fresh k f passes last) flush around in
-      let secured : IsSecured o table fresh k (Some i) passes history disk.log = subst (λ (f : Option ℕ). IsSecured o table fresh k f passes history disk.log) flush was in
+      let mine : IsFlushing h o shape table fresh k (Some i) passes (g.last from) = subst (λ (f : Option ℕ). IsFlushing h o shape table fresh k f passes (g.last from)) flush around in
+      let secured : IsSecured o table fresh k (Some i) passes history (g.disk from).log = subst (λ (f : Option ℕ). IsSecured o table fresh k f passes history (g.disk from).log) flush was in
       let tale = (step.settles.told told).grows in
-      let ends = settled-any h o shape table fresh k passes history disk.log secured.state last i p t mine secured.keeps secured.mirrors step.settles.there step.settles.phase step.settles.has answer in
+      let ends = settled-any h o shape table fresh k passes history (g.disk from).log secured.state (g.last from) i p t mine secured.keeps secured.mirrors step.settles.there step.settles.phase step.settles.has answer in
       flusher-as (flusher_after answer flusher) (flusher_after answer (Some i)) (ap (flusher_after answer) flush)
-      (secured-as o table fresh k' (kept_after answer k) (flusher_after answer (Some i)) passes' (slice_set passes i (meta_settled answer p t)) history disk'.log (disk.log ++ settle_entries answer t []) step.after step.settles.after tale.log ends)
+      (secured-as o table fresh k' (kept_after answer k) (flusher_after answer (Some i)) passes' (slice_set passes i (meta_settled answer p t)) history (g.disk to).log ((g.disk from).log ++ settle_entries answer t []) step.after step.settles.after tale.log ends)

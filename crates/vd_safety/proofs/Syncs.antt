@@ -3,10 +3,10 @@ use Rattle.std.proofs.Common.{◌≡◌, ℕ, Bool, true, false, List, [], ◌�
 use Rattle.std.proofs.lemmas.Bool.{cases_Bool}
 use Rattle.vd_law.specs.Entries.{Entry, Ask, Flush}
 use Rattle.vd_law.specs.Histories.{Numbered}
+use Rattle.vd_device.specs.declared.store.Store as store
 use Rattle.vd_device.specs.declared.ticket.Ticket.{Ticket}
 use Rattle.vd_device.specs.declared.ticket.Kind.{Kind}
 use Rattle.vd_device.specs.Tickets.{ticket_id}
-use Rattle.vd_device.specs.Disks.{Disk}
 use Rattle.vd_format.specs.declared.header.Header.{Header}
 use Rattle.vd_table.specs.Tables.{Given}
 use Rattle.vd_crash.specs.Safe.{Opening}
@@ -74,16 +74,16 @@ module _ (o : Opening) (table : Given) (fresh : List Bool) (k : Keeping) (passes
   sync-any : IsSecured o table fresh k (Some i) (slice_set passes i p') history (log ++ entry ∷ [])
   sync-any = elim (cases_Bool k.head) [ inl head ↦ sync-head head | inr plain ↦ sync-plain plain ]
 
-module _ {h : Header} {o : Opening} {shape : Shape} {table : Given} {fresh : List Bool} {k : Keeping} {flusher : Option ℕ} {passes passes' : List Pass} {history : Numbered} {flies flies' : List Ticket → Type 0} {tells tells' : Type 0} {disk disk' : Disk} {last last' i : ℕ} where
-  pub sync-secured : IsFlushing h o shape table fresh k flusher passes last → SyncsPuts shape i passes passes' flies flies' tells tells' disk disk' last last' → k.stage ≡ Syncs → tells'
-      → IsSecured o table fresh k flusher passes history disk.log → IsSecured o table fresh k flusher passes' history disk'.log
+module _ {h : Header} {o : Opening} {shape : Shape} {table : Given} {fresh : List Bool} {k : Keeping} {flusher : Option ℕ} {passes passes' : List Pass} {history : Numbered} {i : ℕ} {S : Type 0} {g : store.Ghosts S} {from to : S} where
+  pub sync-secured : IsFlushing h o shape table fresh k flusher passes (g.last from) → SyncsPuts g shape i passes passes' from to → k.stage ≡ Syncs → g.tells to
+      → IsSecured o table fresh k flusher passes history (g.disk from).log → IsSecured o table fresh k flusher passes' history (g.disk to).log
   sync-secured around step syncs told was =
       let p : Pass = step.sends.pass in
       let t : Ticket = step.sends.ticket in
       let flush : flusher ≡ Some i = flusher-is around i p step.sends.there step.under_way in
-      let secured : IsSecured o table fresh k (Some i) passes history disk.log = subst (λ (f : Option ℕ). IsSecured o table fresh k f passes history disk.log) flush was in
+      let secured : IsSecured o table fresh k (Some i) passes history (g.disk from).log = subst (λ (f : Option ℕ). IsSecured o table fresh k f passes history (g.disk from).log) flush was in
       let tale = step.sends.told told in
-      let done = sync-any o table fresh k passes history disk.log secured.state i p t secured.keeps secured.mirrors step.sends.there step.under_way step.sends.none syncs in
+      let done = sync-any o table fresh k passes history (g.disk from).log secured.state i p t secured.keeps secured.mirrors step.sends.there step.under_way step.sends.none syncs in
       flusher-as flusher (Some i) flush
-      (secured-as o table fresh k k (Some i) passes' (slice_set passes i (after_meta p t)) history disk'.log (disk.log ++ Ask (ticket_id t) Flush ∷ []) refl step.sends.after
-      (tale.0.log ∙ ap (λ (kind : Kind). disk.log ++ meta_entry kind t [] ∷ []) step.kind) done)
+      (secured-as o table fresh k k (Some i) passes' (slice_set passes i (after_meta p t)) history (g.disk to).log ((g.disk from).log ++ Ask (ticket_id t) Flush ∷ []) refl step.sends.after
+      (tale.0.log ∙ ap (λ (kind : Kind). (g.disk from).log ++ meta_entry kind t [] ∷ []) step.kind) done)

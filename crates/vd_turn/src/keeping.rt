@@ -1,5 +1,5 @@
 //! What a value under the lock keeps.
-ghost use Rattle.std.specs.Prelude.{◌≡◌, ℕ, ◌^◌, ◌≤◌, List, length};
+ghost use Rattle.std.specs.Prelude.{◌≡◌, ℕ, ◌^◌, ◌<◌, List, length};
 
 /// A value that keeps a list of entries, each made by one pass, a part for each pass, a part that is fixed, and a
 /// number of steps. Passes are named by their numbers.
@@ -25,8 +25,8 @@ pub trait Kept {
     // how many steps were made; one hold of the lock raises it by one at most
     ghost steps: { Self → ℕ };
 
-    /// The number of entries, at most 2^62.
+    /// The number of entries, below 2^63.
     fn length(&self) -> u64
         ensures counts { result ≡ length (entries self.now) }
-        ensures bounded { result ≤ 2 ^ 62 };
+        ensures bounded { result < 2 ^ 63 };
 }

@@ -1,5 +1,5 @@
 //! A list of visits under a turn, and passes that write into it.
-ghost use Rattle.std.specs.Prelude.{◌≡◌, ◌^◌, ◌≤◌, false, length, vec_capacity};
+ghost use Rattle.std.specs.Prelude.{◌≡◌, ◌≤◌, false, vec_capacity};
 ghost use Rattle.vd_turn.specs.Passes.{Belongs};
 
 use crate::{Kept, Turn, TurnPass};
@@ -7,13 +7,10 @@ use std::alloc::{AllocError, Global};
 use std::sync::Wait;
 use std::thread::{Threads, map_vec};
 
-const MOST: usize = 1 << 62;
-
 /// Each visit is the number of the pass that made it.
 #[derive(Drop)]
 pub struct Visits {
     pub made: Vec<u32>,
-    ghost bounded: { length made.items ≤ 2 ^ 62 },
 }
 
 impl Visits {
@@ -29,7 +26,7 @@ impl Visits {
     pub fn visit(&mut self, by: u32) -> bool
         ensures { IsGrownBy ⟦<Visits as Kept>⟧ by self.old self.new }
     {
-        if self.made.len() >= MOST || self.made.len() == self.made.capacity() {
+        if self.made.len() == self.made.capacity() {
             return false;
         }
         self.made.push_reserved(by);
