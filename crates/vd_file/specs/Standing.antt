@@ -6,6 +6,8 @@ use Rattle.vd_device.specs.declared.ticket.Kind.TheVariants.{Read}
 use Rattle.vd_device.specs.Tickets.{IsRange}
 
 pub record Standing : Type 0 where
+  -- it is over a file, else a device of no sectors
+  pub has_file : Bool
   pub sectors : ℕ
   -- the tickets in flight
   pub flying : ℕ
@@ -17,8 +19,8 @@ pub record Standing : Type 0 where
   pub unsure : Bool
 
 -- a device of so many sectors that was not used yet
-abbrev pub unused : ℕ → Standing
-unused sectors = record { sectors = sectors; flying = 0; last = 0; faults = 0; events = 0; unsure = false }
+abbrev pub unused : (has_file : Bool) (sectors : ℕ) → Standing
+unused has_file sectors = record { has_file = has_file; sectors = sectors; flying = 0; last = 0; faults = 0; events = 0; unsure = false }
 
 -- what the ticket reads lies in a device of so many sectors
 abbrev pub ReadsInside : ℕ → Ticket → Type 0

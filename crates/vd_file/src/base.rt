@@ -1,6 +1,6 @@
 //! A base over a file.
 
-ghost use Rattle.std.specs.Prelude.{◌≡◌, IfOk};
+ghost use Rattle.std.specs.Prelude.{◌≡◌, IfOk, true, false};
 ghost use Rattle.vd_file.specs.Standing.{unused};
 
 use crate::file::{NotOpened, SectorFile};
@@ -32,7 +32,7 @@ impl FileBase {
         rt: &R,
         path: &str,
     ) -> Result<FileBase, NotOpened>
-        ensures { IfOk result (λ b. b ≡ unused b.sectors) }
+        ensures { IfOk result (λ b. b ≡ unused true b.sectors) }
     {
         let file = SectorFile::open_to_read(rt, path)?;
         Ok(FileBase {
@@ -42,7 +42,7 @@ impl FileBase {
 
     /// A device of no sectors.
     pub fn none() -> FileBase
-        ensures { result ≡ unused 0 }
+        ensures { result ≡ unused false 0 }
     {
         FileBase {
             store: FileStore::none(),

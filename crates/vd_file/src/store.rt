@@ -1,6 +1,6 @@
 //! A store over a file.
 
-ghost use Rattle.std.specs.Prelude.{◌≡◌, ◌+◌, ◌-◌, ◌*◌, ◌^◌, ◌<◌, ◌≤◌, ℕ, [], length, Some, IfOk, IsTrue, IsFalse, true, not, if◌then◌else◌};
+ghost use Rattle.std.specs.Prelude.{◌≡◌, ◌+◌, ◌-◌, ◌*◌, ◌^◌, ◌<◌, ◌≤◌, ℕ, [], length, Some, IfOk, IsTrue, IsFalse, true, false, not, if◌then◌else◌};
 ghost use Rattle.vd_device.specs.Tickets.{IsRange, Puts, Takes, reads};
 ghost use Rattle.vd_device.specs.declared.ticket.Kind.TheVariants.{Read, Flush};
 ghost use Rattle.vd_device.specs.Calls.{next_number, Rose};
@@ -37,11 +37,20 @@ pub struct FileStore {
 
 impl Model for FileStore {
     ghost use Rattle.std.specs.Prelude.{◌<◌, ◌^◌};
+    ghost use Rattle.std.specs.Option.{is_some};
     ghost use Rattle.vd_file.specs.Standing.{Standing};
 
     ghost Value = { Standing };
 
-    ghost view = { λ s. record { sectors = s.sectors; flying = s.flying; last = s.last; faults = s.faults; events = s.events; unsure = s.unsure } };
+    ghost view = { λ s. record {
+      has_file = is_some s.file;
+      sectors = s.sectors;
+      flying = s.flying;
+      last = s.last;
+      faults = s.faults;
+      events = s.events;
+      unsure = s.unsure;
+    } };
 
     ghost invariant = { λ s. s.sectors < 2 ^ 55 };
 }
@@ -54,7 +63,7 @@ impl FileStore {
         path: &str,
         made: Option<u64>,
     ) -> Result<FileStore, NotOpened>
-        ensures unused { IfOk result (λ s. s ≡ unused s.sectors) }
+        ensures unused { IfOk result (λ s. s ≡ unused true s.sectors) }
         ensures made { IfOk result (λ s. (sectors : ℕ) → made ≡ Some sectors → s.sectors ≡ sectors) }
     {
         let file = match made {
@@ -66,7 +75,7 @@ impl FileStore {
 
     /// A device of no sectors.
     pub fn none() -> FileStore
-        ensures { result ≡ unused 0 }
+        ensures { result ≡ unused false 0 }
     {
         FileStore {
             file: None,
@@ -80,7 +89,7 @@ impl FileStore {
     }
 
     pub(crate) fn over(file: SectorFile) -> FileStore
-        ensures { result ≡ unused file.sectors }
+        ensures { result ≡ unused true file.sectors }
     {
         FileStore {
             sectors: file.sectors(),
@@ -130,10 +139,11 @@ impl FileStore {
         }
     }
 
-    /// Once a flush failed, none is done.
+    /// Once a flush failed, none is done. Without a file none fails.
     fn sync(&mut self) -> bool
         ensures done { result ≡ not self.new.unsure }
         ensures kept { IsTrue self.old.unsure → self.new.unsure ≡ true }
+        ensures nowhere { IsFalse self.old.has_file → self.new.unsure ≡ self.old.unsure }
         ensures after { self.new ≡ record self.old { unsure = self.new.unsure } }
     {
         let synced = match &self.file {
@@ -151,6 +161,7 @@ impl FileStore {
         ensures unread { IsFalse result → out.new ≡ out.old }
         ensures flushed { ticket.now.kind ≡ Flush → result ≡ not self.new.unsure }
         ensures kept { IsTrue self.old.unsure → self.new.unsure ≡ true }
+        ensures nowhere { IsFalse self.old.has_file → self.new.unsure ≡ self.old.unsure }
         ensures after { self.new ≡ record self.old { unsure = self.new.unsure } }
     {
         match ticket.kind() {

@@ -1,5 +1,6 @@
 use crate::file::SectorFile;
 use crate::{FileBase, FileStore, NotOpened};
+use std::alloc::Global;
 use std::fs;
 use std::process::Abort;
 use std::test::Fail;
@@ -120,5 +121,107 @@ fn a_base_gives_nothing_where_a_read_fails(rt: HostRuntime) -> Result<(), Fail> 
     assert_eq!(rt; (none.sectors(), FileBase::none().sectors()), (0, 0));
     is_send(&none);
     is_send(&base);
+    Ok(())
+}
+
+/// A store over a device whose flush fails, as a null device's does.
+#[test]
+fn a_flush_that_fails_is_told(rt: HostRuntime) -> Result<(), Fail> {
+    let Ok(mut store) = FileStore::at(&rt, "/dev/null", None) else {
+        panic!(rt; "not opened");
+    };
+    assert_eq!(rt; flush(&rt, &mut store), Err(1));
+    assert_eq!(rt; store.faults(), 1);
+    Ok(())
+}
+
+/// A running program can't be opened to be written.
+#[test]
+fn a_file_that_may_not_be_written_is_read(rt: HostRuntime) -> Result<(), Fail> {
+    let Ok(mut store) = FileStore::at(&rt, "/proc/self/exe", None) else {
+        panic!(rt; "not opened");
+    };
+    let mut out = [Sector::filled(0)];
+    assert_eq!(rt; read(&rt, &mut store, 0, &mut out), Ok(()));
+    assert!(rt; &out[0].bytes[..4] == b"\x7fELF".as_slice());
+    assert_eq!(rt; write(&rt, &mut store, 0, &out), Err(2));
+    Ok(())
+}
+
+/// Sectors that all differ, each by its number.
+fn numbered(alloc: Global, count: u32) -> Result<Vec<Sector>, Fail> {
+    let mut all = Vec::new(alloc);
+    for number in 0..count {
+        let mut sector = Sector::filled(0x5a);
+        for (byte, value) in sector.bytes.iter_mut().zip(number.to_le_bytes()) {
+            *byte = value;
+        }
+        sector.bytes[511] = 0xa5;
+        all.push(sector)?;
+    }
+    Ok(all)
+}
+
+/// Whether a read from `first` on gives these.
+fn are_there<R: Abort + AllocGlobal>(
+    rt: &R,
+    store: &mut FileStore,
+    first: u64,
+    content: &[Sector],
+) -> Result<bool, Fail> {
+    let mut out = vec![in rt.alloc(); Sector::filled(0xff); content.len()]?;
+    let answer = read(rt, store, first, out.as_mut_slice());
+    Ok(answer.is_ok() && out.as_slice() == content)
+}
+
+/// Whether reads of few sectors from `first` on give the first of these.
+fn fronts_are_there<R: Abort + AllocGlobal>(
+    rt: &R,
+    store: &mut FileStore,
+    first: u64,
+    content: &[Sector],
+) -> Result<bool, Fail> {
+    let mut same = true;
+    for count in 1..18 {
+        let front = &content[..content.len().min(count)];
+        same = are_there(rt, store, first, front)? && same;
+    }
+    Ok(same)
+}
+
+#[test]
+fn each_sector_of_a_long_write_is_read_back(rt: HostRuntime) -> Result<(), Fail> {
+    folder(&rt, "vd_file_long")?;
+    let path = "vd_file_long/image";
+    let Ok(mut store) = FileStore::at(&rt, path, Some(1 << 24)) else {
+        panic!(rt; "not made");
+    };
+    assert_eq!(rt; fs::metadata(&rt, path)?.len(), (1 << 24) * 512);
+    let content = numbered(rt.alloc(), 2048)?;
+    for first in [5, (1 << 23) + 9, (1 << 24) - 2048] {
+        assert_eq!(rt; write(&rt, &mut store, first, content.as_slice()), Ok(()));
+        assert!(rt;
+            are_there(&rt, &mut store, first, content.as_slice())?,
+            "at {first}"
+        );
+    }
+    assert_eq!(rt; content.len(), 2048);
+    assert!(rt; fronts_are_there(&rt, &mut store, 5 + 3, &content[3..])?);
+    fs::remove_dir_all(&rt, "vd_file_long")?;
+    Ok(())
+}
+
+#[test]
+fn a_file_that_can_t_be_so_long_is_not_left(rt: HostRuntime) -> Result<(), Fail> {
+    folder(&rt, "vd_file_huge")?;
+    let path = "vd_file_huge/image";
+    assert!(rt;
+        matches!(
+            FileStore::at(&rt, path, Some((1 << 54) - 1)),
+            Err(NotOpened::NoFile)
+        )
+    );
+    assert!(rt; fs::metadata(&rt, path).is_err());
+    fs::remove_dir_all(&rt, "vd_file_huge")?;
     Ok(())
 }

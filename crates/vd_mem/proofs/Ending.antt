@@ -1,5 +1,5 @@
 -- A ticket ends.
-use Rattle.std.proofs.Common.{◌≡◌, ℕ, ◌+◌, ◌-◌, ◌^◌, ◌<◌, ◌≤◌, Bool, true, false, List, [], ◌∷◌, Option, Some, None, length, refl, ap, sym, ◌∙◌, subst, arith, length-append}
+use Rattle.std.proofs.Common.{◌≡◌, ℕ, ◌+◌, ◌-◌, ◌^◌, ◌<◌, ◌≤◌, Bool, true, false, List, [], ◌∷◌, Option, Some, None, length, refl, ap, sym, ◌∙◌, subst, inl, inr, arith, length-append}
 use Rattle.std.specs.Prelude.{if◌then◌else◌, slice_get, slice_range}
 use Rattle.std.specs.Option.{option_map_or}
 use Rattle.vd_law.specs.declared.entry.Sector.{Sector}
@@ -11,10 +11,10 @@ use Rattle.vd_device.specs.declared.ticket.Ticket.{Ticket}
 use Rattle.vd_device.specs.declared.ticket.Kind.{Kind}
 use Rattle.vd_device.specs.declared.ticket.Kind.TheVariants.{Read, Write, Flush}
 use Rattle.vd_device.specs.declared.settled.Settled.{Settled}
-use Rattle.vd_device.specs.declared.settled.Settled.TheVariants.{Done, Failed}
+use Rattle.vd_device.specs.declared.settled.Settled.TheVariants.{Done, NotYet, Failed}
 use Rattle.vd_device.specs.Tickets.{HasAmong, Takes, ticket_id}
-use Rattle.vd_device.specs.Calls.{next_number, done_entry, failed_entry, Tells, Settles, IsCaused}
-use Rattle.vd_device.specs.Disks.{Disk, IsHonest, AreWrites, GrowsBy}
+use Rattle.vd_device.specs.Calls.{next_number, done_entry, failed_entry, settle_entries, Gives, Settles, IsCaused, IsUndone}
+use Rattle.vd_device.specs.Disks.{Disk, IsHonest, AreWrites, GrowsBy, HasStopped}
 use Rattle.vd_device.specs.Orders.{IsInOrder}
 use Rattle.vd_mem.specs.declared.rule.Keep.{Keep}
 use Rattle.vd_mem.specs.declared.rule.Keep.TheVariants.{Old, New}
@@ -24,6 +24,7 @@ use Rattle.vd_mem.specs.Ends.{CanCarryOut}
 use Rattle.vd_mem.specs.Flying.{IsWriting, StandsAs, IsCall, AreCalls, IsWithin, Flies}
 use Rattle.vd_mem.specs.Sound.{IsSound}
 use Rattle.vd_mem.proofs.Choosing.{choose, takes-runs, stopped-over}
+use Rattle.vd_mem.proofs.Taking.{Took}
 use Rattle.vd_mem.proofs.Flights.{all-take, put-length}
 use Rattle.vd_mem.proofs.Sectors.{range-held}
 use Rattle.vd_mem.proofs.Opens.{IsOff}
@@ -144,6 +145,9 @@ module _ (m : Memory) (t : Ticket) (failure : Option Keep) (sound : IsSound m) w
   pub end-within : (others all : List Ticket) → HasAmong t others all → Flies m all → t.first + t.count ≤ length m.held
   end-within others all among flies = inside others all among flies
 
+  pub end-few : (others all : List Ticket) → HasAmong t others all → Flies m all → t.count ≤ 2048
+  end-few others all among flies = (all-take (IsWithin (length m.start)) t others all among flies.within).0.1
+
   pub end-takes : Takes t (Flies m) (Flies (ended_by failure t m))
   end-takes others all among flies =
       let count : m.flying - 1 ≡ length others = omega (arith, flies.many, put-length t others all among) in
@@ -183,11 +187,20 @@ module _ (m : Memory) (t : Ticket) (failure : Option Keep) (sound : IsSound m) w
     flight = (others, end-takes others all among flies);
   }
 
-  pub end-events : events_of m.log m.over ≤ events_of (ended_by failure t m).log (ended_by failure t m).over
-  end-events =
-      choose (λ (m' : Memory). events_of m.log m.over ≤ events_of m'.log m'.over) (can_add m e) in_log stopped
-      (λ can. omega (arith, length-append m.log.entries (e ∷ [])))
-      (λ full. omega arith)
+  -- these are the ticket's last entry where it was added
+  pub end-took : (others all : List Ticket) → HasAmong t others all → Flies m all → (es : List Entry) → (can_add m e ≡ true → es ≡ e ∷ []) → Took es m (ended_by failure t m)
+  end-took others all among flies es last =
+      choose (λ (m' : Memory). Took es m m') (can_add m e) in_log stopped
+      (λ can. let runs = takes-runs m.log m.fuse m.over e can in
+      inl (record { before = runs; after = runs; grows = subst (λ (x : List Entry). GrowsBy x (disk_of m) (disk_of in_log)) (sym (last can)) (grows-so others all among flies runs) }))
+      (λ full. inr (record { start = refl; log = refl; over = refl }))
+
+  -- where the store has stopped, the last entry was not added
+  pub end-full : HasStopped (events_of (ended_by failure t m).log (ended_by failure t m).over) (disk_of (ended_by failure t m)) → can_add m e ≡ false
+  end-full =
+      choose (λ (m' : Memory). HasStopped (events_of m'.log m'.over) (disk_of m') → can_add m e ≡ false) (can_add m e) in_log stopped
+      (λ can above. let runs = takes-runs m.log m.fuse m.over e can in absurd (omega arith))
+      (λ full above. full)
 
 -- What was answered.
 
@@ -216,18 +229,31 @@ same-held Read t log held is = refl
 same-held Write t log held is = cc
 same-held Flush t log held is = refl
 
-done-tells : (t : Ticket) (d d' : Disk) (out' : List Sector) → GrowsBy (done_entry t.kind t (read_by t d.held) ∷ []) d d' → d'.held ≡ carried_out t.kind t d.log d.held → (t.kind ≡ Read → out' ≡ read_by t d.held) → Tells Done t out' d d'
-done-tells t d d' out' g now read = record {
-  grows = subst (λ (x : Entry). GrowsBy (x ∷ []) d d') (sym (done-same t.kind t (read_by t d.held) out' read)) g;
-  gives = λ is s v at. ap (λ (h : List Sector). slice_get h s) (now ∙ same-held t.kind t d.log d.held is)
-      ∙ range-held t.first t.count d.held s v (ap (λ (o : List Sector). sector_in t.first o s) (sym (read is)) ∙ at);
-}
+done-gives : (t : Ticket) (d d' : Disk) (out' : List Sector) → d'.held ≡ carried_out t.kind t d.log d.held → (t.kind ≡ Read → out' ≡ read_by t d.held) → Gives Done t out' d'.held
+done-gives t d d' out' now read = λ is s v at. ap (λ (h : List Sector). slice_get h s) (now ∙ same-held t.kind t d.log d.held is)
+    ∙ range-held t.first t.count d.held s v (ap (λ (o : List Sector). sector_in t.first o s) (sym (read is)) ∙ at)
 
--- what the store tells of a ticket that ended so
-pub answer-tells : (failure : Option Keep) (can : Bool) (answer : Settled) (n : ℕ) (t : Ticket) (d d' : Disk) (out' : List Sector) → answer ≡ answered (is_done failure can) n → can ≡ true
-    → GrowsBy (last_entry failure t d.held ∷ []) d d' → d'.held ≡ last_held failure t d.log d.held → (is_done failure can ≡ true → t.kind ≡ Read → out' ≡ read_by t d.held) → Tells answer t out' d d'
-answer-tells None can answer n t d d' out' is added g now read =
+-- what a read of a ticket that ended so gave
+pub answer-gives : (failure : Option Keep) (can : Bool) (answer : Settled) (n : ℕ) (t : Ticket) (d d' : Disk) (out' : List Sector) → answer ≡ answered (is_done failure can) n → can ≡ true
+    → d'.held ≡ last_held failure t d.log d.held → (is_done failure can ≡ true → t.kind ≡ Read → out' ≡ read_by t d.held) → Gives answer t out' d'.held
+answer-gives None can answer n t d d' out' is added now read =
     let done : answer ≡ Done = is ∙ ap (λ (b : Bool). answered b n) added in
-    subst (λ (a : Settled). Tells a t out' d d') (sym done) (done-tells t d d' out' g now (read added))
-answer-tells (Some keep) can answer n t d d' out' is added g now read =
-    subst (λ (a : Settled). Tells a t out' d d') (sym is) (record { grows = g; gives = tt })
+    subst (λ (a : Settled). Gives a t out' d'.held) (sym done) (done-gives t d d' out' now (read added))
+answer-gives (Some keep) can answer n t d d' out' is added now read = subst (λ (a : Settled). Gives a t out' d'.held) (sym is) tt
+
+-- the entries of a settle that answers so
+pub answer-entries : (failure : Option Keep) (can : Bool) (answer : Settled) (n : ℕ) (t : Ticket) (held out' : List Sector) → answer ≡ answered (is_done failure can) n
+    → (is_done failure can ≡ true → t.kind ≡ Read → out' ≡ read_by t held) → can ≡ true → settle_entries answer t out' ≡ last_entry failure t held ∷ []
+answer-entries None can answer n t held out' is read added =
+    ap (λ (a : Settled). settle_entries a t out') (is ∙ ap (λ (b : Bool). answered b n) added) ∙ ap (λ (x : Entry). x ∷ []) (done-same t.kind t (read_by t held) out' (read added))
+answer-entries (Some keep) can answer n t held out' is read added = ap (λ (a : Settled). settle_entries a t out') is
+
+pub few-entries : (answer : Settled) (t : Ticket) (out : List Sector) → length (settle_entries answer t out) ≤ 1
+few-entries Done t out = omega arith
+few-entries (NotYet same) t out = omega arith
+few-entries (Failed number) t out = omega arith
+
+-- where its last entry was not added, it failed
+pub answer-undone : (failure : Option Keep) (can : Bool) (answer : Settled) (n : ℕ) → answer ≡ answered (is_done failure can) n → can ≡ false → IsUndone answer
+answer-undone None can answer n is full = subst IsUndone (sym (is ∙ ap (λ (b : Bool). answered b n) full)) tt
+answer-undone (Some keep) can answer n is full = subst IsUndone (sym is) tt

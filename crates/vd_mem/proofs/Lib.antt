@@ -5,6 +5,7 @@ pub mod Flying
 pub mod Honest
 pub mod Orders
 pub mod Choosing
+pub mod Taking
 pub mod Submits
 pub mod Ending
 pub mod Views

@@ -20,12 +20,15 @@ use Rattle.vd_device.specs.Tickets.{IsFree, HasAmong, Puts, ticket_id}
 use Rattle.vd_device.specs.Calls.{next_number, issued, asked_read, asked_flush}
 use Rattle.vd_device.specs.Disks.{IsHonest, AreWrites, GrowsBy, Adds}
 use Rattle.vd_device.specs.Orders.{IsInOrder}
+use Rattle.vd_device.specs.Stores.{StoreTakes}
 use Rattle.vd_device.proofs.Flights.{at_front}
 use Rattle.vd_mem.specs.Tapes.{added}
 use Rattle.vd_mem.specs.Memory.{Memory, Runs, disk_of, can_add, submitted}
 use Rattle.vd_mem.specs.Flying.{IsOnlyOpen, StandsAs, AreCalls, IsWithin, Flies}
 use Rattle.vd_mem.specs.Sound.{IsSound}
-use Rattle.vd_mem.proofs.Choosing.{choose, stopped-over}
+use Rattle.vd_mem.specs.Devices.{mem_store}
+use Rattle.vd_mem.proofs.Choosing.{choose, takes-runs, stopped-over}
+use Rattle.vd_mem.proofs.Taking.{Took, takes}
 use Rattle.vd_mem.proofs.Flights.{all-put, put-length}
 use Rattle.vd_mem.proofs.Sectors.{cases-sector, sector-range, get-push}
 use Rattle.vd_mem.proofs.Opens.{IsOff}
@@ -161,6 +164,16 @@ module _ (m : Memory) (t : Ticket) (e : Entry) (submit : IsSubmit m t e) (sound 
       choose (λ (m' : Memory). Runs m' → Adds e (disk_of m) (disk_of m')) (can_add m e) in_log stopped
       (λ can runs. grows t.kind m t e submit.begins (sound.told runs).honest)
       (λ full runs. stopped-over m.over runs)
+
+  pub submit-took : Took (e ∷ []) m (submitted e m)
+  submit-took =
+      choose (λ (m' : Memory). Took (e ∷ []) m m') (can_add m e) in_log stopped
+      (λ can. let runs = takes-runs m.log m.fuse m.over e can in
+      inl (record { before = runs; after = runs; grows = grows t.kind m t e submit.begins (sound.told runs).honest }))
+      (λ full. inr (record { start = refl; log = refl; over = refl }))
+
+  pub submit-takes : StoreTakes mem_store (e ∷ []) m (submitted e m)
+  submit-takes = takes (e ∷ []) m (submitted e m) (omega arith) sound.short submit-took
 
   pub submit-sound : length (submitted e m).log.entries < 2 ^ 63 → IsSound (submitted e m)
   submit-sound short = record {

@@ -12,3 +12,4 @@ pub mod Ends
 pub mod BaseMemory
 pub mod BaseFields
 pub mod Choices
+pub mod Devices

@@ -2,6 +2,7 @@
 
 ghost use Rattle.std.specs.Prelude.{◌≡◌, ◌+◌, ◌≤◌, ◌<◌, ◌^◌, true, false, Some, None, length, slice_range, if◌then◌else◌};
 ghost use Rattle.vd_law.specs.Entries.{entry_of};
+ghost use Rattle.vd_law.specs.Logs.{IsShort};
 ghost use Rattle.vd_device.specs.declared.ticket.Kind.TheVariants.{Read, Write, Flush};
 ghost use Rattle.vd_device.specs.Tickets.{reads};
 ghost use Rattle.vd_device.specs.Calls.{failed_entry as failure, settled_of};
@@ -26,7 +27,8 @@ pub fn call_of(number: u64) -> CallId
 }
 
 fn failure(ticket: &Ticket) -> Event<'static>
-    ensures { entry_of result ≡ failure ticket.now.kind ticket.now }
+    ensures entry { entry_of result ≡ failure ticket.now.kind ticket.now }
+    ensures short { IsShort (entry_of result) }
 {
     let id = call_of(ticket.number());
     match ticket.kind() {
@@ -56,6 +58,7 @@ fn carry_out(held: &mut Vec<Sector>, tape: &Tape, ticket: &Ticket)
 /// Ends a ticket that no rule fails, where the tape has room for it.
 fn complete(held: &mut Vec<Sector>, tape: &mut Tape, ticket: &Ticket, out: &mut [Sector]) -> bool
     requires within { ticket.now.first + ticket.now.count ≤ length held.old.items }
+    requires few { ticket.now.count ≤ 2048 }
     requires room { length out.old ≡ reads ticket.now }
     requires placed { tape.old.over ≡ 0 → CanCarryOut ticket.now.kind ticket.now tape.old.log.entries held.old.items }
     ensures done { result ≡ takes tape.old.log tape.old.fuse tape.old.over (last_entry None ticket.now held.old.items) }
@@ -116,6 +119,7 @@ pub fn end(
     out: &mut [Sector],
 ) -> bool
     requires within { ticket.now.first + ticket.now.count ≤ length held.old.items }
+    requires few { ticket.now.count ≤ 2048 }
     requires room { length out.old ≡ reads ticket.now }
     requires placed { tape.old.over ≡ 0 → CanCarryOut ticket.now.kind ticket.now tape.old.log.entries held.old.items }
     ensures done { result ≡ is_done fault (takes tape.old.log tape.old.fuse tape.old.over (last_entry fault ticket.now held.old.items)) }

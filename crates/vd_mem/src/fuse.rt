@@ -1,14 +1,16 @@
 //! A store that stops after so many events.
 
-ghost use Rattle.std.specs.Prelude.{◌≡◌, Some, None, ◌≢◌, ◌+◌, ◌-◌, ◌<◌, ◌≤◌, ℕ, List, [], ◌∷◌, length};
-ghost use Rattle.vd_device.specs.declared.ticket.Ticket.{Ticket as AnyTicket};
+ghost use Rattle.std.specs.Prelude.{◌≡◌, Some, None, ◌<◌, [], ◌∷◌, length};
 ghost use Rattle.vd_device.specs.declared.ticket.Kind.TheVariants.{Read, Write, Flush};
 ghost use Rattle.vd_device.specs.Tickets.{IsRange, HasPlace, IsFree, IsInFlight, Puts, IsTicket, reads};
-ghost use Rattle.vd_device.specs.Disks.{Adds, AreWrites, IsRunning, Records, TellsOrStopped};
-ghost use Rattle.vd_device.specs.Calls.{IsCalm, Settles, Tells, IsCaused, next_number, asked_read, asked_flush, issued, settled_of, settle_entries};
+ghost use Rattle.vd_device.specs.Disks.{HasStopped};
+ghost use Rattle.vd_device.specs.Calls.{Gives, Settles, IsCaused, IsUndone, asked_read, asked_flush, issued, settled_of, settle_entries};
+ghost use Rattle.vd_device.specs.Frames.{IsNext};
+ghost use Rattle.vd_device.specs.Stores.{StoreCountsStand, StoreTakes};
 ghost use Rattle.vd_mem.specs.Tapes.{events_of};
 ghost use Rattle.vd_mem.specs.Memory.{Runs, disk_of, submitted, waited, wait_answer, polled_once, settle_answer, is_late};
 ghost use Rattle.vd_mem.specs.Flying.{Flies};
+ghost use Rattle.vd_mem.specs.Devices.{fused};
 
 use crate::mem_store::MemStore;
 use vd_device::{Settled, Store, Ticket, Waited};
@@ -92,17 +94,11 @@ impl Store for Fuse {
         requires range { IsRange (length self.old.inner.start) first (length content.now) }
         requires free { IsFree (Flies self.old.inner) 128 first (length content.now) }
         ensures ticket { IsTicket result Write first (length content.now) }
-        ensures number { result.number ≡ next_number self.old.inner.last }
-        ensures last { self.new.inner.last ≡ result.number }
+        ensures next { IsNext fused.last result self.old self.new }
+        ensures rises { Runs self.new.inner → self.old.inner.last < result.number }
         ensures flight { Puts result (Flies self.old.inner) (Flies self.new.inner) }
-        ensures calm { IsCalm self.old.inner.faults self.new.inner.faults self.old.inner.late self.new.inner.late }
-        ensures events { events_of self.old.inner.log self.old.inner.over ≤ events_of self.new.inner.log self.new.inner.over }
-        ensures sectors { length self.new.inner.start ≡ length self.old.inner.start }
-        ensures told_before { Runs self.new.inner → Runs self.old.inner }
-        ensures told { Runs self.new.inner → Adds (issued result content.now) (disk_of self.old.inner) (disk_of self.new.inner) }
-        ensures new_number { Runs self.new.inner → self.old.inner.last < result.number }
-        ensures recorded { Records (issued result content.now ∷ []) (events_of self.old.inner.log self.old.inner.over) (events_of self.new.inner.log self.new.inner.over) (disk_of self.old.inner) (disk_of self.new.inner) }
-        ensures stopped { TellsOrStopped (Runs self.new.inner) (events_of self.new.inner.log self.new.inner.over) (disk_of self.new.inner) }
+        ensures counts { StoreCountsStand fused self.old self.new }
+        ensures takes { StoreTakes fused (issued result content.now ∷ []) self.old self.new }
         ensures after { self.new.inner ≡ submitted (issued result content.now) self.old.inner }
     {
         self.inner.submit_write(first, content)
@@ -112,17 +108,11 @@ impl Store for Fuse {
         requires range { IsRange (length self.old.inner.start) first count }
         requires free { IsFree (Flies self.old.inner) 128 first count }
         ensures ticket { IsTicket result Read first count }
-        ensures number { result.number ≡ next_number self.old.inner.last }
-        ensures last { self.new.inner.last ≡ result.number }
+        ensures next { IsNext fused.last result self.old self.new }
+        ensures rises { Runs self.new.inner → self.old.inner.last < result.number }
         ensures flight { Puts result (Flies self.old.inner) (Flies self.new.inner) }
-        ensures calm { IsCalm self.old.inner.faults self.new.inner.faults self.old.inner.late self.new.inner.late }
-        ensures events { events_of self.old.inner.log self.old.inner.over ≤ events_of self.new.inner.log self.new.inner.over }
-        ensures sectors { length self.new.inner.start ≡ length self.old.inner.start }
-        ensures told_before { Runs self.new.inner → Runs self.old.inner }
-        ensures told { Runs self.new.inner → Adds (asked_read result) (disk_of self.old.inner) (disk_of self.new.inner) }
-        ensures new_number { Runs self.new.inner → self.old.inner.last < result.number }
-        ensures recorded { Records (asked_read result ∷ []) (events_of self.old.inner.log self.old.inner.over) (events_of self.new.inner.log self.new.inner.over) (disk_of self.old.inner) (disk_of self.new.inner) }
-        ensures stopped { TellsOrStopped (Runs self.new.inner) (events_of self.new.inner.log self.new.inner.over) (disk_of self.new.inner) }
+        ensures counts { StoreCountsStand fused self.old self.new }
+        ensures takes { StoreTakes fused (asked_read result ∷ []) self.old self.new }
         ensures after { self.new.inner ≡ submitted (asked_read result) self.old.inner }
     {
         self.inner.submit_read(first, count)
@@ -131,17 +121,11 @@ impl Store for Fuse {
     fn submit_flush(&mut self) -> Ticket
         requires place { HasPlace (Flies self.old.inner) 128 }
         ensures kind { result.kind ≡ Flush }
-        ensures number { result.number ≡ next_number self.old.inner.last }
-        ensures last { self.new.inner.last ≡ result.number }
+        ensures next { IsNext fused.last result self.old self.new }
+        ensures rises { Runs self.new.inner → self.old.inner.last < result.number }
         ensures flight { Puts result (Flies self.old.inner) (Flies self.new.inner) }
-        ensures calm { IsCalm self.old.inner.faults self.new.inner.faults self.old.inner.late self.new.inner.late }
-        ensures events { events_of self.old.inner.log self.old.inner.over ≤ events_of self.new.inner.log self.new.inner.over }
-        ensures sectors { length self.new.inner.start ≡ length self.old.inner.start }
-        ensures told_before { Runs self.new.inner → Runs self.old.inner }
-        ensures told { Runs self.new.inner → Adds (asked_flush result) (disk_of self.old.inner) (disk_of self.new.inner) }
-        ensures new_number { Runs self.new.inner → self.old.inner.last < result.number }
-        ensures recorded { Records (asked_flush result ∷ []) (events_of self.old.inner.log self.old.inner.over) (events_of self.new.inner.log self.new.inner.over) (disk_of self.old.inner) (disk_of self.new.inner) }
-        ensures stopped { TellsOrStopped (Runs self.new.inner) (events_of self.new.inner.log self.new.inner.over) (disk_of self.new.inner) }
+        ensures counts { StoreCountsStand fused self.old self.new }
+        ensures takes { StoreTakes fused (asked_flush result ∷ []) self.old self.new }
         ensures after { self.new.inner ≡ submitted (asked_flush result) self.old.inner }
     {
         self.inner.submit_flush()
@@ -153,12 +137,10 @@ impl Store for Fuse {
         ensures settles { Settles result ticket out.old out.new (Flies self.old.inner) (Flies self.new.inner) }
         ensures cause { IsCaused result self.old.inner.faults self.new.inner.faults self.old.inner.late self.new.inner.late }
         ensures last { self.new.inner.last ≡ self.old.inner.last }
-        ensures events { events_of self.old.inner.log self.old.inner.over ≤ events_of self.new.inner.log self.new.inner.over }
-        ensures sectors { length self.new.inner.start ≡ length self.old.inner.start }
-        ensures told_before { Runs self.new.inner → Runs self.old.inner }
-        ensures told { Runs self.new.inner → Tells result ticket out.new (disk_of self.old.inner) (disk_of self.new.inner) }
-        ensures recorded { Records (settle_entries result ticket out.new) (events_of self.old.inner.log self.old.inner.over) (events_of self.new.inner.log self.new.inner.over) (disk_of self.old.inner) (disk_of self.new.inner) }
-        ensures stopped { TellsOrStopped (Runs self.new.inner) (events_of self.new.inner.log self.new.inner.over) (disk_of self.new.inner) }
+        ensures counts { StoreCountsStand fused self.old self.new }
+        ensures takes { StoreTakes fused (settle_entries result ticket out.new) self.old self.new }
+        ensures gives { Runs self.new.inner → Gives result ticket out.new self.new.inner.held }
+        ensures undone { HasStopped (events_of self.new.inner.log self.new.inner.over) (disk_of self.new.inner) → IsUndone result }
         ensures answer { result ≡ settle_answer self.old.inner ticket }
         ensures after { self.new.inner ≡ polled_once ticket self.old.inner }
     {
@@ -171,12 +153,10 @@ impl Store for Fuse {
         ensures settles { Settles (settled_of result) ticket out.old out.new (Flies self.old.inner) (Flies self.new.inner) }
         ensures cause { IsCaused (settled_of result) self.old.inner.faults self.new.inner.faults self.old.inner.late self.new.inner.late }
         ensures last { self.new.inner.last ≡ self.old.inner.last }
-        ensures events { events_of self.old.inner.log self.old.inner.over ≤ events_of self.new.inner.log self.new.inner.over }
-        ensures sectors { length self.new.inner.start ≡ length self.old.inner.start }
-        ensures told_before { Runs self.new.inner → Runs self.old.inner }
-        ensures told { Runs self.new.inner → Tells (settled_of result) ticket out.new (disk_of self.old.inner) (disk_of self.new.inner) }
-        ensures recorded { Records (settle_entries (settled_of result) ticket out.new) (events_of self.old.inner.log self.old.inner.over) (events_of self.new.inner.log self.new.inner.over) (disk_of self.old.inner) (disk_of self.new.inner) }
-        ensures stopped { TellsOrStopped (Runs self.new.inner) (events_of self.new.inner.log self.new.inner.over) (disk_of self.new.inner) }
+        ensures counts { StoreCountsStand fused self.old self.new }
+        ensures takes { StoreTakes fused (settle_entries (settled_of result) ticket out.new) self.old self.new }
+        ensures gives { Runs self.new.inner → Gives (settled_of result) ticket out.new self.new.inner.held }
+        ensures undone { HasStopped (events_of self.new.inner.log self.new.inner.over) (disk_of self.new.inner) → IsUndone (settled_of result) }
         ensures answer { settled_of result ≡ wait_answer self.old.inner ticket }
         ensures after { self.new.inner ≡ waited ticket self.old.inner }
     {

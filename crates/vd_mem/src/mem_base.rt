@@ -4,9 +4,11 @@ ghost use Rattle.std.specs.Prelude.{◌≡◌, ◌+◌, ◌-◌, ◌<◌, ◌≤
 ghost use Rattle.std.specs.List.{list_any};
 ghost use Rattle.vd_device.specs.declared.ticket.Kind.TheVariants.{Read};
 ghost use Rattle.vd_device.specs.Tickets.{IsRange, IsFree, IsInFlight, Puts, IsTicket, reads};
-ghost use Rattle.vd_device.specs.Calls.{IsCalm, Settles, Gives, IsCaused, next_number, settled_of};
+ghost use Rattle.vd_device.specs.Calls.{Settles, Gives, IsCaused, settled_of};
+ghost use Rattle.vd_device.specs.Frames.{ContentStands, CountsStand, IsNext};
 ghost use Rattle.vd_mem.specs.Rules.{is_hit};
 ghost use Rattle.vd_mem.specs.BaseMemory.{FliesBase, mark_of, read_submitted, read_fails, read_waited, read_answer, read_late, read_polled, poll_answer};
+ghost use Rattle.vd_mem.specs.Devices.{mem_base};
 
 use crate::ends::{answer, settled};
 use crate::rule::Rule;
@@ -123,12 +125,10 @@ impl Base for MemBase {
         requires range { IsRange (length self.old.content) first count }
         requires free { IsFree (FliesBase self.old) 128 first count }
         ensures ticket { IsTicket result Read first count }
-        ensures number { result.number ≡ next_number self.old.last }
-        ensures last { self.new.last ≡ result.number }
+        ensures next { IsNext mem_base.last result self.old self.new }
         ensures flight { Puts result (FliesBase self.old) (FliesBase self.new) }
-        ensures calm { IsCalm self.old.faults self.new.faults self.old.late self.new.late }
-        ensures sectors { length self.new.content ≡ length self.old.content }
-        ensures content { self.new.content ≡ self.old.content }
+        ensures counts { CountsStand mem_base.sectors mem_base.depth mem_base.faults mem_base.late self.old self.new }
+        ensures telling { ContentStands mem_base.tells mem_base.content self.old self.new }
         // whether a rule by sector fails it, and the base's new state, whole
         ensures mark { result.mark ≡ mark_of (list_any (is_hit first count) self.old.rules) }
         ensures after { self.new ≡ read_submitted first count self.old }
@@ -144,9 +144,9 @@ impl Base for MemBase {
         ensures settles { Settles result ticket out.old out.new (FliesBase self.old) (FliesBase self.new) }
         ensures cause { IsCaused result self.old.faults self.new.faults self.old.late self.new.late }
         ensures last { self.new.last ≡ self.old.last }
-        ensures sectors { length self.new.content ≡ length self.old.content }
-        ensures content { self.new.content ≡ self.old.content }
-        ensures told { Gives result ticket out.new self.new.content }
+        ensures counts { CountsStand mem_base.sectors mem_base.depth mem_base.faults mem_base.late self.old self.new }
+        ensures telling { ContentStands mem_base.tells mem_base.content self.old self.new }
+        ensures gives { Gives result ticket out.new self.new.content }
         // which answer, and the base's new state, whole
         ensures answer { result ≡ poll_answer self.old ticket }
         ensures after { self.new ≡ read_polled ticket self.old }
@@ -164,9 +164,9 @@ impl Base for MemBase {
         ensures settles { Settles (settled_of result) ticket out.old out.new (FliesBase self.old) (FliesBase self.new) }
         ensures cause { IsCaused (settled_of result) self.old.faults self.new.faults self.old.late self.new.late }
         ensures last { self.new.last ≡ self.old.last }
-        ensures sectors { length self.new.content ≡ length self.old.content }
-        ensures content { self.new.content ≡ self.old.content }
-        ensures told { Gives (settled_of result) ticket out.new self.new.content }
+        ensures counts { CountsStand mem_base.sectors mem_base.depth mem_base.faults mem_base.late self.old self.new }
+        ensures telling { ContentStands mem_base.tells mem_base.content self.old self.new }
+        ensures gives { Gives (settled_of result) ticket out.new self.new.content }
         // which answer, and the base's new state, whole
         ensures answer { settled_of result ≡ read_answer self.old ticket }
         ensures after { self.new ≡ read_waited ticket self.old }

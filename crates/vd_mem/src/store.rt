@@ -1,14 +1,16 @@
 //! The calls of a store in memory.
 
-ghost use Rattle.std.specs.Prelude.{◌≡◌, ◌≢◌, ◌+◌, ◌-◌, ◌<◌, ◌≤◌, ℕ, List, [], ◌∷◌, length};
-ghost use Rattle.vd_device.specs.declared.ticket.Ticket.{Ticket as AnyTicket};
+ghost use Rattle.std.specs.Prelude.{◌≡◌, ◌<◌, [], ◌∷◌, length};
 ghost use Rattle.vd_device.specs.declared.ticket.Kind.TheVariants.{Read, Write, Flush};
 ghost use Rattle.vd_device.specs.Tickets.{IsRange, HasPlace, IsFree, IsInFlight, Puts, IsTicket, reads};
-ghost use Rattle.vd_device.specs.Disks.{Adds, AreWrites, IsRunning, Records, TellsOrStopped};
-ghost use Rattle.vd_device.specs.Calls.{IsCalm, Settles, Tells, IsCaused, next_number, asked_read, asked_flush, issued, settled_of, settle_entries};
+ghost use Rattle.vd_device.specs.Disks.{HasStopped};
+ghost use Rattle.vd_device.specs.Calls.{Gives, Settles, IsCaused, IsUndone, asked_read, asked_flush, issued, settled_of, settle_entries};
+ghost use Rattle.vd_device.specs.Frames.{IsNext};
+ghost use Rattle.vd_device.specs.Stores.{StoreCountsStand, StoreTakes};
 ghost use Rattle.vd_mem.specs.Tapes.{events_of};
 ghost use Rattle.vd_mem.specs.Memory.{Runs, disk_of, submitted, waited, wait_answer, polled_once, settle_answer, is_late};
 ghost use Rattle.vd_mem.specs.Flying.{Flies};
+ghost use Rattle.vd_mem.specs.Devices.{mem_store};
 
 use crate::ends::{answer, call_of, end, settled};
 use crate::mem_store::MemStore;
@@ -81,17 +83,11 @@ impl Store for MemStore {
         requires range { IsRange (length self.old.start) first (length content.now) }
         requires free { IsFree (Flies self.old) 128 first (length content.now) }
         ensures ticket { IsTicket result Write first (length content.now) }
-        ensures number { result.number ≡ next_number self.old.last }
-        ensures last { self.new.last ≡ result.number }
+        ensures next { IsNext mem_store.last result self.old self.new }
+        ensures rises { Runs self.new → self.old.last < result.number }
         ensures flight { Puts result (Flies self.old) (Flies self.new) }
-        ensures calm { IsCalm self.old.faults self.new.faults self.old.late self.new.late }
-        ensures events { events_of self.old.log self.old.over ≤ events_of self.new.log self.new.over }
-        ensures sectors { length self.new.start ≡ length self.old.start }
-        ensures told_before { Runs self.new → Runs self.old }
-        ensures told { Runs self.new → Adds (issued result content.now) (disk_of self.old) (disk_of self.new) }
-        ensures new_number { Runs self.new → self.old.last < result.number }
-        ensures recorded { Records (issued result content.now ∷ []) (events_of self.old.log self.old.over) (events_of self.new.log self.new.over) (disk_of self.old) (disk_of self.new) }
-        ensures stopped { TellsOrStopped (Runs self.new) (events_of self.new.log self.new.over) (disk_of self.new) }
+        ensures counts { StoreCountsStand mem_store self.old self.new }
+        ensures takes { StoreTakes mem_store (issued result content.now ∷ []) self.old self.new }
         // the store's new state, whole
         ensures after { self.new ≡ submitted (issued result content.now) self.old }
     {
@@ -106,17 +102,11 @@ impl Store for MemStore {
         requires range { IsRange (length self.old.start) first count }
         requires free { IsFree (Flies self.old) 128 first count }
         ensures ticket { IsTicket result Read first count }
-        ensures number { result.number ≡ next_number self.old.last }
-        ensures last { self.new.last ≡ result.number }
+        ensures next { IsNext mem_store.last result self.old self.new }
+        ensures rises { Runs self.new → self.old.last < result.number }
         ensures flight { Puts result (Flies self.old) (Flies self.new) }
-        ensures calm { IsCalm self.old.faults self.new.faults self.old.late self.new.late }
-        ensures events { events_of self.old.log self.old.over ≤ events_of self.new.log self.new.over }
-        ensures sectors { length self.new.start ≡ length self.old.start }
-        ensures told_before { Runs self.new → Runs self.old }
-        ensures told { Runs self.new → Adds (asked_read result) (disk_of self.old) (disk_of self.new) }
-        ensures new_number { Runs self.new → self.old.last < result.number }
-        ensures recorded { Records (asked_read result ∷ []) (events_of self.old.log self.old.over) (events_of self.new.log self.new.over) (disk_of self.old) (disk_of self.new) }
-        ensures stopped { TellsOrStopped (Runs self.new) (events_of self.new.log self.new.over) (disk_of self.new) }
+        ensures counts { StoreCountsStand mem_store self.old self.new }
+        ensures takes { StoreTakes mem_store (asked_read result ∷ []) self.old self.new }
         ensures after { self.new ≡ submitted (asked_read result) self.old }
     {
         let number = self.tickets.submit();
@@ -130,17 +120,11 @@ impl Store for MemStore {
     fn submit_flush(&mut self) -> Ticket
         requires place { HasPlace (Flies self.old) 128 }
         ensures kind { result.kind ≡ Flush }
-        ensures number { result.number ≡ next_number self.old.last }
-        ensures last { self.new.last ≡ result.number }
+        ensures next { IsNext mem_store.last result self.old self.new }
+        ensures rises { Runs self.new → self.old.last < result.number }
         ensures flight { Puts result (Flies self.old) (Flies self.new) }
-        ensures calm { IsCalm self.old.faults self.new.faults self.old.late self.new.late }
-        ensures events { events_of self.old.log self.old.over ≤ events_of self.new.log self.new.over }
-        ensures sectors { length self.new.start ≡ length self.old.start }
-        ensures told_before { Runs self.new → Runs self.old }
-        ensures told { Runs self.new → Adds (asked_flush result) (disk_of self.old) (disk_of self.new) }
-        ensures new_number { Runs self.new → self.old.last < result.number }
-        ensures recorded { Records (asked_flush result ∷ []) (events_of self.old.log self.old.over) (events_of self.new.log self.new.over) (disk_of self.old) (disk_of self.new) }
-        ensures stopped { TellsOrStopped (Runs self.new) (events_of self.new.log self.new.over) (disk_of self.new) }
+        ensures counts { StoreCountsStand mem_store self.old self.new }
+        ensures takes { StoreTakes mem_store (asked_flush result ∷ []) self.old self.new }
         ensures after { self.new ≡ submitted (asked_flush result) self.old }
     {
         let number = self.tickets.submit();
@@ -157,12 +141,10 @@ impl Store for MemStore {
         ensures settles { Settles result ticket out.old out.new (Flies self.old) (Flies self.new) }
         ensures cause { IsCaused result self.old.faults self.new.faults self.old.late self.new.late }
         ensures last { self.new.last ≡ self.old.last }
-        ensures events { events_of self.old.log self.old.over ≤ events_of self.new.log self.new.over }
-        ensures sectors { length self.new.start ≡ length self.old.start }
-        ensures told_before { Runs self.new → Runs self.old }
-        ensures told { Runs self.new → Tells result ticket out.new (disk_of self.old) (disk_of self.new) }
-        ensures recorded { Records (settle_entries result ticket out.new) (events_of self.old.log self.old.over) (events_of self.new.log self.new.over) (disk_of self.old) (disk_of self.new) }
-        ensures stopped { TellsOrStopped (Runs self.new) (events_of self.new.log self.new.over) (disk_of self.new) }
+        ensures counts { StoreCountsStand mem_store self.old self.new }
+        ensures takes { StoreTakes mem_store (settle_entries result ticket out.new) self.old self.new }
+        ensures gives { Runs self.new → Gives result ticket out.new self.new.held }
+        ensures undone { HasStopped (events_of self.new.log self.new.over) (disk_of self.new) → IsUndone result }
         // which answer, and the store's new state, whole
         ensures answer { result ≡ settle_answer self.old ticket }
         ensures after { self.new ≡ polled_once ticket self.old }
@@ -180,12 +162,10 @@ impl Store for MemStore {
         ensures settles { Settles (settled_of result) ticket out.old out.new (Flies self.old) (Flies self.new) }
         ensures cause { IsCaused (settled_of result) self.old.faults self.new.faults self.old.late self.new.late }
         ensures last { self.new.last ≡ self.old.last }
-        ensures events { events_of self.old.log self.old.over ≤ events_of self.new.log self.new.over }
-        ensures sectors { length self.new.start ≡ length self.old.start }
-        ensures told_before { Runs self.new → Runs self.old }
-        ensures told { Runs self.new → Tells (settled_of result) ticket out.new (disk_of self.old) (disk_of self.new) }
-        ensures recorded { Records (settle_entries (settled_of result) ticket out.new) (events_of self.old.log self.old.over) (events_of self.new.log self.new.over) (disk_of self.old) (disk_of self.new) }
-        ensures stopped { TellsOrStopped (Runs self.new) (events_of self.new.log self.new.over) (disk_of self.new) }
+        ensures counts { StoreCountsStand mem_store self.old self.new }
+        ensures takes { StoreTakes mem_store (settle_entries (settled_of result) ticket out.new) self.old self.new }
+        ensures gives { Runs self.new → Gives (settled_of result) ticket out.new self.new.held }
+        ensures undone { HasStopped (events_of self.new.log self.new.over) (disk_of self.new) → IsUndone (settled_of result) }
         // which answer, and the store's new state, whole
         ensures answer { settled_of result ≡ wait_answer self.old ticket }
         ensures after { self.new ≡ waited ticket self.old }

@@ -1,7 +1,7 @@
 //! A log that stops where it has no room.
 
 ghost use Rattle.std.specs.Prelude.{◌≡◌, ℕ, ◌+◌, ◌^◌, ◌<◌, ◌≤◌, [], ◌∷◌, ◌++◌, length, Some, IfOk, slice_get, vec_capacity};
-ghost use Rattle.vd_law.specs.Logs.{content_of};
+ghost use Rattle.vd_law.specs.Logs.{content_of, IsShort};
 ghost use Rattle.vd_law.specs.Entries.{entry_of};
 ghost use Rattle.vd_mem.specs.Tapes.{blank, runs_on, takes, taped, sealed_by, events_of, content_at};
 
@@ -107,6 +107,7 @@ impl Tape {
 
     /// Adds an event, whose call began at this place. Where there is no room for it the tape stops, and answers false.
     pub fn add(&mut self, event: Event<'_>, origin: u64) -> bool
+        requires { IsShort (entry_of event) }
         ensures added { result ≡ takes self.old.log self.old.fuse self.old.over (entry_of event.entry) }
         ensures after { self.new ≡ taped (entry_of event.entry) origin self.old }
         ensures short { length self.new.log.entries < 2 ^ 63 }

@@ -33,6 +33,6 @@ returns-clause-settles c =
     rw (sym c.self.view_is) (answer-settles (not c.fails-done.result) (settled_of c.answer.result) c.spend.result c.args.ticket c.args.out.now c.give.new.out (FliesBase (before c)) (FliesBase (after c)) c.answer.ensures c.spend.ensures c.give.ensures.unread
     (base-takes (before c) (after c) c.args.ticket refl (ap (λ t. t.flying) c.end.ensures.after)))
 
-pub returns-clause-told : goal.returns-clause-told
-returns-clause-told c =
+pub returns-clause-gives : goal.returns-clause-gives
+returns-clause-gives c =
     base-gives (not c.fails-done.result) (settled_of c.answer.result) c.spend.result c.args.ticket c.give.new.out c.self.inside.content.items c.answer.ensures c.give.ensures.read

@@ -1,16 +1,17 @@
-use Rattle.std.proofs.Common.{◌≡◌, ℕ, ◌^◌, ◌<◌, length, refl, sym, ◌∙◌, ap, subst}
+use Rattle.std.proofs.Common.{◌≡◌, ℕ, ◌^◌, ◌<◌, [], ◌∷◌, length, refl, sym, ◌∙◌, ap, subst}
 use Rattle.vd_law.specs.declared.entry.CallId.{CallId}
 use Rattle.vd_law.specs.Entries.{Entry, Issue}
 use Rattle.vd_device.specs.Tickets.{Puts, ticket_id}
 use Rattle.vd_device.specs.Calls.{issued}
-use Rattle.vd_device.specs.Disks.{Adds}
+use Rattle.vd_device.specs.Stores.{StoreTakes}
 use Rattle.vd_mem.specs.Tapes.{taped}
-use Rattle.vd_mem.specs.Memory.{Memory, Runs, disk_of, submitted}
+use Rattle.vd_mem.specs.Memory.{Memory, submitted}
 use Rattle.vd_mem.specs.Flying.{Flies}
 use Rattle.vd_mem.specs.Sound.{IsSound}
+use Rattle.vd_mem.specs.Devices.{mem_store}
 use Rattle.vd_mem.specs.Traced.{IsTraced}
 use Rattle.vd_mem.specs.StoreFields.{memory_of}
-use Rattle.vd_mem.proofs.Submits.{IsSubmit, submit-puts, submit-adds, submit-sound}
+use Rattle.vd_mem.proofs.Submits.{IsSubmit, submit-puts, submit-takes, submit-sound}
 use Rattle.vd_mem.proofs.Tracing.{submit-traced}
 use Rattle.vd_mem.proofs.Views.{memory, memory-submitted, write-submit}
 use Rattle.vd_mem.proofs.store.MemStoreStore.submit_write.Goals as goal
@@ -50,6 +51,6 @@ pub returns-clause-flight : goal.returns-clause-flight
 returns-clause-flight c =
     rw (sym c.self.view_is) (subst (λ (m : Memory). Puts c.new.result (Flies (before c)) (Flies m)) (sym (is c)) (submit-puts (before c) c.new.result (entry c) (submit c) c.self.invariant.sound))
 
-pub returns-clause-told : goal.returns-clause-told
-returns-clause-told c =
-    rw (sym c.self.view_is) (subst (λ (m : Memory). Runs m → Adds (entry c) (disk_of (before c)) (disk_of m)) (sym (is c)) (submit-adds (before c) c.new.result (entry c) (submit c) c.self.invariant.sound))
+pub returns-clause-takes : goal.returns-clause-takes
+returns-clause-takes c =
+    rw (sym c.self.view_is) (subst (λ (m : Memory). StoreTakes mem_store (entry c ∷ []) (before c) m) (sym (is c)) (submit-takes (before c) c.new.result (entry c) (submit c) c.self.invariant.sound))

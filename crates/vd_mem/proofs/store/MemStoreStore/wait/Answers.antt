@@ -1,13 +1,18 @@
-use Rattle.std.proofs.Common.{◌≡◌, ◌^◌, ◌<◌, ◌≤◌, Bool, length, refl, sym, ◌∙◌, ap, subst}
+use Rattle.std.proofs.Common.{◌≡◌, ◌^◌, ◌<◌, Bool, true, length, refl, sym, ◌∙◌, ap, subst}
 use Rattle.vd_device.specs.Tickets.{Takes}
-use Rattle.vd_device.specs.Calls.{settled_of, Tells}
+use Rattle.vd_device.specs.declared.ticket.Kind.TheVariants.{Read}
+use Rattle.vd_device.specs.Calls.{settled_of, settle_entries, Gives}
+use Rattle.vd_device.specs.Disks.{HasStopped}
+use Rattle.vd_device.specs.Stores.{StoreTakes}
 use Rattle.vd_mem.specs.Tapes.{events_of}
-use Rattle.vd_mem.specs.Memory.{Memory, Runs, disk_of, ended_by, can_add, last_entry}
+use Rattle.vd_mem.specs.Memory.{Memory, Runs, disk_of, ended_by, can_add, is_done, last_entry}
 use Rattle.vd_mem.specs.Flying.{Flies}
 use Rattle.vd_mem.specs.Sound.{IsSound}
+use Rattle.vd_mem.specs.Devices.{mem_store}
 use Rattle.vd_mem.specs.Traced.{IsTraced}
 use Rattle.vd_mem.specs.StoreFields.{memory_of}
-use Rattle.vd_mem.proofs.Ending.{end-placed, end-within, end-takes, end-grows, end-sound, end-events, answered, answer-settles, answer-caused, answer-tells}
+use Rattle.vd_mem.proofs.Taking.{takes}
+use Rattle.vd_mem.proofs.Ending.{end-placed, end-within, end-few, end-takes, end-took, end-full, end-grows, end-sound, answered, read_by, answer-settles, answer-caused, answer-gives, answer-entries, few-entries, answer-undone}
 use Rattle.vd_mem.proofs.Tracing.{end-traced}
 use Rattle.vd_mem.proofs.Views.{memory, memory-ended}
 use Rattle.vd_mem.proofs.store.MemStoreStore.wait.Goals as goal
@@ -16,6 +21,11 @@ pub end-done-requires-clause-within : goal.end-done-requires-clause-within
 end-done-requires-clause-within c =
     let mine = rw (sym c.self.view_is) at c.requires.mine in
     end-within (memory_of c.self.inside) c.args.ticket c.fault-fault.result c.self.invariant.sound mine.0 mine.1 mine.2 mine.3
+
+pub end-done-requires-clause-few : goal.end-done-requires-clause-few
+end-done-requires-clause-few c =
+    let mine = rw (sym c.self.view_is) at c.requires.mine in
+    end-few (memory_of c.self.inside) c.args.ticket c.fault-fault.result c.self.invariant.sound mine.0 mine.1 mine.2 mine.3
 
 pub end-done-requires-clause-placed : goal.end-done-requires-clause-placed
 end-done-requires-clause-placed c =
@@ -27,6 +37,12 @@ before c = memory_of c.self.inside
 
 abbrev after : goal.After-answer → Memory
 after c = memory c.self.inside.start.items c.end-done.new.held.items c.end-done.new.tape c.end.new.self
+
+abbrev can : goal.After-answer → Bool
+can c = can_add (before c) (last_entry c.fault-fault.result c.args.ticket c.self.inside.held.items)
+
+abbrev ended : goal.After-answer → Memory
+ended c = ended_by c.fault-fault.result c.args.ticket (before c)
 
 is : (c : goal.After-answer) → after c ≡ ended_by c.fault-fault.result c.args.ticket (before c)
 is c = memory-ended c.self.inside.start.items c.self.inside.held.items c.end-done.new.held.items c.self.inside.tape c.end-done.new.tape c.self.inside.tickets c.end.new.self c.fault-fault.result c.args.ticket c.end-done.result
@@ -52,15 +68,29 @@ returns-clause-cause c =
     rw (sym c.self.view_is) (answer-caused c.end-done.result (settled_of c.answer.result) c.spend.result c.self.inside.tickets.faults c.end.new.self.faults c.self.inside.tickets.late c.end.new.self.late c.answer.ensures
     (ap (λ t. t.faults) c.end.ensures.after) c.end.ensures.calm (ap (λ t. t.late) c.end.ensures.after))
 
-pub returns-clause-events : goal.returns-clause-events
-returns-clause-events c =
-    rw (sym c.self.view_is) (subst (λ (m : Memory). events_of (before c).log (before c).over ≤ events_of m.log m.over) (sym (is c)) (end-events (before c) c.args.ticket c.fault-fault.result c.self.invariant.sound))
+is-answer : (c : goal.After-answer) → settled_of c.answer.result ≡ answered (is_done c.fault-fault.result (can c)) c.spend.result
+is-answer c = c.answer.ensures ∙ ap (λ (b : Bool). answered b c.spend.result) c.end-done.ensures.done
 
-pub returns-clause-told : goal.returns-clause-told
-returns-clause-told c runs =
+was-read : (c : goal.After-answer) → is_done c.fault-fault.result (can c) ≡ true → c.args.ticket.kind ≡ Read → c.end-done.new.out ≡ read_by c.args.ticket c.self.inside.held.items
+was-read c done = c.end-done.ensures.read (c.end-done.ensures.done ∙ done)
+
+pub returns-clause-takes : goal.returns-clause-takes
+returns-clause-takes c =
+    let mine = rw (sym c.self.view_is) at c.requires.mine in let answer = settled_of c.answer.result in
+    let es = settle_entries answer c.args.ticket c.end-done.new.out in
+    rw (sym c.self.view_is) (subst (λ (m : Memory). StoreTakes mem_store es (before c) m) (sym (is c))
+    (takes es (before c) (ended c) (few-entries answer c.args.ticket c.end-done.new.out) c.self.invariant.sound.short
+    (end-took (before c) c.args.ticket c.fault-fault.result c.self.invariant.sound mine.0 mine.1 mine.2 mine.3 es
+    (answer-entries c.fault-fault.result (can c) answer c.spend.result c.args.ticket c.self.inside.held.items c.end-done.new.out (is-answer c) (was-read c)))))
+
+pub returns-clause-gives : goal.returns-clause-gives
+returns-clause-gives c runs =
     let mine = rw (sym c.self.view_is) at c.requires.mine in
     let grows = end-grows (before c) c.args.ticket c.fault-fault.result c.self.invariant.sound mine.0 mine.1 mine.2 mine.3 (subst Runs (is c) runs) in
-    let can = can_add (before c) (last_entry c.fault-fault.result c.args.ticket c.self.inside.held.items) in
-    rw (sym c.self.view_is) (subst (λ (m : Memory). Tells (settled_of c.answer.result) c.args.ticket c.end-done.new.out (disk_of (before c)) (disk_of m)) (sym (is c))
-    (answer-tells c.fault-fault.result can (settled_of c.answer.result) c.spend.result c.args.ticket (disk_of (before c)) (disk_of (ended_by c.fault-fault.result c.args.ticket (before c))) c.end-done.new.out
-    (c.answer.ensures ∙ ap (λ (b : Bool). answered b c.spend.result) c.end-done.ensures.done) grows.0 grows.1 grows.2 (λ done. c.end-done.ensures.read (c.end-done.ensures.done ∙ done))))
+    subst (λ (m : Memory). Gives (settled_of c.answer.result) c.args.ticket c.end-done.new.out m.held) (sym (is c))
+    (answer-gives c.fault-fault.result (can c) (settled_of c.answer.result) c.spend.result c.args.ticket (disk_of (before c)) (disk_of (ended c)) c.end-done.new.out (is-answer c) grows.0 grows.2 (was-read c))
+
+pub returns-clause-undone : goal.returns-clause-undone
+returns-clause-undone c stopped =
+    answer-undone c.fault-fault.result (can c) (settled_of c.answer.result) c.spend.result (is-answer c)
+    (end-full (before c) c.args.ticket c.fault-fault.result c.self.invariant.sound (subst (λ (m : Memory). HasStopped (events_of m.log m.over) (disk_of m)) (is c) stopped))
