@@ -14,11 +14,11 @@ use Rattle.vd_passes.specs.Places.{place_of}
 use Rattle.vd_passes.specs.Coherent.{IsCoherent}
 use Rattle.vd_passes.proofs.Tracks.{track-contents}
 use Rattle.vd_core.specs.Start.{IsStart, opening_at}
-use Rattle.vd_core.specs.Kept.{IsTold}
+use Rattle.vd_core.specs.Kept.{IsFaithfullyKept}
 use Rattle.vd_core.specs.Agreeing.{AgreesWith}
 
 pub told-agrees : {shape : Shape} {h : Header} {table : Given} {fresh : List Bool} {passes : List Pass} {history : Numbered} {disk : Disk} {last sectors depth base_depth : ℕ} {base : List Sector} {base_sectors : ℕ} {flies base_flies : List Ticket → Type 0}
-    → IsCoherent shape fresh (place_of shape table.chunks) passes history.log.entries sectors depth base_sectors base_depth flies base_flies → IsTold shape h table fresh passes history disk last base base_sectors
+    → IsCoherent shape fresh (place_of shape table.chunks) passes history.log.entries sectors depth base_sectors base_depth flies base_flies → IsFaithfullyKept shape h table fresh passes history disk last base base_sectors
     → (start : List Sector) → IsStart (opening_at history.opened disk) base h start → AgreesWith shape table fresh start base history.log.entries disk
 told-agrees {shape = shape} {history = history} {disk = disk} {base = base} coherent told start is =
     let faithful = told.faithful start is in

@@ -12,6 +12,7 @@ pub can-add-next : {events sectors : ℕ} {old new : Numbered} → Extends (even
 can-add-next {events} {sectors} {old} {new} extends left = record {
   event = let used = extends.events_left in omega arith;
   sectors_fit = omega arith;
+  short = omega arith;
   later = let last = last-extended extends in omega arith;
 }
 

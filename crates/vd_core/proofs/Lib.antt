@@ -4,11 +4,14 @@ pub mod Copied
 pub mod Ended
 pub mod Entered
 pub mod Entries
+pub mod Fetched
 pub mod Keeping
+pub mod Known
 pub mod Leaving
 pub mod Local
 pub mod LocalSteps
 pub mod Moving
+pub mod Opened
 pub mod NewPasses
 pub mod Picked
 pub mod Placed

@@ -25,14 +25,14 @@ use Rattle.vd_passes.specs.Coherent.{IsCoherent}
 use Rattle.vd_passes.specs.Steps.{IsAt, Replies, Issues, EndsWrite, WriteSettled, Sees, EndsRead, LookSettled, BaseLookSettled}
 use Rattle.vd_passes.proofs.Lists.{some-inj}
 use Rattle.std.proofs.lemmas.List.{append_assoc}
-use Rattle.vd_core.specs.Asking.{AskEnds}
+use Rattle.vd_core.specs.Asking.{asking, AskEnds}
 use Rattle.vd_core.specs.Local.{AreLocalBy}
 use Rattle.vd_core.proofs.Local.{entry-local, same-local, done-local}
 
 module _ {shape : Shape} {had : List MapEntry} {fresh : List Bool} where
   -- A pass asks, by how that ends.
   pub ask_ends-local : {passes passes' : List Pass} {table table' : Given} {history history' : Numbered} {left left' : Room} (i events : ℕ) (result : Option Answer) (request : Asked)
-      → AskEnds result request shape i table table' passes passes' history history' left left' events → AreLocalBy shape had fresh history.log.entries → AreLocalBy shape had fresh history'.log.entries
+      → AskEnds result request events i (asking shape table passes history left) (asking shape table' passes' history' left') → AreLocalBy shape had fresh history.log.entries → AreLocalBy shape had fresh history'.log.entries
   ask_ends-local {history = history} {left = left} {left' = left'} i events result request (inl room) local = same-local (ap (λ (h : Numbered). h.log.entries) room.2.history_same) local
   ask_ends-local {history = history} {history' = history'} {left = left} {left' = left'} i events result request (inr (inl full)) local =
       let e = full.3.asks in let id : CallId = record { pass = i; call = e.pass.call + 1 } in

@@ -24,10 +24,10 @@ use Rattle.vd_passes.proofs.Lists.{some-inj}
 use Rattle.vd_passes.proofs.Needing.{pieces-left, pieces-behind, pieces-last}
 use Rattle.vd_core.specs.declared.outcome.Step.{Step}
 use Rattle.vd_core.specs.declared.outcome.Step.TheVariants.{Again, Busy, Ended}
-use Rattle.vd_core.specs.Fetching.{FetchesBlock}
+use Rattle.vd_core.proofs.Fetched.{FetchesIn}
 use Rattle.vd_core.specs.Outcomes.{outcome_of, step_of}
 use Rattle.vd_core.proofs.Ended.{set-there}
-use Rattle.vd_core.specs.Moves.{IsNoAsk, steps_in, steps_left, Moves, Drives, IsStanding}
+use Rattle.vd_core.specs.Moves.{IsNoAsk, steps_in, steps_left, Moves, work, Drives, IsStanding}
 
 -- a room is as large as itself
 pub same-room : (left : Room) → (left.events ≤ left.events) × (left.sectors ≤ left.sectors)
@@ -50,7 +50,7 @@ steps-at : (block : ℕ) (p : Pass) (phase : Phase) (write : Bool) → p.phase �
 steps-at block p phase write is_phase is_write = ap (λ ph. steps_in ph p.write (pieces_left block p)) is_phase ∙ ap (λ (w : Bool). steps_in phase w (pieces_left block p)) is_write
 
 module _ {shape : Shape} {i : ℕ} {passes passes' : List Pass} (entries : List Entry) (left : Room) where
-  pub enters-drives : {places : ℕ → Option ℕ} (p : Pass) → slice_get passes i ≡ Some p → p.phase ≡ Asked → Enters shape places i passes passes' → Drives Again shape.block i passes passes' entries entries left left
+  pub enters-drives : {places : ℕ → Option ℕ} (p : Pass) → slice_get passes i ≡ Some p → p.phase ≡ Asked → Enters shape places i passes passes' → Drives Again shape.block i (work passes entries left) (work passes' entries left)
   enters-drives {places} p there phase step =
       let same : p ≡ step.pass = some-inj (sym there ∙ step.there) in let asked : step.pass.phase ≡ Asked = ap (λ (q : Pass). q.phase) (sym same) ∙ phase in
       record {
@@ -71,7 +71,7 @@ ready-ready : (write : Bool) (n m : ℕ) → steps_in Ready write n ≡ steps_in
 ready-ready write n m = refl
 
 module _ {shape : Shape} {i : ℕ} {passes passes' : List Pass} (entries : List Entry) (left : Room) where
-  pub fetches-drives : {base_flies base_flies' : List Ticket → Type 0} (p : Pass) → slice_get passes i ≡ Some p → p.phase ≡ Held → p.write ≡ true → IsStanding shape p → FetchesBlock shape i passes passes' base_flies base_flies' → Drives Again shape.block i passes passes' entries entries left left
+  pub fetches-drives : {base_flies base_flies' : List Ticket → Type 0} (p : Pass) → slice_get passes i ≡ Some p → p.phase ≡ Held → p.write ≡ true → IsStanding shape p → FetchesIn shape i passes passes' base_flies base_flies' → Drives Again shape.block i (work passes entries left) (work passes' entries left)
   fetches-drives {base_flies} {base_flies'} p there phase write stands (inl reads) =
       let step = reads.0 in let same : p ≡ step.pass = some-inj (sym there ∙ step.there) in
       let held : step.pass.phase ≡ Held = ap (λ (q : Pass). q.phase) (sym same) ∙ phase in let writes : step.pass.write ≡ true = ap (λ (q : Pass). q.write) (sym same) ∙ write in
@@ -101,7 +101,7 @@ module _ {shape : Shape} {i : ℕ} {passes passes' : List Pass} (entries : List 
       }
 
   pub fetch_settled-drives : {base_flies base_flies' : List Ticket → Type 0} {base_tells : Type 0} {base : List Sector} (answer : Settled) (p : Pass) → slice_get passes i ≡ Some p → p.phase ≡ Fetching → IsStanding shape p
-      → FetchSettled answer shape i passes passes' base_flies base_flies' base_tells base → Drives (step_of (outcome_of answer)) shape.block i passes passes' entries entries left left
+      → FetchSettled answer shape i passes passes' base_flies base_flies' base_tells base → Drives (step_of (outcome_of answer)) shape.block i (work passes entries left) (work passes' entries left)
   fetch_settled-drives {base_flies} {base_flies'} {base_tells} {base} settled.Done p there phase stands s =
       let same : p ≡ s.pass = some-inj (sym there ∙ s.there) in
       let fetching : s.pass.phase ≡ Fetching = ap (λ (q : Pass). q.phase) (sym same) ∙ phase in let writes : s.pass.write ≡ true = ap (λ (q : Pass). q.write) (sym same) ∙ stands.write (ap writes_in phase) in
@@ -158,7 +158,7 @@ module _ {shape : Shape} {p : Pass} (piece : IsPiece shape p) where
 
 module _ {shape : Shape} {i : ℕ} {passes passes' : List Pass} {entries entries' : List Entry} (left : Room) where
   pub issues-drives : {fresh : List Bool} {content : List Sector} {flies flies' : List Ticket → Type 0} {tells tells' : Type 0} {disk disk' : Disk} {last last' : ℕ} (p : Pass) → slice_get passes i ≡ Some p → (p.phase ≡ Held) ⊎ (p.phase ≡ Filled) → p.write ≡ true → IsStanding shape p
-      → Issues shape fresh content i passes passes' entries entries' flies flies' tells tells' disk disk' last last' → Drives Again shape.block i passes passes' entries entries' left left
+      → Issues shape fresh content i passes passes' entries entries' flies flies' tells tells' disk disk' last last' → Drives Again shape.block i (work passes entries left) (work passes' entries' left)
   issues-drives p there phase write stands step =
       let same : p ≡ step.pass = some-inj (sym there ∙ step.there) in let writes : step.pass.write ≡ true = ap (λ (q : Pass). q.write) (sym same) ∙ write in
       let piece : IsPiece shape step.pass = subst (IsPiece shape) same (stands.piece (holds p phase)) in
@@ -183,7 +183,7 @@ module _ {shape : Shape} {i : ℕ} {passes passes' : List Pass} {entries entries
       holds q (inr filled) = ap has_region filled
 
   pub write_settled-drives : {fresh fresh' : List Bool} {flies flies' : List Ticket → Type 0} {tells tells' : Type 0} {disk disk' : Disk} {last last' : ℕ} (answer : Settled) (p : Pass) → slice_get passes i ≡ Some p → p.phase ≡ Issuing → IsStanding shape p
-      → WriteSettled answer i fresh fresh' passes passes' entries entries' flies flies' tells tells' disk disk' last last' → Drives (step_of (outcome_of answer)) shape.block i passes passes' entries entries' left left
+      → WriteSettled answer i fresh fresh' passes passes' entries entries' flies flies' tells tells' disk disk' last last' → Drives (step_of (outcome_of answer)) shape.block i (work passes entries left) (work passes' entries' left)
   write_settled-drives settled.Done p there phase stands s =
       let same : p ≡ s.pass = some-inj (sym there ∙ s.there) in let e = s.effect in
       let issuing : s.pass.phase ≡ Issuing = ap (λ (q : Pass). q.phase) (sym same) ∙ phase in let writes : s.pass.write ≡ true = ap (λ (q : Pass). q.write) (sym same) ∙ stands.write (ap writes_in phase) in
@@ -224,7 +224,7 @@ module _ {shape : Shape} {i : ℕ} {passes passes' : List Pass} {entries entries
 
 module _ {i : ℕ} {passes passes' : List Pass} {entries entries' : List Entry} (left : Room) where
   pub replies-drives : {answer : Answer} (block : ℕ) (p : Pass) → slice_get passes i ≡ Some p → p.phase ≡ Ready → Replies answer i passes passes' entries entries' → (left' : Room) → left.events ≤ left'.events → left.sectors ≤ left'.sectors
-      → Drives (Ended answer) block i passes passes' entries entries' left left'
+      → Drives (Ended answer) block i (work passes entries left) (work passes' entries' left')
   replies-drives {answer} block p there phase s left' events_more sectors_more =
       let same : p ≡ s.pass = some-inj (sym there ∙ s.there) in
       let ready : s.pass.phase ≡ Ready = ap (λ (q : Pass). q.phase) (sym same) ∙ phase in
@@ -243,7 +243,7 @@ held-read n some = (omega arith, omega arith)
 
 module _ {shape : Shape} {i : ℕ} {passes passes' : List Pass} (left : Room) where
   pub looks-drives : (entries : List Entry) {flies flies' : List Ticket → Type 0} {tells tells' : Type 0} {disk disk' : Disk} {last last' : ℕ} (p : Pass) → slice_get passes i ≡ Some p → p.phase ≡ Held → p.write ≡ false → IsStanding shape p
-      → Looks shape i passes passes' flies flies' tells tells' disk disk' last last' → Drives Again shape.block i passes passes' entries entries left left
+      → Looks shape i passes passes' flies flies' tells tells' disk disk' last last' → Drives Again shape.block i (work passes entries left) (work passes' entries left)
   looks-drives entries p there phase write stands step =
       let same : p ≡ step.pass = some-inj (sym there ∙ step.there) in
       let held : step.pass.phase ≡ Held = ap (λ (q : Pass). q.phase) (sym same) ∙ phase in let reads : step.pass.write ≡ false = ap (λ (q : Pass). q.write) (sym same) ∙ write in
@@ -259,7 +259,7 @@ module _ {shape : Shape} {i : ℕ} {passes passes' : List Pass} (left : Room) wh
       }
 
   pub looks_at_base-drives : (entries : List Entry) {base_flies base_flies' : List Ticket → Type 0} (p : Pass) → slice_get passes i ≡ Some p → p.phase ≡ Held → p.write ≡ false → IsStanding shape p
-      → LooksAtBase shape i passes passes' base_flies base_flies' → Drives Again shape.block i passes passes' entries entries left left
+      → LooksAtBase shape i passes passes' base_flies base_flies' → Drives Again shape.block i (work passes entries left) (work passes' entries left)
   looks_at_base-drives entries p there phase write stands step =
       let same : p ≡ step.pass = some-inj (sym there ∙ step.there) in
       let held : step.pass.phase ≡ Held = ap (λ (q : Pass). q.phase) (sym same) ∙ phase in let reads : step.pass.write ≡ false = ap (λ (q : Pass). q.write) (sym same) ∙ write in
@@ -275,7 +275,7 @@ module _ {shape : Shape} {i : ℕ} {passes passes' : List Pass} (left : Room) wh
       }
 
   pub sees-drives : {entries entries' : List Entry} {content out out' : List Sector} (p : Pass) → slice_get passes i ≡ Some p → (p.phase ≡ Held) ⊎ (p.phase ≡ Looking) → p.write ≡ false → IsStanding shape p
-      → Sees content i passes passes' entries entries' out out' → Drives Again shape.block i passes passes' entries entries' left left
+      → Sees content i passes passes' entries entries' out out' → Drives Again shape.block i (work passes entries left) (work passes' entries' left)
   sees-drives {entries} {entries'} {content} p there phase write stands s =
       let same : p ≡ s.pass = some-inj (sym there ∙ s.there) in let reads : s.pass.write ≡ false = ap (λ (q : Pass). q.write) (sym same) ∙ write in
       let piece : IsPiece shape s.pass = subst (IsPiece shape) same (stands.piece (holds p phase)) in
@@ -302,7 +302,7 @@ module _ {shape : Shape} {i : ℕ} {passes passes' : List Pass} (left : Room) wh
 
   -- the end of a read from either device
   pub ends_read-drives : {entries entries' : List Entry} (content out out' : List Sector) (answer : Settled) (why : Fault) (q p : Pass) → slice_get passes i ≡ Some p → p.phase ≡ Looking → IsStanding shape p → slice_get passes i ≡ Some q
-      → EndsRead answer q why content i passes passes' entries entries' out out' → Drives (step_of (outcome_of answer)) shape.block i passes passes' entries entries' left left
+      → EndsRead answer q why content i passes passes' entries entries' out out' → Drives (step_of (outcome_of answer)) shape.block i (work passes entries left) (work passes' entries' left)
   ends_read-drives content out out' settled.Done why q p there phase stands there_q e = sees-drives p there (inr phase) (stands.read phase) stands e
   ends_read-drives {entries} {entries'} content out out' (settled.NotYet t) why q p there phase stands there_q e = record {
     pass = q;
@@ -326,7 +326,7 @@ module _ {shape : Shape} {i : ℕ} {passes passes' : List Pass} (left : Room) wh
       }
 
 -- nothing has changed
-pub still-drives : {i : ℕ} {passes passes' : List Pass} (by block : ℕ) (entries : List Entry) (left : Room) (p : Pass) → slice_get passes i ≡ Some p → passes' ≡ passes → Drives (Busy by) block i passes passes' entries entries left left
+pub still-drives : {i : ℕ} {passes passes' : List Pass} (by block : ℕ) (entries : List Entry) (left : Room) (p : Pass) → slice_get passes i ≡ Some p → passes' ≡ passes → Drives (Busy by) block i (work passes entries left) (work passes' entries left)
 still-drives {i} {passes} {passes'} by block entries left p there same = record {
   pass = p;
   pass' = p;
@@ -338,5 +338,5 @@ still-drives {i} {passes} {passes'} by block entries left p there same = record 
 
 -- the same, of what is equal to its answer, its entries and its room
 pub drives-as : {step step' : Step} {block i : ℕ} {passes passes' : List Pass} {entries entries' more : List Entry} {left left' rest : Room} → step' ≡ step → more ≡ entries' → rest ≡ left'
-    → Drives step block i passes passes' entries entries' left left' → Drives step' block i passes passes' entries more left rest
+    → Drives step block i (work passes entries left) (work passes' entries' left') → Drives step' block i (work passes entries left) (work passes' more rest)
 drives-as step_is entries_are left_is drives = rw (step_is, entries_are, left_is) drives

@@ -30,11 +30,11 @@ last-extended {more} {sectors} {history} {history'} extends =
 
 module _ {block : ℕ} {passes : List Pass} {history : Numbered} {spare : Room} {events : ℕ} (roomy : IsRoomy block passes history spare events) where
   -- One more entry of a pass can be added, in the room that it has reserved.
-  pub can-add : (i : ℕ) (p : Pass) → slice_get passes i ≡ Some p → (sectors : ℕ) → 0 < p.events → sectors ≤ p.sectors → CanAdd sectors history events
-  can-add i p there sectors some fits =
+  pub can-add : (i : ℕ) (p : Pass) → slice_get passes i ≡ Some p → (sectors : ℕ) → 0 < p.events → sectors ≤ p.sectors → sectors ≤ 2048 → CanAdd sectors history events
+  can-add i p there sectors some fits short =
       let a = sum-part (λ (q : Pass). q.events) passes i p there in let b = sum-part (λ (q : Pass). q.sectors) passes i p there in
       let c = roomy.spare_events in let d = roomy.spare_sectors in
-      record { event = omega (arith, a, c, some); sectors_fit = omega (arith, b, d, fits); later = roomy.later }
+      record { event = omega (arith, a, c, some); sectors_fit = omega (arith, b, d, fits); short = short; later = roomy.later }
 
   -- A step of one pass, whose entries are in the room that it had reserved.
   pub room-used : (i : ℕ) {p p' : Pass} {passes' : List Pass} {more : List ℕ} {sectors : ℕ} {history' : Numbered} (events' : ℕ) → slice_get passes i ≡ Some p → passes' ≡ slice_set passes i p'

@@ -5,6 +5,7 @@ use Rattle.vd_law.specs.declared.entry.Sector.{Sector}
 use Rattle.vd_law.specs.declared.entry.CallId.{CallId}
 use Rattle.vd_law.specs.Entries.{Entry, Seen}
 use Rattle.vd_law.specs.Histories.{Numbered}
+use Rattle.vd_device.specs.declared.base.Base as base
 use Rattle.vd_device.specs.declared.ticket.Ticket.{Ticket}
 use Rattle.vd_device.specs.declared.settled.Settled.{Settled}
 use Rattle.vd_reading.specs.Background.{zero_sector}
@@ -66,17 +67,17 @@ fetch-back q r s t same took has is after =
 pub padded-part : (content old new : List Sector) (count piece : ℕ) → new ≡ content ++ replicate (length old - length content) zero_sector → length old ≡ piece → length content ≡ count → new ≡ content ++ replicate (piece - count) zero_sector
 padded-part content old new count piece is long read = is ∙ ap (λ (n : ℕ). content ++ replicate (n - length content) zero_sector) long ∙ ap (λ (n : ℕ). content ++ replicate (piece - n) zero_sector) read
 
-pub base-look-settled : {answer : Settled} {shape : Shape} {i : ℕ} {passes passes' : List Pass} {history history' : List Entry} {flies flies' : List Ticket → Type 0} {tells : Type 0} {base old new out out' : List Sector} {q : Pass} {ticket : Ticket}
-    → slice_get passes i ≡ Some q → q.fetch ≡ Some ticket → (settled : BufferSettled answer ticket old new flies flies' tells base)
-    → EndsRead answer q (fault.Base ticket.number) (settled.content ++ replicate (q.piece - ticket.count) zero_sector) i passes passes' history history' out out' → BaseLookSettled answer shape i passes passes' history history' flies flies' tells base out out'
-base-look-settled {answer} {shape} {i} {passes} {passes'} {history} {history'} {flies} {flies'} {tells} {base} {old} {new} {out} {out'} {q} {ticket} there has settled effect = record {
+pub base-look-settled : {answer : Settled} {shape : Shape} {i : ℕ} {passes passes' : List Pass} {history history' : List Entry} {B : Type 0} {h : base.Ghosts B} {b b' : B} {old new out out' : List Sector} {q : Pass} {ticket : Ticket}
+    → slice_get passes i ≡ Some q → q.fetch ≡ Some ticket → (settled : BufferSettled h answer ticket old new b b')
+    → EndsRead answer q (fault.Base ticket.number) (settled.content ++ replicate (q.piece - ticket.count) zero_sector) i passes passes' history history' out out' → BaseLookSettled answer shape i passes passes' history history' (h.flies b) (h.flies b') (h.tells b') (h.content b') out out'
+base-look-settled {q = q} {ticket} there has settled effect = record {
   pass = q;
   ticket = ticket;
   content = settled.content;
   there = there;
   has = has;
   long = settled.long;
-  settles = (settled.settles.0, settled.content, settled.settles.1);
+  settles = (settled.front, settled.content, settled.settles.settles);
   effect = effect;
-  gives = settled.gives;
+  gives = settled.settles.gives;
 }

@@ -1,6 +1,7 @@
 -- A pass after the settle of what it has in flight.
 use Rattle.std.proofs.Common.{◌≡◌, ℕ, ◌-◌, List, ◌++◌, length, replicate, sym, ◌∙◌, ap, Some, None, slice_get, slice_set}
 use Rattle.vd_law.specs.declared.entry.Sector.{Sector}
+use Rattle.vd_device.specs.declared.base.Base as base
 use Rattle.vd_device.specs.declared.ticket.Ticket.{Ticket}
 use Rattle.vd_device.specs.declared.settled.Settled.{Settled}
 use Rattle.vd_reading.specs.Background.{zero_sector}
@@ -12,19 +13,19 @@ use Rattle.vd_passes.specs.Passes.{after_filled, after_fault}
 use Rattle.vd_passes.specs.Steps.{FetchSettled, fetched}
 
 -- A base read of a block.
-pub fetch-settled : {answer : Settled} {shape : Shape} {i : ℕ} {passes passes' : List Pass} {flies flies' : List Ticket → Type 0} {tells : Type 0} {base old new : List Sector} {q : Pass} {ticket : Ticket}
-    → slice_get passes i ≡ Some q → q.fetch ≡ Some ticket → (settled : BufferSettled answer ticket old new flies flies' tells base) → passes' ≡ slice_set passes i (fetched answer q ticket shape.block settled.content)
-    → FetchSettled answer shape i passes passes' flies flies' tells base
-fetch-settled {answer} {shape} {i} {passes} {passes'} {flies} {flies'} {tells} {base} {old} {new} {q} {ticket} there has settled after = record {
+pub fetch-settled : {answer : Settled} {shape : Shape} {i : ℕ} {passes passes' : List Pass} {B : Type 0} {h : base.Ghosts B} {b b' : B} {old new : List Sector} {q : Pass} {ticket : Ticket}
+    → slice_get passes i ≡ Some q → q.fetch ≡ Some ticket → (settled : BufferSettled h answer ticket old new b b') → passes' ≡ slice_set passes i (fetched answer q ticket shape.block settled.content)
+    → FetchSettled answer shape i passes passes' (h.flies b) (h.flies b') (h.tells b') (h.content b')
+fetch-settled {q = q} {ticket} there has settled after = record {
   pass = q;
   ticket = ticket;
   content = settled.content;
   there = there;
   has = has;
   long = settled.long;
-  settles = (settled.settles.0, settled.content, settled.settles.1);
+  settles = (settled.front, settled.content, settled.settles.settles);
   after = after;
-  gives = settled.gives;
+  gives = settled.settles.gives;
 }
 
 module _ (q r s : Pass) (took : r ≡ record q { fetch = None }) where

@@ -42,7 +42,7 @@ use Rattle.vd_safety.proofs.Opening.{zeros-same}
 use Rattle.vd_safety.proofs.Found.{held-found, unstale-unsure}
 use Rattle.vd_safety.proofs.Stated.{up_there, stored_has}
 use Rattle.vd_core.specs.Agreeing.{AgreesWith}
-use Rattle.vd_core.specs.Kept.{IsKept, IsTold, IsRecorded, IsSafelyKept}
+use Rattle.vd_core.specs.Kept.{IsKept, IsFaithfullyKept, IsRecorded, IsSafelyKept}
 use Rattle.vd_core.specs.Local.{IsWrittenIn, AreLocalBy}
 use Rattle.vd_core.specs.Showing.{EndsFlushed, MayHold, ShowsCould}
 use Rattle.vd_core.specs.Start.{opening_at, IsStart, WasSafe}
@@ -69,7 +69,7 @@ sure-write log a flushes none_done s some none = elim (done_is (past log) s) [
 
 module _ {shape : Shape} {state : State} {regions : List (Option Region)} {passes : List Pass} {history : Numbered} {spare : Room} {sectors depth events base_sectors base_depth last : ℕ} {flies base_flies : List Ticket → Type 0} {flusher : Option ℕ} {k : Keeping} {disk : Disk} {base : List Sector}
     (kept : IsKept shape state.table state.fresh.bits regions passes history spare sectors depth events base_sectors base_depth flies base_flies)
-    (told : IsTold shape state.header state.table state.fresh.bits passes history disk last base base_sectors)
+    (told : IsFaithfullyKept shape state.header state.table state.fresh.bits passes history disk last base base_sectors)
     (local : AreLocalBy shape state.map state.fresh.bits history.log.entries) (recorded : IsRecorded shape state passes flusher k)
     (was : IsSafelyKept state.header state.map state.table state.fresh.bits k flusher passes history disk base sectors)
     (start : List Sector) (is : IsStart (opening_at history.opened disk) base state.header start) (safe : WasSafe (opening_at history.opened disk) state.header)

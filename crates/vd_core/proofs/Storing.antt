@@ -56,7 +56,7 @@ entry-stored {shape} {had} {table} {history} {history'} e leaves more stored =
     let same = all-where-none history (e ∷ []) (leaves-full e leaves) history in
     subst (IsStoredBy shape had table) (sym more) (record {
       counted = λ chunk within. same-where (kept-count shape had history (e ∷ []) chunk same (leaves-count shape (history ++ e ∷ []) e chunk leaves)) (stored.counted chunk within);
-      fulls = fulls-one history e same (λ id needed free is. subst LeavesStorage is leaves) stored.fulls;
+      fulls = fulls-one had history e same (λ id needed free is. subst LeavesStorage is leaves) stored.fulls;
     })
 
 pub same-stored : {shape : Shape} {had : List MapEntry} {table : Given} {history history' : List Entry} → history' ≡ history → IsStoredBy shape had table history → IsStoredBy shape had table history'
@@ -147,7 +147,7 @@ module _ {size : ℕ} {shape : Shape} {had : List MapEntry} {table table' : Give
   asked-stored : IsStoredBy shape had table' asked
   asked-stored = record {
     counted = λ chunk within. asked-counted chunk (let long = claims.chunks in omega arith);
-    fulls = rw (claims.chunks, claims.storage) (fulls-one history (Ask id request) asked-same (λ c needed free is. absurd (cc)) stored.fulls);
+    fulls = rw (claims.chunks, claims.storage) (fulls-one had history (Ask id request) asked-same (λ c needed free is. absurd (cc)) stored.fulls);
   }
 
 pub ask-stored : {size : ℕ} {shape : Shape} {had : List MapEntry} {table table' : Given} {history history' : List Entry} (id : CallId) (request : Asked) → IsRegular size history → (standing history id.pass).call < id.call

@@ -1,5 +1,5 @@
 -- Which chunks are counted as having storage, and why each Full was given, after further entries of the history.
-use Rattle.std.proofs.Common.{◌≡◌, ℕ, zero, suc, ◌+◌, ◌<◌, ◌≤◌, Bool, false, not, ◌&&◌, ◌||◌, List, [], ◌∷◌, ◌++◌, length, take, refl, sym, ◌∙◌, ap, inl, inr, arith, length-append, Some, slice_get}
+use Rattle.std.proofs.Common.{◌≡◌, ℕ, zero, suc, ◌+◌, ◌<◌, ◌≤◌, Bool, false, not, ◌&&◌, ◌||◌, List, [], ◌∷◌, ◌++◌, length, take, refl, sym, subst, ◌∙◌, ap, inl, inr, arith, length-append, Some, slice_get}
 use Rattle.std.specs.List.{AllByRecursion, list_any, count_by, range_with_len}
 use Rattle.std.proofs.Math.Path.{fun_ext}
 use Rattle.std.proofs.Math.Bool.{or-false}
@@ -96,25 +96,22 @@ before-same : (shape : Shape) (had : List MapEntry) (old more : List Entry) → 
 before-same shape had old more same at within = fun_ext (λ chunk. ap (λ (xs : List Entry). is_counted shape had (old ++ more) xs chunk) (take-append-le at old more within)
     ∙ counted-same shape had old (old ++ more) (take at old) chunk (all-take (SameFull old (old ++ more)) at old same))
 
-still-caused : {shape : Shape} {had : List MapEntry} {chunks storage at : ℕ} {request : Asked} {needed free : ℕ} (old more : List Entry) → AllByRecursion (SameFull old (old ++ more)) old → at ≤ length old
-    → IsFullCaused shape had chunks storage old at request needed free → IsFullCaused shape had chunks storage (old ++ more) at request needed free
-still-caused {shape} {had} {chunks} {storage} {at} {request} {needed} {free} old more same within caused = let counts = sym (before-same shape had old more same at within) in record {
-  lacking = caused.lacking ∙ ap (λ (f : ℕ → Bool). count_by (λ c. not (f c)) (range_with_len (run_from shape request) (run_count shape request))) counts;
-  free_is = ap (λ (f : ℕ → Bool). free + count_by f (range_with_len 0 chunks)) (sym counts) ∙ caused.free_is;
-  fewer = caused.fewer;
-}
+still-caused : {shape : Shape} (had : List MapEntry) {chunks storage at : ℕ} {request : Asked} {needed free : ℕ} (old more : List Entry) → AllByRecursion (SameFull old (old ++ more)) old → at ≤ length old
+    → IsFullCaused shape (is_counted shape had old (take at old)) chunks storage request needed free → IsFullCaused shape (is_counted shape had (old ++ more) (take at (old ++ more))) chunks storage request needed free
+still-caused {shape} had {chunks} {storage} {at} {request} {needed} {free} old more same within caused =
+    subst (λ (f : ℕ → Bool). IsFullCaused shape f chunks storage request needed free) (sym (before-same shape had old more same at within)) caused
 
-pub fulls-before : {shape : Shape} {had : List MapEntry} {chunks storage : ℕ} (old more : List Entry) → AllByRecursion (SameFull old (old ++ more)) old → AreFullsCaused shape had chunks storage old
+pub fulls-before : {shape : Shape} (had : List MapEntry) {chunks storage : ℕ} (old more : List Entry) → AllByRecursion (SameFull old (old ++ more)) old → AreFullsCaused shape had chunks storage old
     → (at : ℕ) (id : CallId) (needed free : ℕ) → at + 1 < length old → slice_get (old ++ more) (at + 1) ≡ Some (Reply id (Full needed free))
-    → (first : ℕ) × (content : List Sector) × (slice_get (old ++ more) at ≡ Some (Ask id (Write first content))) × IsFullCaused shape had chunks storage (old ++ more) at (Write first content) needed free
-fulls-before old more same fulls at id needed free within is =
+    → (first : ℕ) × (content : List Sector) × (slice_get (old ++ more) at ≡ Some (Ask id (Write first content))) × IsFullCaused shape (is_counted shape had (old ++ more) (take at (old ++ more))) chunks storage (Write first content) needed free
+fulls-before had old more same fulls at id needed free within is =
     let h = fulls at id needed free (sym (get-left old more (at + 1) within) ∙ is) in
-    (h.0, h.1, get-left old more at (omega arith) ∙ h.2, still-caused old more same (omega arith) h.3)
+    (h.0, h.1, get-left old more at (omega arith) ∙ h.2, still-caused had old more same (omega arith) h.3)
 
-pub fulls-one : {shape : Shape} {had : List MapEntry} {chunks storage : ℕ} (old : List Entry) (e : Entry) → AllByRecursion (SameFull old (old ++ e ∷ [])) old → ((id : CallId) (needed free : ℕ) → e ≡ Reply id (Full needed free) → ⊥)
+pub fulls-one : {shape : Shape} (had : List MapEntry) {chunks storage : ℕ} (old : List Entry) (e : Entry) → AllByRecursion (SameFull old (old ++ e ∷ [])) old → ((id : CallId) (needed free : ℕ) → e ≡ Reply id (Full needed free) → ⊥)
     → AreFullsCaused shape had chunks storage old → AreFullsCaused shape had chunks storage (old ++ e ∷ [])
-fulls-one old e same none fulls at id needed free is = elim (cases_lt (at + 1) (length old)) [
-  | inl within ↦ fulls-before old (e ∷ []) same fulls at id needed free within is
+fulls-one had old e same none fulls at id needed free is = elim (cases_lt (at + 1) (length old)) [
+  | inl within ↦ fulls-before had old (e ∷ []) same fulls at id needed free within is
   | inr past_it ↦ (let inside = slice_get_within (old ++ e ∷ []) (at + 1) (Reply id (Full needed free)) is in let long = length-append old (e ∷ []) in
       absurd (none id needed free (some-inj (sym (get-right old (e ∷ []) (at + 1) 0 (omega arith)) ∙ is))))
 ]

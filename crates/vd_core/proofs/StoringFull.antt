@@ -91,7 +91,7 @@ all-refused-same old id request needed free (e ∷ xs) all = (refused-same old i
 -- what is to be shown of an entry that stands behind another
 abbrev IsCausedAt : Shape → List MapEntry → (chunks storage : ℕ) → List Entry → (at : ℕ) → Entry → Type 0
 IsCausedAt shape had chunks storage history at (Reply id (Full needed free)) =
-    (first : ℕ) × (content : List Sector) × (slice_get history at ≡ Some (Ask id (Write first content))) × IsFullCaused shape had chunks storage history at (Write first content) needed free
+    (first : ℕ) × (content : List Sector) × (slice_get history at ≡ Some (Ask id (Write first content))) × IsFullCaused shape (is_counted shape had history (take at history)) chunks storage (Write first content) needed free
 IsCausedAt shape had chunks storage history at e = Unit {0}
 
 module _ {size : ℕ} {shape : Shape} {had : List MapEntry} {table : Given} {history : List Entry} (id : CallId) (first : ℕ) (content : List Sector) (needed free : ℕ) (regular : IsRegular size history) (later : (standing history id.pass).call < id.call)
@@ -132,7 +132,7 @@ module _ {size : ℕ} {shape : Shape} {had : List MapEntry} {table : Given} {his
 
   refused-fulls : AreFullsCaused shape had (length table.chunks) table.storage refused
   refused-fulls at c n f is = elim (cases_lt (at + 1) (length history)) [
-    | inl within ↦ fulls-before history (refusal id write needed free) old-same stored.fulls at c n f within is
+    | inl within ↦ fulls-before had history (refusal id write needed free) old-same stored.fulls at c n f within is
     | inr past_it ↦ elim (cases_eq (at + 1) (length history)) [
       | inl seam ↦ absurd (let e = sym (get-right history (refusal id write needed free) (at + 1) 0 (omega arith)) ∙ is in cc)
       | inr beyond ↦

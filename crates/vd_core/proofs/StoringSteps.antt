@@ -20,7 +20,7 @@ use Rattle.vd_passes.specs.declared.pass.Fault.TheVariants as fault
 use Rattle.vd_passes.specs.Passes.{call_of as own}
 use Rattle.vd_passes.specs.Coherent.{IsCoherent}
 use Rattle.vd_passes.specs.Steps.{Replies, Issues, EndsWrite, WriteSettled, Sees, EndsRead, LookSettled, BaseLookSettled}
-use Rattle.vd_core.specs.Asking.{CanAsk, AskEnds}
+use Rattle.vd_core.specs.Asking.{asking, CanAsk, AskEnds}
 use Rattle.vd_core.specs.Storing.{IsStoredBy}
 use Rattle.vd_core.proofs.Storing.{LeavesStorage, answer-leaves, entry-stored, same-stored}
 use Rattle.vd_core.proofs.StoringFull.{asks-stored, asks_full-stored}
@@ -29,7 +29,7 @@ use Rattle.vd_core.proofs.StoringFull.{asks-stored, asks_full-stored}
 pub ask_ends-stored : {shape : Shape} {fresh : List Bool} {places : ℕ → Option ℕ} {passes : List Pass} {sectors depth base_sectors base_depth : ℕ} {flies base_flies : List Ticket → Type 0}
     {had : List MapEntry} {table table' : Given} {history history' : Numbered} {left : Room} {events i : ℕ} (result : Option Answer) (request : Asked) (passes' : List Pass) (left' : Room)
     → IsCoherent shape fresh places passes history.log.entries sectors depth base_sectors base_depth flies base_flies → CanAsk shape table passes history left events request i
-    → AskEnds result request shape i table table' passes passes' history history' left left' events → IsStoredBy shape had table history.log.entries → IsStoredBy shape had table' history'.log.entries
+    → AskEnds result request events i (asking shape table passes history left) (asking shape table' passes' history' left') → IsStoredBy shape had table history.log.entries → IsStoredBy shape had table' history'.log.entries
 ask_ends-stored result request passes' left' co can ends stored = elim ends [
   | inl room ↦ rw (room.2.table_same, room.2.history_same) stored
   | inr other ↦ elim other [

@@ -6,6 +6,7 @@ use Rattle.vd_law.specs.Histories.{Numbered, last_number}
 pub record CanAdd (sectors : ℕ) (history : Numbered) (events : ℕ) : Type 0 where
   pub event : 0 < history.log.left.events
   pub sectors_fit : sectors ≤ history.log.left.sectors
+  pub short : sectors ≤ 2048
   pub later : last_number history.opened history.numbers ≤ events
 
 -- entries with these numbers, which have so many sectors, were added

@@ -14,6 +14,7 @@ use Rattle.vd_passes.specs.declared.pass.Pass.{Pass}
 use Rattle.vd_passes.specs.Needs.{need_of}
 use Rattle.vd_passes.specs.Steps.{IsAt, Asks, AsksFull}
 use Rattle.vd_core.specs.Adding.{Extends}
+use Rattle.vd_core.specs.View.{View}
 
 -- the first chunk of a write's range
 abbrev pub run_from : Shape → Asked → ℕ
@@ -83,34 +84,49 @@ pub record CanReply (passes : List Pass) (history : Numbered) (spare : Room) (ev
 abbrev pub IsOkWhereDone : Answer → Pass → Type 0
 IsOkWhereDone answer p = p.flush ≡ false → (answer ≡ Ok) ↔ (p.done ≡ p.count)
 
--- nothing of these has changed
-pub record IsSame (table table' : Given) (passes passes' : List Pass) (history history' : Numbered) (left left' : Room) : Type 0 where
-  pub table_same : table' ≡ table
-  pub passes_same : passes' ≡ passes
-  pub history_same : history' ≡ history
-  pub left_same : left' ≡ left
+-- What an ask works on: the disk's shape, its table, the passes, the history, and the room that is left.
+pub record Asking : Type 0 where
+  pub shape : Shape
+  pub table : Given
+  pub passes : List Pass
+  pub history : Numbered
+  pub left : Room
+
+abbrev pub asking : Shape → Given → List Pass → Numbered → (left : Room) → Asking
+asking shape table passes history left = record { shape = shape; table = table; passes = passes; history = history; left = left }
+
+abbrev pub asking_of : {S B : Type 0} → View S B → Asking
+asking_of c = asking c.shape c.table c.passes c.history c.spare
+
+-- nothing has changed
+pub record IsSame (a a' : Asking) : Type 0 where
+  pub table_same : a'.table ≡ a.table
+  pub passes_same : a'.passes ≡ a.passes
+  pub history_same : a'.history ≡ a.history
+  pub left_same : a'.left ≡ a.left
 
 -- the write is answered Full
-pub record EndsFull (request : Asked) (needed free : ℕ) (shape : Shape) (i : ℕ) (table table' : Given) (passes passes' : List Pass) (history history' : Numbered) (left left' : Room) (events : ℕ) : Type 0 where
-  pub enough : Suffices (need_of shape.block request) left
-  pub needed_is : needed ≡ lacking table (run_from shape request) (run_count shape request)
-  pub free_is : free + used table ≡ table.storage
+pub record EndsFull (request : Asked) (needed free events i : ℕ) (a a' : Asking) : Type 0 where
+  pub enough : Suffices (need_of a.shape.block request) a.left
+  pub needed_is : needed ≡ lacking a.table (run_from a.shape request) (run_count a.shape request)
+  pub free_is : free + used a.table ≡ a.table.storage
   pub fewer : free < needed
-  pub table_same : table' ≡ table
-  pub asks : AsksFull request needed free i passes passes' history.log.entries history'.log.entries
-  pub extends : Extends (events ∷ events ∷ []) (length (asked_content request)) history history'
-  pub left_after : left' ≡ without left 2 (length (asked_content request))
+  pub table_same : a'.table ≡ a.table
+  pub asks : AsksFull request needed free i a.passes a'.passes a.history.log.entries a'.history.log.entries
+  pub extends : Extends (events ∷ events ∷ []) (length (asked_content request)) a.history a'.history
+  pub left_after : a'.left ≡ without a.left 2 (length (asked_content request))
 
 -- the request is asked, and its room reserved
-pub record EndsAsked (request : Asked) (shape : Shape) (i : ℕ) (table table' : Given) (passes passes' : List Pass) (history history' : Numbered) (left left' : Room) (events : ℕ) : Type 0 where
-  pub enough : Suffices (need_of shape.block request) left
-  pub claims : Claims table table' (run_from shape request) (run_count shape request)
-  pub asks : Asks request ((need_of shape.block request).events - 1) ((need_of shape.block request).sectors - length (asked_content request)) i passes passes' history.log.entries history'.log.entries
-  pub extends : Extends (events ∷ []) (length (asked_content request)) history history'
-  pub left_after : left' ≡ without left (need_of shape.block request).events (need_of shape.block request).sectors
+pub record EndsAsked (request : Asked) (events i : ℕ) (a a' : Asking) : Type 0 where
+  pub enough : Suffices (need_of a.shape.block request) a.left
+  pub claims : Claims a.table a'.table (run_from a.shape request) (run_count a.shape request)
+  pub asks : Asks request ((need_of a.shape.block request).events - 1) ((need_of a.shape.block request).sectors - length (asked_content request)) i a.passes a'.passes a.history.log.entries a'.history.log.entries
+  pub extends : Extends (events ∷ []) (length (asked_content request)) a.history a'.history
+  pub left_after : a'.left ≡ without a.left (need_of a.shape.block request).events (need_of a.shape.block request).sectors
 
-abbrev pub AskEnds : Option Answer → (request : Asked) (shape : Shape) (i : ℕ) (table table' : Given) (passes passes' : List Pass) (history history' : Numbered) (left left' : Room) (events : ℕ) → Type 0
-AskEnds result request shape i table table' passes passes' history history' left left' events =
-    (Exceeds (need_of shape.block request) left × (result ≡ Some (NoRoom left.events left.sectors)) × IsSame table table' passes passes' history history' left left')
-    ⊎ ((needed : ℕ) × (free : ℕ) × (result ≡ Some (Full needed free)) × EndsFull request needed free shape i table table' passes passes' history history' left left' events)
-    ⊎ ((result ≡ None) × EndsAsked request shape i table table' passes passes' history history' left left' events)
+-- how an ask ends, while the store has so many events
+abbrev pub AskEnds : Option Answer → (request : Asked) (events i : ℕ) → Asking → Asking → Type 0
+AskEnds result request events i a a' =
+    (Exceeds (need_of a.shape.block request) a.left × (result ≡ Some (NoRoom a.left.events a.left.sectors)) × IsSame a a')
+    ⊎ ((needed : ℕ) × (free : ℕ) × (result ≡ Some (Full needed free)) × EndsFull request needed free events i a a')
+    ⊎ ((result ≡ None) × EndsAsked request events i a a')

@@ -1,12 +1,12 @@
 -- The write of a piece.
-use Rattle.std.specs.Prelude.{ℕ, ◌≡◌, ◌⊎◌, ◌+◌, ◌-◌, ◌*◌, ◌<◌, ◌≤◌, Bool, true, List, length, Some, slice_get}
+use Rattle.std.specs.Prelude.{ℕ, ◌≡◌, ◌⊎◌, ◌+◌, ◌-◌, ◌*◌, ◌≤◌, Bool, true, List, length, Some, slice_get}
 use Rattle.vd_law.specs.declared.entry.Sector.{Sector}
 use Rattle.vd_law.specs.Histories.{Numbered}
 use Rattle.vd_device.specs.declared.ticket.Ticket.{Ticket}
 use Rattle.vd_device.specs.declared.ticket.Kind.TheVariants.{Write}
-use Rattle.vd_device.specs.Tickets.{Puts}
-use Rattle.vd_device.specs.Disks.{Disk, Adds}
+use Rattle.vd_device.specs.declared.store.Store as store
 use Rattle.vd_device.specs.Calls.{issued}
+use Rattle.vd_device.specs.Stores.{Submits}
 use Rattle.vd_device.specs.declared.settled.Settled.{Settled}
 use Rattle.vd_device.specs.declared.settled.Settled.TheVariants as settled
 use Rattle.vd_meta.specs.Keeping.{Keeping}
@@ -18,27 +18,25 @@ use Rattle.vd_passes.specs.Laying.{laid}
 use Rattle.vd_passes.specs.Steps.{CanWrite}
 use Rattle.vd_core.specs.Adding.{CanAdd}
 
--- the store was given the piece in its place, or the buffer with the piece laid into it
-pub record Submits (shape : Shape) (p p' : Pass) (part : List Sector) (ticket : Ticket) (flies flies' : List Ticket → Type 0) (tells tells' : Type 0) (disk disk' : Disk) (last last' : ℕ) : Type 0 where
-  pub stored : List Sector
-  pub buffer : List Sector
-  pub after : p' ≡ record p { buffer = buffer }
-  pub kind : ticket.kind ≡ Write
-  pub count : ticket.count ≡ length stored
-  pub way : ((p.phase ≡ Held) × (stored ≡ part) × (buffer ≡ p.buffer) × (ticket.first + shape.block * p.block ≡ p.at + (p.first + p.done)))
-      ⊎ ((p.phase ≡ Filled) × (stored ≡ buffer) × (buffer ≡ laid (p.first + p.done - shape.block * p.block) part p.buffer) × (ticket.first ≡ p.at))
-  pub flight : Puts ticket flies flies'
-  pub number : last' ≡ ticket.number
-  pub told_before : tells' → tells
-  pub told : tells' → Adds (issued ticket stored) disk disk' × (last < ticket.number)
+module _ {S : Type 0} (g : store.Ghosts S) where
+  -- the store was given the piece in its place, or the buffer with the piece laid into it
+  pub record SubmitsPiece (shape : Shape) (p p' : Pass) (part : List Sector) (ticket : Ticket) (s s' : S) : Type 0 where
+    pub stored : List Sector
+    pub buffer : List Sector
+    pub after : p' ≡ record p { buffer = buffer }
+    pub kind : ticket.kind ≡ Write
+    pub count : ticket.count ≡ length stored
+    pub way : ((p.phase ≡ Held) × (stored ≡ part) × (buffer ≡ p.buffer) × (ticket.first + shape.block * p.block ≡ p.at + (p.first + p.done)))
+        ⊎ ((p.phase ≡ Filled) × (stored ≡ buffer) × (buffer ≡ laid (p.first + p.done - shape.block * p.block) part p.buffer) × (ticket.first ≡ p.at))
+    pub call : Submits g ticket (issued ticket stored) s s'
 
--- The piece can be written, and its Issue added: the pass holds a block that is fresh or that its piece is the whole of, or has
--- the block in its buffer.
-pub record CanIssue (shape : Shape) (fresh : List Bool) (sectors depth : ℕ) (flies : List Ticket → Type 0) (content : List Sector) (history : Numbered) (events : ℕ) (p : Pass) : Type 0 where
-  pub writable : CanWrite shape sectors depth flies p
-  pub inside : p.done + p.piece ≤ length content
-  pub way : ((p.phase ≡ Held) × ((slice_get fresh p.block ≡ Some true) ⊎ (p.piece ≡ shape.block))) ⊎ (p.phase ≡ Filled)
-  pub room : CanAdd p.piece history events
+  -- The piece can be written, and its Issue added: the pass holds a block that is fresh or that its piece is the whole of, or has
+  -- the block in its buffer.
+  pub record CanIssue (shape : Shape) (fresh : List Bool) (content : List Sector) (history : Numbered) (s : S) (p : Pass) : Type 0 where
+    pub writable : CanWrite shape (g.sectors s) (g.depth s) (g.flies s) p
+    pub inside : p.done + p.piece ≤ length content
+    pub way : ((p.phase ≡ Held) × ((slice_get fresh p.block ≡ Some true) ⊎ (p.piece ≡ shape.block))) ⊎ (p.phase ≡ Filled)
+    pub room : CanAdd p.piece history (g.events s)
 
 -- The pass serves a write, and holds a block that is fresh or that its piece is the whole of, or has the block in its buffer.
 pub record IsWritable (shape : Shape) (fresh : List Bool) (p : Pass) : Type 0 where

@@ -77,7 +77,7 @@ pub record IsLogged (passes : List Pass) (history : Numbered) (disk : Disk) : Ty
 
 -- And what is kept where both devices tell: from whatever the guest's disk was when the core was made, by the store's first `opened`
 -- events, each read saw what could stand there, and the store agrees with the history.
-pub record IsTold (shape : Shape) (h : Header) (table : Given) (fresh : List Bool) (passes : List Pass) (history : Numbered) (disk : Disk) (last : ℕ) (base : List Sector) (base_sectors : ℕ) : Type 0 where
+pub record IsFaithfullyKept (shape : Shape) (h : Header) (table : Given) (fresh : List Bool) (passes : List Pass) (history : Numbered) (disk : Disk) (last : ℕ) (base : List Sector) (base_sectors : ℕ) : Type 0 where
   pub base_size : length base ≡ base_sectors
   pub faithful : (start : List Sector) → IsStart (opening_at history.opened disk) base h start
       → IsFaithful start (background base shape.tracked) shape fresh (place_of shape table.chunks) passes history.log.entries disk last

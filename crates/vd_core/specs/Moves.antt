@@ -9,6 +9,7 @@ use Rattle.vd_passes.specs.declared.pass.Phase.TheVariants.{Idle, Asked, Held, F
 use Rattle.vd_passes.specs.Needs.{pieces_left}
 use Rattle.vd_passes.specs.declared.shape.Shape.{Shape}
 use Rattle.vd_passes.specs.Passes.{has_region, writes_in, IsPiece, answer_of}
+use Rattle.vd_core.specs.View.{View}
 use Rattle.vd_core.specs.declared.outcome.Step.{Step}
 use Rattle.vd_core.specs.declared.outcome.Step.TheVariants.{Again, Late, Busy, Ended}
 
@@ -52,14 +53,26 @@ Tells Late block i p p' passes passes' = passes' ≡ passes
 Tells (Busy by) block i p p' passes passes' = passes' ≡ passes
 Tells (Ended answer) block i p p' passes passes' = (p'.phase ≡ Idle) × (answer ≡ answer_of p) × (steps_left block p' < steps_left block p)
 
+-- How far a core has come with its requests: its passes, the entries of its history, and the room that is left.
+pub record Work : Type 0 where
+  pub passes : List Pass
+  pub entries : List Entry
+  pub left : Room
+
+abbrev pub work : List Pass → List Entry → (left : Room) → Work
+work passes entries left = record { passes = passes; entries = entries; left = left }
+
+abbrev pub work_of : {S B : Type 0} → View S B → Work
+work_of c = work c.passes c.history.log.entries c.spare
+
 -- one step of a driver
-pub record Drives (step : Step) (block i : ℕ) (passes passes' : List Pass) (entries entries' : List Entry) (left left' : Room) : Type 0 where
+pub record Drives (step : Step) (block i : ℕ) (s s' : Work) : Type 0 where
   pub pass : Pass
   pub pass' : Pass
-  pub moves : Moves i pass pass' passes passes' entries entries'
-  pub tells : Tells step block i pass pass' passes passes'
-  pub events_left : left.events ≤ left'.events
-  pub sectors_left : left.sectors ≤ left'.sectors
+  pub moves : Moves i pass pass' s.passes s'.passes s.entries s'.entries
+  pub tells : Tells step block i pass pass' s.passes s'.passes
+  pub events_left : s.left.events ≤ s'.left.events
+  pub sectors_left : s.left.sectors ≤ s'.left.sectors
 
 -- How a pass of a disk of this shape stands: what its phase says of its request and of its piece.
 pub record IsStanding (shape : Shape) (p : Pass) : Type 0 where

@@ -1,7 +1,8 @@
 -- A core as it is made.
 use Rattle.std.specs.Prelude.{ℕ, ◌≡◌, ◌≤◌, min, List, [], true, false, None, IsSome, length, replicate, Some, slice_get}
 use Rattle.std.specs.List.{AllByRecursion}
-use Rattle.vd_device.specs.Disks.{Disk}
+use Rattle.vd_device.specs.declared.store.Store as store
+use Rattle.vd_device.specs.declared.base.Base as base
 use Rattle.vd_law.specs.declared.entry.Room.{Room}
 use Rattle.vd_law.specs.declared.entry.CallId.{CallId}
 use Rattle.vd_law.specs.Entries.{Entry, past}
@@ -57,23 +58,24 @@ new_keeping s = record {
   head = false;
 }
 
--- a core over an image that was opened as this state, in which nothing was asked
-pub record IsOpened {S B : Type 0} (s : State) (passes : ℕ) (room : Room) (store : S) (base : B) (base_sectors events store_faults base_faults : ℕ) (disk : Disk) (core : View S B) : Type 0 where
-  pub store_is : core.store ≡ store
-  pub base_is : core.base ≡ base
-  pub shape_is : core.shape ≡ shape_of s.header base_sectors
-  pub table_is : core.table ≡ s.table
-  pub fresh_is : core.fresh ≡ s.fresh.bits
-  pub keeping_is : core.keeping ≡ new_keeping s
-  pub flusher_is : core.flusher ≡ None
-  pub passes_are : AreNew passes s.header.block core.passes
-  pub history_is : core.history ≡ empty_history room events
-  pub spare_is : core.spare ≡ room
-  pub header_is : core.header ≡ s.header
-  pub entries_are : core.entries ≡ s.map
-  pub opening_is : core.opening ≡ opening_at events disk
-  pub store_faults_are : core.store_faults ≡ store_faults
-  pub base_faults_are : core.base_faults ≡ base_faults
+module _ {S B : Type 0} (g : store.Ghosts S) (h : base.Ghosts B) where
+  -- a core over an image that was opened as this state, in which nothing was asked
+  pub record IsOpened (s : State) (passes : ℕ) (room : Room) (store : S) (base : B) (core : View S B) : Type 0 where
+    pub store_is : core.store ≡ store
+    pub base_is : core.base ≡ base
+    pub shape_is : core.shape ≡ shape_of s.header (h.sectors base)
+    pub table_is : core.table ≡ s.table
+    pub fresh_is : core.fresh ≡ s.fresh.bits
+    pub keeping_is : core.keeping ≡ new_keeping s
+    pub flusher_is : core.flusher ≡ None
+    pub passes_are : AreNew passes s.header.block core.passes
+    pub history_is : core.history ≡ empty_history room (g.events store)
+    pub spare_is : core.spare ≡ room
+    pub header_is : core.header ≡ s.header
+    pub entries_are : core.entries ≡ s.map
+    pub opening_is : core.opening ≡ opening_at (g.events store) (g.disk store)
+    pub store_faults_are : core.store_faults ≡ g.faults store
+    pub base_faults_are : core.base_faults ≡ h.faults base
 
 -- each call that was asked has its Reply
 abbrev pub AreReplied : List Entry → Type 0

@@ -36,17 +36,17 @@ gives_storage (Some e) = nat_lt 0 e.storage
 unfoldable pub is_counted : Shape → (had : List MapEntry) → (history asked : List Entry) → (chunk : ℕ) → Bool
 is_counted shape had history asked chunk = gives_storage (slice_get had chunk) || list_any (counts_for shape history chunk) asked
 
--- The write whose Ask stands at this place lacks so many storage chunks, and so many are free, by what had storage at opening and
--- what was asked before it.
-pub record IsFullCaused (shape : Shape) (had : List MapEntry) (chunks storage : ℕ) (history : List Entry) (at : ℕ) (request : Asked) (needed free : ℕ) : Type 0 where
-  pub lacking : needed ≡ count_by (λ c. not (is_counted shape had history (take at history) c)) (range_with_len (run_from shape request) (run_count shape request))
-  pub free_is : free + count_by (is_counted shape had history (take at history)) (range_with_len 0 chunks) ≡ storage
+-- The write lacks so many storage chunks, and so many are free, where these chunks have storage.
+pub record IsFullCaused (shape : Shape) (counted : ℕ → Bool) (chunks storage : ℕ) (request : Asked) (needed free : ℕ) : Type 0 where
+  pub lacking : needed ≡ count_by (λ c. not (counted c)) (range_with_len (run_from shape request) (run_count shape request))
+  pub free_is : free + count_by counted (range_with_len 0 chunks) ≡ storage
   pub fewer : free < needed
 
--- each Full of the history answers the write that was asked just before it
+-- Each Full of the history answers the write that was asked just before it, and is due to what had storage at opening and what was
+-- asked before.
 abbrev pub AreFullsCaused : Shape → (had : List MapEntry) → (chunks storage : ℕ) → List Entry → Type 0
 AreFullsCaused shape had chunks storage history = (at : ℕ) (id : CallId) (needed free : ℕ) → slice_get history (at + 1) ≡ Some (Reply id (Full needed free))
-    → (first : ℕ) × (content : List Sector) × (slice_get history at ≡ Some (Ask id (Write first content))) × IsFullCaused shape had chunks storage history at (Write first content) needed free
+    → (first : ℕ) × (content : List Sector) × (slice_get history at ≡ Some (Ask id (Write first content))) × IsFullCaused shape (is_counted shape had history (take at history)) chunks storage (Write first content) needed free
 
 -- the chunks that have storage are those that had some and those for which writes have taken it
 pub record IsStoredBy (shape : Shape) (had : List MapEntry) (table : Given) (history : List Entry) : Type 0 where

@@ -2,12 +2,12 @@
 
 ghost use Rattle.std.specs.Prelude.{◌≡◌, ◌-◌, ◌*◌, ◌<◌, ◌≤◌};
 ghost use Rattle.vd_device.specs.declared.settled.Settled.{Settled as AnySettled};
-ghost use Rattle.vd_device.specs.Calls.{IsCalm, IsCaused};
+ghost use Rattle.vd_device.specs.Calls.{IsCaused};
 ghost use Rattle.vd_passes.specs.Laying.{below};
 ghost use Rattle.vd_passes.specs.Causes.{OfBase, IsNumbered};
 ghost use Rattle.vd_passes.specs.Steps.{IsAt, CanReadBase, IsWaitingForBase, FetchSettled};
 ghost use Rattle.vd_core.specs.Outcomes.{outcome_of};
-ghost use Rattle.vd_core.specs.Devices.{BaseStays};
+ghost use Rattle.vd_device.specs.Bases.{KeepsBase};
 ghost use Rattle.vd_core.specs.Fetching.{FetchesBlock};
 
 use vd_device::{Base, Settled};
@@ -25,10 +25,9 @@ pub(crate) fn below(shape: &Shape, first: u64, count: u64) -> u64
 /// Submits the base read of a pass's block, or fills the buffer with zeros where the base has nothing of it.
 pub(crate) fn fetch_block<B: Base>(base: &mut B, shape: &Shape, passes: &mut Vec<Pass>, pass: usize)
     requires ready { IsAt passes.old.items pass (CanReadBase shape.now (B.sectors base.old) (B.depth base.old) (B.flies base.old)) }
-    ensures fetches { FetchesBlock shape.now pass passes.old.items passes.new.items (B.flies base.old) (B.flies base.new) }
+    ensures fetches { FetchesBlock B.Base shape.now pass passes.old.items passes.new.items base.old base.new }
     ensures number { IsAt passes.new.items pass (IsNumbered OfBase (B.last base.old) (B.last base.new)) }
-    ensures calm { IsCalm (B.faults base.old) (B.faults base.new) (B.late base.old) (B.late base.new) }
-    ensures stays { BaseStays (B.sectors base.old) (B.sectors base.new) (B.depth base.old) (B.depth base.new) (B.tells base.old) (B.tells base.new) (B.content base.old) (B.content base.new) }
+    ensures keeps { KeepsBase B.Base base.old base.new }
 {
     let p = &mut passes[pass];
     let first = shape.block * p.block;
@@ -53,7 +52,7 @@ pub(crate) fn settle_block<B: Base>(
     ensures settled { (answer : AnySettled) × (result ≡ outcome_of answer) × FetchSettled answer shape.now pass passes.old.items passes.new.items (B.flies base.old) (B.flies base.new) (B.tells base.new) (B.content base.new)
         × IsCaused answer (B.faults base.old) (B.faults base.new) (B.late base.old) (B.late base.new) }
     ensures number { B.last base.new ≡ B.last base.old }
-    ensures stays { BaseStays (B.sectors base.old) (B.sectors base.new) (B.depth base.old) (B.depth base.new) (B.tells base.old) (B.tells base.new) (B.content base.old) (B.content base.new) }
+    ensures keeps { KeepsBase B.Base base.old base.new }
 {
     let p = &mut passes[pass];
     let ticket = p.take_fetch();

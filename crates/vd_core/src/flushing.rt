@@ -2,7 +2,7 @@
 
 ghost use Rattle.std.specs.Prelude.{ℕ, ◌≡◌, ◌≢◌, None, Some, slice_get};
 ghost use Rattle.vd_device.specs.declared.settled.Settled.{Settled as AnySettled};
-ghost use Rattle.vd_device.specs.Calls.{IsCalm, IsCaused};
+ghost use Rattle.vd_device.specs.Calls.{IsCaused};
 ghost use Rattle.vd_meta.specs.declared.stage.Stage.TheVariants.{Puts, Syncs, Seals};
 ghost use Rattle.vd_meta.specs.declared.stage.Route.TheVariants.{Recycle};
 ghost use Rattle.vd_meta.specs.Moves.{adopting};
@@ -10,9 +10,10 @@ ghost use Rattle.vd_passes.specs.declared.pass.Pass.{Pass as AnyPass};
 ghost use Rattle.vd_passes.specs.declared.pass.Phase.TheVariants.{Idle};
 ghost use Rattle.vd_passes.specs.Causes.{OfStore, IsNumbered};
 ghost use Rattle.vd_passes.specs.Steps.{IsAt};
-ghost use Rattle.vd_metadata.specs.Flushing.{BeginsFlush, IsWornOut, PutsNext, SyncsPuts, SettlesMeta, SealsFlush};
+ghost use Rattle.vd_metadata.specs.Flushing.{IsWornOut, SealsFlush};
+ghost use Rattle.vd_core.specs.Stepping.{FlushBegins, FlushPuts, FlushSyncs, FlushSettles};
 ghost use Rattle.vd_core.specs.declared.flushing.Begun.TheVariants.{Going, Busy, Worn};
-ghost use Rattle.vd_core.specs.Devices.{Stays};
+ghost use Rattle.vd_device.specs.Stores.{KeepsStore};
 ghost use Rattle.vd_core.specs.Outcomes.{outcome_of, step_of};
 ghost use Rattle.vd_core.specs.Flushing.{HasAskedFlush, IsBetween, IsAway, still_flushing, flusher_after};
 
@@ -52,17 +53,11 @@ impl<S: Store, B: Base> Core<S, B> {
         requires phase { IsAt self.old.passes pass HasAskedFlush }
         requires tracked { (t : ℕ) → route ≡ Recycle t → t ≡ self.old.keeping.header.tracked }
         ensures busy { (by : ℕ) → result ≡ Busy by → (self.old.flusher ≡ Some by) × (by ≢ pass) × (self.new ≡ self.old) }
-        ensures going { result ≡ Going → (self.old.flusher ≡ None) × (self.new.flusher ≡ Some pass) × BeginsFlush route self.old.shape pass self.old.keeping self.new.keeping self.old.passes self.new.passes
-            (S.flies self.old.store) (S.flies self.new.store) (S.tells self.old.store) (S.tells self.new.store) (S.disk self.old.store) (S.disk self.new.store) (S.last self.old.store) (S.last self.new.store) }
+        ensures going { result ≡ Going → (self.old.flusher ≡ None) × (self.new.flusher ≡ Some pass) × FlushBegins S.Store route pass self.old self.new }
         ensures worn { result ≡ Worn → (self.old.flusher ≡ None) × IsWornOut route pass self.old.keeping self.old.passes self.new.passes × (self.new ≡ record self.old { passes = self.new.passes }) }
         ensures number { result ≡ Going → IsAt self.new.passes pass (IsNumbered OfStore (S.last self.old.store) (S.last self.new.store)) }
-        ensures recorded_before { S.records self.new.store → S.records self.old.store }
-        ensures calm { IsCalm (S.faults self.old.store) (S.faults self.new.store) (S.late self.old.store) (S.late self.new.store) }
-        ensures stays { Stays (S.sectors self.old.store) (S.sectors self.new.store) (S.depth self.old.store) (S.depth self.new.store) (S.events self.old.store) (S.events self.new.store) }
-        ensures told_before { S.tells self.new.store → S.tells self.old.store }
+        ensures keeps { KeepsStore S.Store self.old.store self.new.store }
         ensures others { self.new ≡ record self.old { store = self.new.store; keeping = self.new.keeping; flusher = self.new.flusher; passes = self.new.passes; opening = self.new.opening } }
-        ensures opening { S.tells self.new.store → self.new.opening ≡ self.old.opening }
-        ensures opening_stands { S.records self.new.store → self.new.opening ≡ self.old.opening }
     {
         if let Some(by) = self.flusher {
             return Begun::Busy { by };
@@ -86,15 +81,10 @@ impl<S: Store, B: Base> Core<S, B> {
     pub fn put(&mut self, pass: u32)
         requires phase { IsAt self.old.passes pass IsBetween }
         requires stage { self.old.keeping.stage ≡ Puts }
-        ensures puts { PutsNext self.old.table self.old.shape pass self.old.keeping self.new.keeping self.old.passes self.new.passes
-            (S.flies self.old.store) (S.flies self.new.store) (S.tells self.old.store) (S.tells self.new.store) (S.disk self.old.store) (S.disk self.new.store) (S.last self.old.store) (S.last self.new.store) }
+        ensures puts { FlushPuts S.Store pass self.old self.new }
         ensures number { IsAt self.new.passes pass (IsNumbered OfStore (S.last self.old.store) (S.last self.new.store)) }
-        ensures recorded_before { S.records self.new.store → S.records self.old.store }
-        ensures calm { IsCalm (S.faults self.old.store) (S.faults self.new.store) (S.late self.old.store) (S.late self.new.store) }
-        ensures stays { Stays (S.sectors self.old.store) (S.sectors self.new.store) (S.depth self.old.store) (S.depth self.new.store) (S.events self.old.store) (S.events self.new.store) }
+        ensures keeps { KeepsStore S.Store self.old.store self.new.store }
         ensures others { self.new ≡ record self.old { store = self.new.store; keeping = self.new.keeping; passes = self.new.passes; opening = self.new.opening } }
-        ensures opening { S.tells self.new.store → self.new.opening ≡ self.old.opening }
-        ensures opening_stands { S.records self.new.store → self.new.opening ≡ self.old.opening }
     {
         metadata::put(
             &mut self.store,
@@ -109,15 +99,10 @@ impl<S: Store, B: Base> Core<S, B> {
     pub fn sync(&mut self, pass: u32)
         requires phase { IsAt self.old.passes pass IsBetween }
         requires stage { self.old.keeping.stage ≡ Syncs }
-        ensures syncs { SyncsPuts self.old.shape pass self.old.passes self.new.passes
-            (S.flies self.old.store) (S.flies self.new.store) (S.tells self.old.store) (S.tells self.new.store) (S.disk self.old.store) (S.disk self.new.store) (S.last self.old.store) (S.last self.new.store) }
+        ensures syncs { FlushSyncs S.Store pass self.old self.new }
         ensures number { IsAt self.new.passes pass (IsNumbered OfStore (S.last self.old.store) (S.last self.new.store)) }
-        ensures recorded_before { S.records self.new.store → S.records self.old.store }
-        ensures calm { IsCalm (S.faults self.old.store) (S.faults self.new.store) (S.late self.old.store) (S.late self.new.store) }
-        ensures stays { Stays (S.sectors self.old.store) (S.sectors self.new.store) (S.depth self.old.store) (S.depth self.new.store) (S.events self.old.store) (S.events self.new.store) }
+        ensures keeps { KeepsStore S.Store self.old.store self.new.store }
         ensures others { self.new ≡ record self.old { store = self.new.store; passes = self.new.passes; opening = self.new.opening } }
-        ensures opening { S.tells self.new.store → self.new.opening ≡ self.old.opening }
-        ensures opening_stands { S.records self.new.store → self.new.opening ≡ self.old.opening }
     {
         metadata::sync(&mut self.store, &mut self.passes, pass as usize);
     }
@@ -126,15 +111,11 @@ impl<S: Store, B: Base> Core<S, B> {
     /// and the pass is ready with a store fault.
     pub fn settle_meta(&mut self, pass: u32) -> Step
         requires phase { IsAt self.old.passes pass IsAway }
-        ensures settled { (answer : AnySettled) × (result ≡ step_of (outcome_of answer)) × SettlesMeta answer pass self.old.keeping self.new.keeping self.old.passes self.new.passes
-            (S.flies self.old.store) (S.flies self.new.store) (S.tells self.old.store) (S.tells self.new.store) (S.disk self.old.store) (S.disk self.new.store) (S.last self.old.store) (S.last self.new.store)
+        ensures settled { (answer : AnySettled) × (result ≡ step_of (outcome_of answer)) × FlushSettles S.Store answer pass self.old self.new
             × IsCaused answer (S.faults self.old.store) (S.faults self.new.store) (S.late self.old.store) (S.late self.new.store)
             × (self.new.flusher ≡ flusher_after answer self.old.flusher) }
-        ensures stays { Stays (S.sectors self.old.store) (S.sectors self.new.store) (S.depth self.old.store) (S.depth self.new.store) (S.events self.old.store) (S.events self.new.store) }
-        ensures recorded_before { S.records self.new.store → S.records self.old.store }
+        ensures keeps { KeepsStore S.Store self.old.store self.new.store }
         ensures others { self.new ≡ record self.old { store = self.new.store; keeping = self.new.keeping; flusher = self.new.flusher; passes = self.new.passes; opening = self.new.opening } }
-        ensures opening { S.tells self.new.store → self.new.opening ≡ self.old.opening }
-        ensures opening_stands { S.records self.new.store → self.new.opening ≡ self.old.opening }
     {
         let outcome = metadata::settle(
             &mut self.store,

@@ -3,15 +3,15 @@
 ghost use Rattle.std.specs.Prelude.{◌≡◌, ◌⊎◌, ◌+◌, ◌-◌, ◌*◌, [], ◌∷◌, ◌<◌, ◌≤◌, length};
 ghost use Rattle.vd_device.specs.declared.ticket.Kind.TheVariants.{Write};
 ghost use Rattle.vd_device.specs.declared.settled.Settled.{Settled as AnySettled};
-ghost use Rattle.vd_device.specs.Calls.{IsCalm, IsCaused, next_number};
+ghost use Rattle.vd_device.specs.Calls.{IsCaused};
 ghost use Rattle.vd_device.specs.Disks.{IsRunning, TellsOrStood};
 ghost use Rattle.vd_passes.specs.declared.pass.Phase.TheVariants.{Held, Filled};
 ghost use Rattle.vd_passes.specs.Causes.{OfStore, IsNumbered};
 ghost use Rattle.vd_passes.specs.Steps.{IsAt, CanWrite, IsWaiting, Issues, WriteSettled};
 ghost use Rattle.vd_core.specs.Adding.{CanAdd, Extends};
 ghost use Rattle.vd_core.specs.Outcomes.{outcome_of, numbers_of};
-ghost use Rattle.vd_core.specs.Devices.{Stays};
-ghost use Rattle.vd_core.specs.Issuing.{Submits, CanIssue, owed_after};
+ghost use Rattle.vd_device.specs.Stores.{KeepsStore};
+ghost use Rattle.vd_core.specs.Issuing.{SubmitsPiece, CanIssue, owed_after};
 ghost use Rattle.vd_format.specs.Layouts.{blocks_of};
 
 use crate::adding::{add, call_id};
@@ -29,12 +29,7 @@ fn submit_piece<S: Store>(store: &mut S, shape: &Shape, p: &mut Pass, part: &[Se
     requires ready { CanWrite shape.now (S.sectors store.old) (S.depth store.old) (S.flies store.old) p.old }
     requires part { length part.now ≡ p.old.piece }
     requires phase { (p.old.phase ≡ Held) ⊎ (p.old.phase ≡ Filled) }
-    ensures submits { Submits shape.now p.old p.new part.now result (S.flies store.old) (S.flies store.new) (S.tells store.old) (S.tells store.new) (S.disk store.old) (S.disk store.new) (S.last store.old) (S.last store.new) }
-    ensures number { result.number ≡ next_number (S.last store.old) }
-    ensures recorded_before { S.records store.new → S.records store.old }
-    ensures stopped { S.records store.new → TellsOrStood (S.tells store.new) (S.events store.new) (S.disk store.old) (S.disk store.new) }
-    ensures calm { IsCalm (S.faults store.old) (S.faults store.new) (S.late store.old) (S.late store.new) }
-    ensures stays { Stays (S.sectors store.old) (S.sectors store.new) (S.depth store.old) (S.depth store.new) (S.events store.old) (S.events store.new) }
+    ensures { SubmitsPiece S.Store shape.now p.old p.new part.now result store.old store.new }
 {
     let offset = p.first + p.done - shape.block * p.block;
     match p.phase {
@@ -56,17 +51,15 @@ pub(crate) fn issue_piece<S: Store>(
     pass: usize,
     content: &[Sector],
 )
-    requires ready { IsAt passes.old.items pass (CanIssue shape.now fresh.now.bits (S.sectors store.old) (S.depth store.old) (S.flies store.old) content.now history.old (S.events store.old)) }
+    requires ready { IsAt passes.old.items pass (CanIssue S.Store shape.now fresh.now.bits content.now history.old store.old) }
     requires few { length passes.old.items ≤ 64 }
     ensures issues { Issues shape.now fresh.now.bits content.now pass passes.old.items passes.new.items history.old.log.entries history.new.log.entries
         (S.flies store.old) (S.flies store.new) (S.tells store.old) (S.tells store.new) (S.disk store.old) (S.disk store.new) (S.last store.old) (S.last store.new) }
     ensures extends { IsAt passes.old.items pass (λ p. Extends (S.events store.old ∷ []) p.piece history.old history.new) }
     ensures number { IsAt passes.new.items pass (IsNumbered OfStore (S.last store.old) (S.last store.new)) }
     ensures running { S.tells store.old → IsRunning (S.events store.old) (S.disk store.old) }
-    ensures recorded_before { S.records store.new → S.records store.old }
     ensures stopped { S.records store.new → TellsOrStood (S.tells store.new) (S.events store.new) (S.disk store.old) (S.disk store.new) }
-    ensures calm { IsCalm (S.faults store.old) (S.faults store.new) (S.late store.old) (S.late store.new) }
-    ensures stays { Stays (S.sectors store.old) (S.sectors store.new) (S.depth store.old) (S.depth store.new) (S.events store.old) (S.events store.new) }
+    ensures keeps { KeepsStore S.Store store.old store.new }
 {
     let p = &mut passes[pass];
     let from = p.done as usize;
@@ -102,9 +95,8 @@ pub(crate) fn settle_write<S: Store>(
         × IsAt passes.old.items pass (λ p. keeper.new ≡ owed_after answer p.block keeper.old) }
     ensures chunk { fresh.new.chunk ≡ fresh.old.chunk }
     ensures running { S.tells store.new → (history.new ≡ history.old) ⊎ IsRunning (S.events store.new) (S.disk store.new) }
-    ensures recorded_before { S.records store.new → S.records store.old }
     ensures stopped { S.records store.new → TellsOrStood (S.tells store.new) (S.events store.new) (S.disk store.old) (S.disk store.new) }
-    ensures stays { Stays (S.sectors store.old) (S.sectors store.new) (S.depth store.old) (S.depth store.new) (S.events store.old) (S.events store.new) }
+    ensures keeps { KeepsStore S.Store store.old store.new }
 {
     let p = &mut passes[pass];
     let id = call_id(pass, p.call);

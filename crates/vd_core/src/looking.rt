@@ -3,7 +3,7 @@
 ghost use Rattle.std.specs.Prelude.{◌≡◌, ◌⊎◌, ◌+◌, ◌-◌, ◌*◌, ◌^◌, [], ◌∷◌, ◌<◌, ◌≤◌, length, replicate, None};
 ghost use Rattle.vd_device.specs.declared.ticket.Kind.TheVariants.{Read};
 ghost use Rattle.vd_device.specs.declared.settled.Settled.{Settled as AnySettled};
-ghost use Rattle.vd_device.specs.Calls.{IsCalm, IsCaused};
+ghost use Rattle.vd_device.specs.Calls.{IsCaused};
 ghost use Rattle.vd_device.specs.Tickets.{IsInFlight};
 ghost use Rattle.vd_device.specs.Disks.{IsRunning, TellsOrStood};
 ghost use Rattle.vd_passes.specs.Buffers.{BufferSettled};
@@ -13,7 +13,8 @@ ghost use Rattle.vd_passes.specs.Causes.{OfStore, OfBase, IsNumbered};
 ghost use Rattle.vd_passes.specs.Steps.{IsAt, CanRead, CanReadBase, IsWaiting, IsWaitingForBase, Looks, LooksAtBase, Sees, LookSettled, BaseLookSettled};
 ghost use Rattle.vd_core.specs.Adding.{CanAdd, Extends};
 ghost use Rattle.vd_core.specs.Outcomes.{outcome_of, read_numbers_of, read_sectors_of};
-ghost use Rattle.vd_core.specs.Devices.{Stays, BaseStays};
+ghost use Rattle.vd_device.specs.Stores.{KeepsStore};
+ghost use Rattle.vd_device.specs.Bases.{KeepsBase};
 
 use crate::adding::{add, call_id};
 use crate::fetching::below;
@@ -35,10 +36,8 @@ pub(crate) fn look_at_store<S: Store>(
     requires ready { IsAt passes.old.items pass (CanRead shape.now (S.sectors store.old) (S.depth store.old) (S.flies store.old)) }
     ensures looks { Looks shape.now pass passes.old.items passes.new.items (S.flies store.old) (S.flies store.new) (S.tells store.old) (S.tells store.new) (S.disk store.old) (S.disk store.new) (S.last store.old) (S.last store.new) }
     ensures number { IsAt passes.new.items pass (IsNumbered OfStore (S.last store.old) (S.last store.new)) }
-    ensures recorded_before { S.records store.new → S.records store.old }
     ensures stopped { S.records store.new → TellsOrStood (S.tells store.new) (S.events store.new) (S.disk store.old) (S.disk store.new) }
-    ensures calm { IsCalm (S.faults store.old) (S.faults store.new) (S.late store.old) (S.late store.new) }
-    ensures stays { Stays (S.sectors store.old) (S.sectors store.new) (S.depth store.old) (S.depth store.new) (S.events store.old) (S.events store.new) }
+    ensures keeps { KeepsStore S.Store store.old store.new }
 {
     let p = &mut passes[pass];
     let at = p.at + (p.first + p.done - shape.block * p.block);
@@ -56,8 +55,7 @@ pub(crate) fn look_at_base<B: Base>(
     requires ready { IsAt passes.old.items pass (λ p. CanReadBase shape.now (B.sectors base.old) (B.depth base.old) (B.flies base.old) p × (0 < below shape.now.limit (p.first + p.done) p.piece)) }
     ensures looks { LooksAtBase shape.now pass passes.old.items passes.new.items (B.flies base.old) (B.flies base.new) }
     ensures number { IsAt passes.new.items pass (IsNumbered OfBase (B.last base.old) (B.last base.new)) }
-    ensures calm { IsCalm (B.faults base.old) (B.faults base.new) (B.late base.old) (B.late base.new) }
-    ensures stays { BaseStays (B.sectors base.old) (B.sectors base.new) (B.depth base.old) (B.depth base.new) (B.tells base.old) (B.tells base.new) (B.content base.old) (B.content base.new) }
+    ensures keeps { KeepsBase B.Base base.old base.new }
 {
     let p = &mut passes[pass];
     let first = p.first + p.done;
@@ -109,9 +107,8 @@ pub(crate) fn settle_store_look<S: Store>(
         × IsAt passes.old.items pass (λ p. Extends (read_numbers_of answer (S.events store.new)) (read_sectors_of answer p.piece) history.old history.new)
         × IsCaused answer (S.faults store.old) (S.faults store.new) (S.late store.old) (S.late store.new) }
     ensures running { S.tells store.new → (history.new ≡ history.old) ⊎ IsRunning (S.events store.new) (S.disk store.new) }
-    ensures recorded_before { S.records store.new → S.records store.old }
     ensures stopped { S.records store.new → TellsOrStood (S.tells store.new) (S.events store.new) (S.disk store.old) (S.disk store.new) }
-    ensures stays { Stays (S.sectors store.old) (S.sectors store.new) (S.depth store.old) (S.depth store.new) (S.events store.old) (S.events store.new) }
+    ensures keeps { KeepsStore S.Store store.old store.new }
 {
     let p = &mut passes[pass];
     let id = call_id(pass, p.call);
@@ -143,10 +140,7 @@ fn settle_part<B: Base>(base: &mut B, ticket: Ticket, part: &mut [Sector]) -> Se
     requires mine { IsInFlight (B.flies base.old) ticket }
     requires kind { ticket.kind ≡ Read }
     requires fits { ticket.count ≤ length part.old }
-    ensures settled { BufferSettled result ticket part.old part.new (B.flies base.old) (B.flies base.new) (B.tells base.new) (B.content base.new) }
-    ensures cause { IsCaused result (B.faults base.old) (B.faults base.new) (B.late base.old) (B.late base.new) }
-    ensures last { B.last base.new ≡ B.last base.old }
-    ensures stays { BaseStays (B.sectors base.old) (B.sectors base.new) (B.depth base.old) (B.depth base.new) (B.tells base.old) (B.tells base.new) (B.content base.old) (B.content base.new) }
+    ensures { BufferSettled B.Base result ticket part.old part.new base.old base.new }
 {
     let count = ticket.count() as usize;
     let (front, back) = part.split_at_mut(count);
@@ -175,7 +169,7 @@ pub(crate) fn settle_base_look<S: Store, B: Base>(
         × IsCaused answer (B.faults base.old) (B.faults base.new) (B.late base.old) (B.late base.new) }
     ensures running { S.tells store.now → (history.new ≡ history.old) ⊎ IsRunning (S.events store.now) (S.disk store.now) }
     ensures number { B.last base.new ≡ B.last base.old }
-    ensures stays { BaseStays (B.sectors base.old) (B.sectors base.new) (B.depth base.old) (B.depth base.new) (B.tells base.old) (B.tells base.new) (B.content base.old) (B.content base.new) }
+    ensures keeps { KeepsBase B.Base base.old base.new }
 {
     let p = &mut passes[pass];
     let id = call_id(pass, p.call);

@@ -1,30 +1,16 @@
 //! A core is made over two devices, and taken apart.
 
 ghost use Rattle.std.specs.Prelude.{ℕ, ◌≡◌, ◌+◌, ◌*◌, ◌^◌, ◌<◌, ◌≤◌, ◌++◌, List, [], ◌∷◌, None, replicate, IfOk, IfErr, length, slice_get, Some, vec_capacity};
-ghost use Rattle.vd_law.specs.declared.entry.Sector.{Sector};
 ghost use Rattle.vd_format.specs.Headers.{IsValid};
 ghost use Rattle.vd_format.specs.Layouts.{need_of};
 ghost use Rattle.vd_replay.specs.States.{IsSized, IsWhole, Says};
 ghost use Rattle.vd_passes.specs.declared.pass.Pass.{Pass as AnyPass};
 ghost use Rattle.vd_passes.specs.declared.pass.Phase.TheVariants.{Idle};
-ghost use Rattle.vd_law.specs.Rules.{IsRegular, IsLegal};
 ghost use Rattle.vd_passes.specs.Passes.{IsNew};
-ghost use Rattle.vd_passes.specs.Causes.{OfStore, OfBase, AreCaused};
-ghost use Rattle.vd_passes.specs.Tracing.{AreTraced};
-ghost use Rattle.vd_core.specs.Storing.{AreFullsCaused, IsStoredBy};
-ghost use Rattle.vd_core.specs.Local.{AreLocalBy};
 ghost use Rattle.vd_device.specs.Disks.{Disk};
-ghost use Rattle.vd_image.specs.Layouts.{layout_of as places};
-ghost use Rattle.vd_image.specs.Decoders.{format_of};
-ghost use Rattle.vd_image.specs.CrashImages.{base_at, IsCrashImage};
-ghost use Rattle.vd_crash.specs.CrashSafe.{IsCrashSafe};
-ghost use Rattle.vd_safety.specs.Held.{IsOpenAgain};
-ghost use Rattle.vd_core.specs.Agreeing.{AgreesWith};
-ghost use Rattle.vd_core.specs.Showing.{EndsFlushed, MayHold, ShowsCould};
-ghost use Rattle.vd_reading.specs.Background.{zero_sector};
 ghost use Rattle.vd_reading.specs.Quiet.{AddsFlush};
-ghost use Rattle.vd_core.specs.Start.{IsStart, WasSafe};
-ghost use Rattle.vd_core.specs.Opening.{AreReplied, shape_of, new_keeping, AreNew, IsOpened, IsNumberedIn, empty_history};
+ghost use Rattle.vd_core.specs.Opening.{shape_of, new_keeping, AreNew, IsOpened, empty_history};
+ghost use Rattle.vd_core.specs.History.{HasOpening, IsHistoryOf, HasEnded};
 
 use crate::state::Core;
 use std::alloc::Global;
@@ -218,7 +204,8 @@ impl<S: Store, B: Base> Core<S, B> {
         requires some { 0 < passes }
         requires most { passes ≤ 64 }
         ensures back { IfErr result (λ refused. (refused.store ≡ store) × (refused.base ≡ base)) }
-        ensures opened { IfOk result (λ core. IsOpened state passes room store base (B.sectors base) (S.events store) (S.faults store) (B.faults base) (S.disk store) core) }
+        ensures opened { IfOk result (λ core. IsOpened S.Store B.Base state passes room store base core) }
+        ensures opening { IfOk result (λ core. HasOpening S.Store core) }
     {
         // Asked for what their clauses say alone: the invariant bounds what the devices tell.
         let _known = (
@@ -269,25 +256,8 @@ impl<S: Store, B: Base> Core<S, B> {
         ensures state { IsSized result.state × (result.state.header ≡ self.header) }
         ensures calm { S.flies result.store [] }
         ensures base_calm { B.flies result.base [] }
-        ensures regular { IsRegular (self.shape.block * self.shape.blocks) result.history.log.entries }
-        ensures legal { S.tells result.store → B.tells result.base → (start : List Sector) → IsStart self.opening (B.content result.base) self.header start → IsLegal start result.history.log.entries }
-        ensures replied { AreReplied result.history.log.entries }
-        ensures store_faults { AreCaused OfStore result.history.log.entries self.store_faults (S.faults result.store) }
-        ensures base_faults { AreCaused OfBase result.history.log.entries self.base_faults (B.faults result.base) }
-        ensures traced { S.tells result.store → AreTraced (S.disk result.store).log result.history.log.entries result.history.numbers }
-        ensures full { AreFullsCaused self.shape self.entries (length self.table.chunks) self.table.storage result.history.log.entries }
-        ensures stored { IsStoredBy self.shape self.entries self.table result.history.log.entries }
-        ensures local { AreLocalBy self.shape self.entries self.fresh result.history.log.entries }
-        // by the store's log as it stands, also where the store has stopped
-        ensures safe { S.records result.store → B.tells result.base → (start : List Sector) → IsStart self.opening (B.content result.base) self.header start → WasSafe self.opening self.header
-            → IsCrashSafe (format_of self.header) (places self.header) (base_at zero_sector (B.content result.base)) zero_sector (S.disk result.store).start (S.disk result.store).log start result.history }
-        ensures reopens { S.tells result.store → B.tells result.base → (start : List Sector) → IsStart self.opening (B.content result.base) self.header start → WasSafe self.opening self.header
-            → (image : List Sector) → IsCrashImage (S.disk result.store).start (S.disk result.store).log image → IsOpenAgain self.header (B.content result.base) start result.history.log.entries image }
-        ensures numbers { S.tells result.store → IsNumberedIn (S.disk result.store).log result.history }
-        ensures agrees { S.tells result.store → B.tells result.base → (start : List Sector) → IsStart self.opening (B.content result.base) self.header start
-            → AgreesWith self.shape self.table self.fresh start (B.content result.base) result.history.log.entries (S.disk result.store) }
-        ensures settled { S.tells result.store → B.tells result.base → (start : List Sector) → IsStart self.opening (B.content result.base) self.header start → WasSafe self.opening self.header
-            → EndsFlushed result.history.log.entries → (held : List Sector) → MayHold (S.disk result.store) held → ShowsCould self.header (B.content result.base) start result.history.log.entries held }
+        ensures known { IsHistoryOf S.Store B.Base self }
+        ensures ended { HasEnded S.Store B.Base self }
     {
         let Core {
             store,

@@ -2,12 +2,14 @@
 
 ghost use Rattle.std.specs.Prelude.{◌≡◌, ◌⊎◌, ◌+◌, ◌<◌, [], ◌∷◌, true, false, None, Some, IsSome, length, slice_get};
 ghost use Rattle.vd_device.specs.declared.settled.Settled.{Settled as AnySettled};
-ghost use Rattle.vd_device.specs.Calls.{IsCalm, IsCaused};
+ghost use Rattle.vd_device.specs.Calls.{IsCaused};
 ghost use Rattle.vd_passes.specs.declared.pass.Phase.TheVariants.{Looking};
 ghost use Rattle.vd_passes.specs.Laying.{below};
-ghost use Rattle.vd_passes.specs.Steps.{IsAt, Looks, LooksAtBase, SeesZeros, LookSettled, BaseLookSettled};
+ghost use Rattle.vd_passes.specs.Steps.{IsAt, SeesZeros};
+ghost use Rattle.vd_core.specs.Stepping.{LooksInStore, LooksInBase, SettlesStoreLook, SettlesBaseLook};
 ghost use Rattle.vd_core.specs.Adding.{Extends};
-ghost use Rattle.vd_core.specs.Devices.{Stays, BaseStays};
+ghost use Rattle.vd_device.specs.Stores.{KeepsStore};
+ghost use Rattle.vd_device.specs.Bases.{KeepsBase};
 ghost use Rattle.vd_passes.specs.Causes.{OfStore, OfBase, IsNumbered};
 ghost use Rattle.vd_core.specs.Outcomes.{outcome_of, read_numbers_of, read_sectors_of, step_of};
 ghost use Rattle.vd_core.specs.Looking.{IsReader, LooksSomewhere, SettlesLook};
@@ -23,14 +25,10 @@ impl<S: Store, B: Base> Core<S, B> {
     /// The look at a piece whose block is fresh.
     fn look_in_store(&mut self, pass: u32)
         requires phase { IsAt self.old.passes pass (λ p. IsReader p × (slice_get self.old.fresh p.block ≡ Some true)) }
-        ensures looks { Looks self.old.shape pass self.old.passes self.new.passes (S.flies self.old.store) (S.flies self.new.store) (S.tells self.old.store) (S.tells self.new.store) (S.disk self.old.store) (S.disk self.new.store) (S.last self.old.store) (S.last self.new.store) }
+        ensures looks { LooksInStore S.Store pass self.old self.new }
         ensures number { IsAt self.new.passes pass (IsNumbered OfStore (S.last self.old.store) (S.last self.new.store)) }
-        ensures recorded_before { S.records self.new.store → S.records self.old.store }
-        ensures calm { IsCalm (S.faults self.old.store) (S.faults self.new.store) (S.late self.old.store) (S.late self.new.store) }
-        ensures stays { Stays (S.sectors self.old.store) (S.sectors self.new.store) (S.depth self.old.store) (S.depth self.new.store) (S.events self.old.store) (S.events self.new.store) }
+        ensures keeps { KeepsStore S.Store self.old.store self.new.store }
         ensures others { self.new ≡ record self.old { store = self.new.store; passes = self.new.passes; opening = self.new.opening } }
-        ensures opening { S.tells self.new.store → self.new.opening ≡ self.old.opening }
-        ensures opening_stands { S.records self.new.store → self.new.opening ≡ self.old.opening }
     {
         look_at_store(
             &mut self.store,
@@ -43,12 +41,10 @@ impl<S: Store, B: Base> Core<S, B> {
     /// The look at a piece of which the base has something.
     fn look_in_base(&mut self, pass: u32)
         requires phase { IsAt self.old.passes pass (λ p. IsReader p × (slice_get self.old.fresh p.block ≡ Some false) × (0 < below self.old.shape.limit (p.first + p.done) p.piece)) }
-        ensures looks { LooksAtBase self.old.shape pass self.old.passes self.new.passes (B.flies self.old.base) (B.flies self.new.base) }
+        ensures looks { LooksInBase B.Base pass self.old self.new }
         ensures number { IsAt self.new.passes pass (IsNumbered OfBase (B.last self.old.base) (B.last self.new.base)) }
-        ensures base_stays { BaseStays (B.sectors self.old.base) (B.sectors self.new.base) (B.depth self.old.base) (B.depth self.new.base) (B.tells self.old.base) (B.tells self.new.base) (B.content self.old.base) (B.content self.new.base) }
-        ensures calm { IsCalm (B.faults self.old.base) (B.faults self.new.base) (B.late self.old.base) (B.late self.new.base) }
+        ensures base_keeps { KeepsBase B.Base self.old.base self.new.base }
         ensures others { self.new ≡ record self.old { base = self.new.base; passes = self.new.passes } }
-        ensures told_before { B.tells self.new.base → B.tells self.old.base }
     {
         look_at_base(&mut self.base, &self.shape, &mut self.passes, pass as usize);
     }
@@ -74,22 +70,14 @@ impl<S: Store, B: Base> Core<S, B> {
     /// what the base has of the piece; where it has nothing the piece of `out` is zeros at once, and the piece has ended.
     pub fn look(&mut self, pass: u32, out: &mut [Sector])
         requires phase { IsAt self.old.passes pass (λ p. IsReader p × (p.count ≡ length out.old)) }
-        ensures looks { LooksSomewhere self.old.shape self.old.fresh pass self.old.passes self.new.passes self.old.history self.new.history out.old out.new (S.events self.old.store)
-            (S.flies self.old.store) (S.flies self.new.store) (S.tells self.old.store) (S.tells self.new.store) (S.disk self.old.store) (S.disk self.new.store) (S.last self.old.store) (S.last self.new.store) (B.flies self.old.base) (B.flies self.new.base) }
+        ensures looks { LooksSomewhere S.Store B.Base pass out.old out.new self.old self.new }
         ensures number { IsAt self.new.passes pass (IsNumbered OfStore (S.last self.old.store) (S.last self.new.store)) }
         ensures base_number { IsAt self.new.passes pass (IsNumbered OfBase (B.last self.old.base) (B.last self.new.base)) }
-        ensures base_stays { BaseStays (B.sectors self.old.base) (B.sectors self.new.base) (B.depth self.old.base) (B.depth self.new.base) (B.tells self.old.base) (B.tells self.new.base) (B.content self.old.base) (B.content self.new.base) }
-        ensures recorded_before { S.records self.new.store → S.records self.old.store }
-        ensures calm { IsCalm (S.faults self.old.store) (S.faults self.new.store) (S.late self.old.store) (S.late self.new.store) }
-        ensures base_calm { IsCalm (B.faults self.old.base) (B.faults self.new.base) (B.late self.old.base) (B.late self.new.base) }
-        ensures stays { Stays (S.sectors self.old.store) (S.sectors self.new.store) (S.depth self.old.store) (S.depth self.new.store) (S.events self.old.store) (S.events self.new.store) }
+        ensures base_keeps { KeepsBase B.Base self.old.base self.new.base }
+        ensures keeps { KeepsStore S.Store self.old.store self.new.store }
         ensures store_same { IsAt self.old.passes pass (λ p. slice_get self.old.fresh p.block ≡ Some false → self.new.store ≡ self.old.store) }
         ensures base_same { IsAt self.old.passes pass (λ p. (slice_get self.old.fresh p.block ≡ Some true) ⊎ (below self.old.shape.limit (p.first + p.done) p.piece ≡ 0) → self.new.base ≡ self.old.base) }
         ensures others { self.new ≡ record self.old { store = self.new.store; base = self.new.base; passes = self.new.passes; history = self.new.history; opening = self.new.opening } }
-        ensures opening { S.tells self.new.store → self.new.opening ≡ self.old.opening }
-        ensures opening_stands { S.records self.new.store → self.new.opening ≡ self.old.opening }
-        ensures told_before { S.tells self.new.store → S.tells self.old.store }
-        ensures base_told_before { B.tells self.new.base → B.tells self.old.base }
     {
         let p = &self.passes[pass as usize];
         let count = below(&self.shape, p.first + p.done, p.piece);
@@ -105,15 +93,11 @@ impl<S: Store, B: Base> Core<S, B> {
     /// Settles a look in the store.
     fn settle_store(&mut self, pass: u32, out: &mut [Sector]) -> Step
         requires phase { IsAt self.old.passes pass (λ p. (p.phase ≡ Looking) × IsSome p.ticket × (p.count ≡ length out.old)) }
-        ensures settled { (answer : AnySettled) × (result ≡ step_of (outcome_of answer)) × LookSettled answer pass self.old.passes self.new.passes self.old.history.log.entries self.new.history.log.entries
-            (S.flies self.old.store) (S.flies self.new.store) (S.tells self.old.store) (S.tells self.new.store) (S.disk self.old.store) (S.disk self.new.store) (S.last self.old.store) (S.last self.new.store) out.old out.new
+        ensures settled { (answer : AnySettled) × (result ≡ step_of (outcome_of answer)) × SettlesStoreLook S.Store answer pass out.old out.new self.old self.new
             × IsAt self.old.passes pass (λ p. Extends (read_numbers_of answer (S.events self.new.store)) (read_sectors_of answer p.piece) self.old.history self.new.history)
             × IsCaused answer (S.faults self.old.store) (S.faults self.new.store) (S.late self.old.store) (S.late self.new.store) }
-        ensures stays { Stays (S.sectors self.old.store) (S.sectors self.new.store) (S.depth self.old.store) (S.depth self.new.store) (S.events self.old.store) (S.events self.new.store) }
-        ensures recorded_before { S.records self.new.store → S.records self.old.store }
+        ensures keeps { KeepsStore S.Store self.old.store self.new.store }
         ensures others { self.new ≡ record self.old { store = self.new.store; passes = self.new.passes; history = self.new.history; opening = self.new.opening } }
-        ensures opening { S.tells self.new.store → self.new.opening ≡ self.old.opening }
-        ensures opening_stands { S.records self.new.store → self.new.opening ≡ self.old.opening }
     {
         let outcome = settle_store_look(
             &mut self.store,
@@ -129,14 +113,12 @@ impl<S: Store, B: Base> Core<S, B> {
     /// Settles a look in the base.
     fn settle_base(&mut self, pass: u32, out: &mut [Sector]) -> Step
         requires phase { IsAt self.old.passes pass (λ p. (p.phase ≡ Looking) × (p.ticket ≡ None) × (p.count ≡ length out.old)) }
-        ensures settled { (answer : AnySettled) × (result ≡ step_of (outcome_of answer)) × BaseLookSettled answer self.old.shape pass self.old.passes self.new.passes self.old.history.log.entries self.new.history.log.entries
-            (B.flies self.old.base) (B.flies self.new.base) (B.tells self.new.base) (B.content self.new.base) out.old out.new
+        ensures settled { (answer : AnySettled) × (result ≡ step_of (outcome_of answer)) × SettlesBaseLook B.Base answer pass out.old out.new self.old self.new
             × IsAt self.old.passes pass (λ p. Extends (read_numbers_of answer (S.events self.old.store)) (read_sectors_of answer p.piece) self.old.history self.new.history)
             × IsCaused answer (B.faults self.old.base) (B.faults self.new.base) (B.late self.old.base) (B.late self.new.base) }
         ensures number { B.last self.new.base ≡ B.last self.old.base }
-        ensures base_stays { BaseStays (B.sectors self.old.base) (B.sectors self.new.base) (B.depth self.old.base) (B.depth self.new.base) (B.tells self.old.base) (B.tells self.new.base) (B.content self.old.base) (B.content self.new.base) }
+        ensures base_keeps { KeepsBase B.Base self.old.base self.new.base }
         ensures others { self.new ≡ record self.old { base = self.new.base; passes = self.new.passes; history = self.new.history } }
-        ensures told_before { B.tells self.new.base → B.tells self.old.base }
     {
         let outcome = settle_base_look(
             &self.store,
@@ -154,23 +136,13 @@ impl<S: Store, B: Base> Core<S, B> {
     /// ready with the fault of the device that was read.
     pub fn settle_look(&mut self, pass: u32, out: &mut [Sector]) -> Step
         requires phase { IsAt self.old.passes pass (λ p. (p.phase ≡ Looking) × (p.count ≡ length out.old)) }
-        ensures settled { (answer : AnySettled) × (result ≡ step_of (outcome_of answer)) × SettlesLook answer self.old.shape pass self.old.passes self.new.passes self.old.history self.new.history out.old out.new (S.events self.new.store)
-            (S.flies self.old.store) (S.flies self.new.store) (S.tells self.old.store) (S.tells self.new.store) (S.disk self.old.store) (S.disk self.new.store) (S.last self.old.store) (S.last self.new.store)
-            (B.flies self.old.base) (B.flies self.new.base) (B.tells self.new.base) (B.content self.new.base)
-            (S.faults self.old.store) (S.faults self.new.store) (S.late self.old.store) (S.late self.new.store) (B.faults self.old.base) (B.faults self.new.base) (B.late self.old.base) (B.late self.new.base) }
-        ensures stays { Stays (S.sectors self.old.store) (S.sectors self.new.store) (S.depth self.old.store) (S.depth self.new.store) (S.events self.old.store) (S.events self.new.store) }
+        ensures settled { (answer : AnySettled) × (result ≡ step_of (outcome_of answer)) × SettlesLook S.Store B.Base answer pass out.old out.new self.old self.new }
+        ensures keeps { KeepsStore S.Store self.old.store self.new.store }
         ensures base_number { B.last self.new.base ≡ B.last self.old.base }
-        ensures calm { IsCalm (S.faults self.old.store) (S.faults self.new.store) (S.late self.old.store) (S.late self.new.store) }
-        ensures base_calm { IsCalm (B.faults self.old.base) (B.faults self.new.base) (B.late self.old.base) (B.late self.new.base) }
-        ensures base_stays { BaseStays (B.sectors self.old.base) (B.sectors self.new.base) (B.depth self.old.base) (B.depth self.new.base) (B.tells self.old.base) (B.tells self.new.base) (B.content self.old.base) (B.content self.new.base) }
-        ensures recorded_before { S.records self.new.store → S.records self.old.store }
+        ensures base_keeps { KeepsBase B.Base self.old.base self.new.base }
         ensures store_same { IsAt self.old.passes pass (λ p. p.ticket ≡ None → self.new.store ≡ self.old.store) }
         ensures base_same { IsAt self.old.passes pass (λ p. IsSome p.ticket → self.new.base ≡ self.old.base) }
         ensures others { self.new ≡ record self.old { store = self.new.store; base = self.new.base; passes = self.new.passes; history = self.new.history; opening = self.new.opening } }
-        ensures opening { S.tells self.new.store → self.new.opening ≡ self.old.opening }
-        ensures opening_stands { S.records self.new.store → self.new.opening ≡ self.old.opening }
-        ensures told_before { S.tells self.new.store → S.tells self.old.store }
-        ensures base_told_before { B.tells self.new.base → B.tells self.old.base }
     {
         if self.passes[pass as usize].ticket.is_some() {
             self.settle_store(pass, out)

@@ -10,7 +10,8 @@ ghost use Rattle.vd_table.specs.Tables.{used};
 ghost use Rattle.vd_table.specs.Runs.{lacking};
 ghost use Rattle.vd_core.specs.Adding.{Extends};
 ghost use Rattle.vd_device.specs.Disks.{IsRunning};
-ghost use Rattle.vd_core.specs.Asking.{CanAsk, AskEnds, Claims, HasSize, CanReply, IsOkWhereDone, run_from, run_count, freed, without};
+ghost use Rattle.vd_device.specs.Stores.{IsTold};
+ghost use Rattle.vd_core.specs.Asking.{CanAsk, AskEnds, Claims, HasSize, CanReply, IsOkWhereDone, asking, asking_of, run_from, run_count, freed, without};
 
 use crate::asking::{ask_full, ask_request, need_of, reply_request};
 use crate::state::Core;
@@ -89,7 +90,7 @@ fn ask_in_room<S: Store>(
     request: Request<'_>,
 ) -> Option<Answer>
     requires can { CanAsk shape.now table.old passes.old.items history.old spare.old (S.events store.now) (asked_of request) pass }
-    ensures ends { AskEnds result (asked_of request.entry) shape.now pass table.old table.new passes.old.items passes.new.items history.old history.new spare.old spare.new (S.events store.now) }
+    ensures ends { AskEnds result (asked_of request.entry) (S.events store.now) pass (asking shape.now table.old passes.old.items history.old spare.old) (asking shape.now table.new passes.new.items history.new spare.new) }
     ensures running { S.tells store.now → (history.new ≡ history.old) ⊎ IsRunning (S.events store.now) (S.disk store.now) }
 {
     let need = need_of(shape, request);
@@ -156,8 +157,9 @@ impl<S: Store, B: Base> Core<S, B> {
         requires phase { IsAt self.old.passes pass (λ p. p.phase ≡ Idle) }
         requires size { HasSize (asked_of request) }
         requires inside { IsInside (self.old.shape.block * self.old.shape.blocks) (asked_of request) }
-        ensures ends { AskEnds result (asked_of request.entry) self.old.shape pass self.old.table self.new.table self.old.passes self.new.passes self.old.history self.new.history self.old.spare self.new.spare (S.events self.old.store) }
+        ensures ends { AskEnds result (asked_of request.entry) (S.events self.old.store) pass (asking_of self.old) (asking_of self.new) }
         ensures running { S.tells self.new.store → (self.new.history ≡ self.old.history) ⊎ IsRunning (S.events self.new.store) (S.disk self.new.store) }
+        ensures told { IsTold S.Store self.new.store }
         ensures others { self.new ≡ record self.old { table = self.new.table; passes = self.new.passes; history = self.new.history; spare = self.new.spare } }
     {
         ask_in_room(

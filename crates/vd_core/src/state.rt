@@ -1,27 +1,15 @@
 //! The core's parts, and what its type keeps.
 
-ghost use Rattle.std.specs.Prelude.{◌≡◌, ◌*◌, ◌<◌, ◌↔◌, IsTrue, true, List, length, Some, is_some, slice_get};
-ghost use Rattle.vd_law.specs.declared.entry.Sector.{Sector};
+ghost use Rattle.std.specs.Prelude.{◌≡◌, ◌<◌, ◌↔◌, IsTrue, true, length, Some, is_some, slice_get};
 ghost use Rattle.vd_format.specs.Headers.{IsValid};
 ghost use Rattle.vd_image.specs.Image.{geometry_of};
 ghost use Rattle.vd_passes.specs.declared.pass.Phase.TheVariants.{Flushing};
 ghost use Rattle.vd_metadata.specs.Attending.{IsAttended};
-ghost use Rattle.vd_image.specs.Layouts.{layout_of};
-ghost use Rattle.vd_image.specs.Decoders.{format_of};
-ghost use Rattle.vd_image.specs.CrashImages.{base_at};
-ghost use Rattle.vd_crash.specs.CrashSafe.{IsCrashSafe};
-ghost use Rattle.vd_reading.specs.Background.{zero_sector};
-ghost use Rattle.vd_core.specs.Start.{IsStart, WasSafe};
-ghost use Rattle.vd_core.specs.Agreeing.{AgreesWith};
-ghost use Rattle.vd_passes.specs.Places.{ArePlaces, place_of};
+ghost use Rattle.vd_core.specs.History.{IsHistoryOf};
 ghost use Rattle.vd_passes.specs.Passes.{has_region};
 ghost use Rattle.vd_core.specs.Moves.{IsStanding};
 ghost use Rattle.vd_passes.specs.Steps.{IsAt};
-ghost use Rattle.vd_law.specs.Rules.{IsRegular, IsLegal};
-ghost use Rattle.vd_passes.specs.Causes.{OfStore, OfBase, AreCaused};
-ghost use Rattle.vd_passes.specs.Tracing.{AreTraced};
-ghost use Rattle.vd_core.specs.Storing.{AreFullsCaused, IsStoredBy};
-ghost use Rattle.vd_core.specs.Local.{AreLocalBy};
+ghost use Rattle.vd_device.specs.Stores.{IsTold};
 ghost use Rattle.vd_passes.specs.declared.pass.Pass.{Pass as AnyPass};
 
 use std::marker::Model;
@@ -61,8 +49,9 @@ impl<S: Store, B: Base> Model for Core<S, B> {
     ghost Value = { View S B };
 
     ghost use Rattle.std.specs.Prelude.{◌⊎◌};
+    ghost use Rattle.vd_device.specs.Stores.{IsTold};
     ghost use Rattle.vd_core.specs.Start.{opening_at};
-    ghost use Rattle.vd_core.specs.Kept.{IsKept, IsTold, IsLogged, IsAccounted, IsRecorded, IsSafelyKept, IsSafelyStopped};
+    ghost use Rattle.vd_core.specs.Kept.{IsKept, IsFaithfullyKept, IsLogged, IsAccounted, IsRecorded, IsSafelyKept, IsSafelyStopped};
 
     ghost view = { λ c. record {
       store = c.store;
@@ -84,12 +73,13 @@ impl<S: Store, B: Base> Model for Core<S, B> {
 
     ghost invariant = { λ c. IsKept c.shape c.state.table c.state.fresh.bits c.regions c.passes.items c.history c.spare
         (S.sectors c.store) (S.depth c.store) (S.events c.store) (B.sectors c.base) (B.depth c.base) (S.flies c.store) (B.flies c.base)
-        × (S.tells c.store → B.tells c.base → IsTold c.shape c.state.header c.state.table c.state.fresh.bits c.passes.items c.history (S.disk c.store) (S.last c.store) (B.content c.base) (B.sectors c.base))
+        × (S.tells c.store → B.tells c.base → IsFaithfullyKept c.shape c.state.header c.state.table c.state.fresh.bits c.passes.items c.history (S.disk c.store) (S.last c.store) (B.content c.base) (B.sectors c.base))
         × IsAccounted c.shape c.state.map c.state.table c.state.fresh.bits c.passes.items c.history.log.entries (S.last c.store) c.store_faults (S.faults c.store) (B.last c.base) c.base_faults (B.faults c.base)
         × (S.tells c.store → IsLogged c.passes.items c.history (S.disk c.store))
         × IsRecorded c.shape c.state c.passes.items c.flusher c.keeper
         × (S.tells c.store → B.tells c.base → IsSafelyKept c.state.header c.state.map c.state.table c.state.fresh.bits c.keeper c.flusher c.passes.items c.history (S.disk c.store) (B.content c.base) (S.sectors c.store))
-        × (S.records c.store → B.tells c.base → S.tells c.store ⊎ IsSafelyStopped c.state.header c.history (S.events c.store) (S.disk c.store) (B.content c.base)) };
+        × (S.records c.store → B.tells c.base → S.tells c.store ⊎ IsSafelyStopped c.state.header c.history (S.events c.store) (S.disk c.store) (B.content c.base))
+        × IsTold S.Store c.store };
 }
 
 impl<S: Store, B: Base> Core<S, B> {
@@ -99,6 +89,7 @@ impl<S: Store, B: Base> Core<S, B> {
         ensures phase { (p : AnyPass) → slice_get self.now.passes pass ≡ Some p → result ≡ p.phase }
         ensures stands { (p : AnyPass) → slice_get self.now.passes pass ≡ Some p → IsStanding self.now.shape p }
         ensures attended { IsAttended self.now.shape self.now.table self.now.fresh self.now.passes self.now.flusher self.now.keeping }
+        ensures told { IsTold S.Store self.now.store }
     {
         self.passes[pass as usize].phase
     }
@@ -106,22 +97,7 @@ impl<S: Store, B: Base> Core<S, B> {
     /// All that was asked, done and replied since the core was opened.
     pub fn history(&self) -> &History
         ensures history { result.now ≡ self.now.history }
-        ensures regular { IsRegular (self.now.shape.block * self.now.shape.blocks) self.now.history.log.entries }
-        ensures legal { S.tells self.now.store → B.tells self.now.base → (start : List Sector) → IsStart self.now.opening (B.content self.now.base) self.now.header start → IsLegal start self.now.history.log.entries }
-        ensures store_faults { AreCaused OfStore self.now.history.log.entries self.now.store_faults (S.faults self.now.store) }
-        ensures base_faults { AreCaused OfBase self.now.history.log.entries self.now.base_faults (B.faults self.now.base) }
-        ensures traced { S.tells self.now.store → AreTraced (S.disk self.now.store).log self.now.history.log.entries self.now.history.numbers }
-        ensures full { AreFullsCaused self.now.shape self.now.entries (length self.now.table.chunks) self.now.table.storage self.now.history.log.entries }
-        // the chunks that have storage are those that had some and those for which writes have taken it
-        ensures stored { IsStoredBy self.now.shape self.now.entries self.now.table self.now.history.log.entries }
-        ensures local { AreLocalBy self.now.shape self.now.entries self.now.fresh self.now.history.log.entries }
-        // by the store's log as it stands, also where the store has stopped
-        ensures safe { S.records self.now.store → B.tells self.now.base → (start : List Sector) → IsStart self.now.opening (B.content self.now.base) self.now.header start → WasSafe self.now.opening self.now.header
-            → IsCrashSafe (format_of self.now.header) (layout_of self.now.header) (base_at zero_sector (B.content self.now.base)) zero_sector (S.disk self.now.store).start (S.disk self.now.store).log start self.now.history }
-        ensures agrees { S.tells self.now.store → B.tells self.now.base → (start : List Sector) → IsStart self.now.opening (B.content self.now.base) self.now.header start
-            → AgreesWith self.now.shape self.now.table self.now.fresh start (B.content self.now.base) self.now.history.log.entries (S.disk self.now.store) }
-        // no two blocks have a sector of the store in common
-        ensures apart { ArePlaces self.now.shape.block self.now.shape.storage_at (S.sectors self.now.store) (place_of self.now.shape self.now.table.chunks) }
+        ensures known { IsHistoryOf S.Store B.Base self.now }
     {
         &self.history
     }

@@ -2,13 +2,15 @@
 
 ghost use Rattle.std.specs.Prelude.{◌≡◌, ◌<◌, [], ◌∷◌, true, false, map, Some, IfErr, OnOk, slice_get};
 ghost use Rattle.vd_device.specs.declared.settled.Settled.{Settled as AnySettled};
-ghost use Rattle.vd_device.specs.Calls.{IsCalm, IsCaused};
+ghost use Rattle.vd_device.specs.Calls.{IsCaused};
 ghost use Rattle.vd_passes.specs.declared.pass.Phase.TheVariants.{Asked, Held, Fetching, Issuing};
 ghost use Rattle.vd_passes.specs.Passes.{region_of};
-ghost use Rattle.vd_passes.specs.Steps.{IsAt, HasAskedWrite, FetchSettled, Issues, WriteSettled};
+ghost use Rattle.vd_passes.specs.Steps.{IsAt, HasAskedWrite};
+ghost use Rattle.vd_core.specs.Stepping.{SettlesFetch, IssuesPiece, SettlesWrite};
 ghost use Rattle.vd_core.specs.Adding.{Extends};
 ghost use Rattle.vd_core.specs.Outcomes.{outcome_of, numbers_of, step_of};
-ghost use Rattle.vd_core.specs.Devices.{Stays, BaseStays};
+ghost use Rattle.vd_device.specs.Stores.{KeepsStore};
+ghost use Rattle.vd_device.specs.Bases.{KeepsBase};
 ghost use Rattle.vd_device.specs.Disks.{IsRunning};
 ghost use Rattle.vd_passes.specs.Causes.{OfStore, OfBase, IsNumbered};
 ghost use Rattle.vd_core.specs.Entering.{IsKeptOut, EntersBlock};
@@ -46,12 +48,10 @@ impl<S: Store, B: Base> Core<S, B> {
     /// block. The block isn't fresh.
     pub fn fetch(&mut self, pass: u32)
         requires phase { IsAt self.old.passes pass (λ p. (p.phase ≡ Held) × (p.write ≡ true) × (slice_get self.old.fresh p.block ≡ Some false)) }
-        ensures fetches { FetchesBlock self.old.shape pass self.old.passes self.new.passes (B.flies self.old.base) (B.flies self.new.base) }
+        ensures fetches { FetchesBlock B.Base self.old.shape pass self.old.passes self.new.passes self.old.base self.new.base }
         ensures number { IsAt self.new.passes pass (IsNumbered OfBase (B.last self.old.base) (B.last self.new.base)) }
-        ensures base_stays { BaseStays (B.sectors self.old.base) (B.sectors self.new.base) (B.depth self.old.base) (B.depth self.new.base) (B.tells self.old.base) (B.tells self.new.base) (B.content self.old.base) (B.content self.new.base) }
-        ensures calm { IsCalm (B.faults self.old.base) (B.faults self.new.base) (B.late self.old.base) (B.late self.new.base) }
+        ensures base_keeps { KeepsBase B.Base self.old.base self.new.base }
         ensures others { self.new ≡ record self.old { base = self.new.base; passes = self.new.passes } }
-        ensures told_before { B.tells self.new.base → B.tells self.old.base }
     {
         fetch_block(&mut self.base, &self.shape, &mut self.passes, pass as usize);
     }
@@ -59,13 +59,12 @@ impl<S: Store, B: Base> Core<S, B> {
     /// Settles that read. Where it failed the pass is ready with a base fault. `out`, which is empty for a write, is left as it is.
     pub fn settle_fetch(&mut self, pass: u32, out: &mut [Sector]) -> Step
         requires phase { IsAt self.old.passes pass (λ p. p.phase ≡ Fetching) }
-        ensures settled { (answer : AnySettled) × (result ≡ step_of (outcome_of answer)) × FetchSettled answer self.old.shape pass self.old.passes self.new.passes (B.flies self.old.base) (B.flies self.new.base) (B.tells self.new.base) (B.content self.new.base)
+        ensures settled { (answer : AnySettled) × (result ≡ step_of (outcome_of answer)) × SettlesFetch B.Base answer pass self.old self.new
             × IsCaused answer (B.faults self.old.base) (B.faults self.new.base) (B.late self.old.base) (B.late self.new.base) }
         ensures out { out.new ≡ out.old }
         ensures number { B.last self.new.base ≡ B.last self.old.base }
-        ensures base_stays { BaseStays (B.sectors self.old.base) (B.sectors self.new.base) (B.depth self.old.base) (B.depth self.new.base) (B.tells self.old.base) (B.tells self.new.base) (B.content self.old.base) (B.content self.new.base) }
+        ensures base_keeps { KeepsBase B.Base self.old.base self.new.base }
         ensures others { self.new ≡ record self.old { base = self.new.base; passes = self.new.passes } }
-        ensures told_before { B.tells self.new.base → B.tells self.old.base }
     {
         let _ = out;
         let outcome = settle_block(&mut self.base, &self.shape, &mut self.passes, pass as usize);
@@ -77,17 +76,12 @@ impl<S: Store, B: Base> Core<S, B> {
     pub fn issue(&mut self, pass: u32, content: &[Sector])
         requires phase { IsAt self.old.passes pass (IsWritable self.old.shape self.old.fresh) }
         requires content { HasAskedWrite self.old.history.log.entries pass content.now }
-        ensures issues { Issues self.old.shape self.old.fresh content.now pass self.old.passes self.new.passes self.old.history.log.entries self.new.history.log.entries
-            (S.flies self.old.store) (S.flies self.new.store) (S.tells self.old.store) (S.tells self.new.store) (S.disk self.old.store) (S.disk self.new.store) (S.last self.old.store) (S.last self.new.store) }
+        ensures issues { IssuesPiece S.Store content.now pass self.old self.new }
         ensures extends { IsAt self.old.passes pass (λ p. Extends (S.events self.old.store ∷ []) p.piece self.old.history self.new.history) }
         ensures number { IsAt self.new.passes pass (IsNumbered OfStore (S.last self.old.store) (S.last self.new.store)) }
         ensures running { S.tells self.old.store → IsRunning (S.events self.old.store) (S.disk self.old.store) }
-        ensures recorded_before { S.records self.new.store → S.records self.old.store }
-        ensures calm { IsCalm (S.faults self.old.store) (S.faults self.new.store) (S.late self.old.store) (S.late self.new.store) }
-        ensures stays { Stays (S.sectors self.old.store) (S.sectors self.new.store) (S.depth self.old.store) (S.depth self.new.store) (S.events self.old.store) (S.events self.new.store) }
+        ensures keeps { KeepsStore S.Store self.old.store self.new.store }
         ensures others { self.new ≡ record self.old { store = self.new.store; passes = self.new.passes; history = self.new.history; opening = self.new.opening } }
-        ensures opening { S.tells self.new.store → self.new.opening ≡ self.old.opening }
-        ensures opening_stands { S.records self.new.store → self.new.opening ≡ self.old.opening }
     {
         issue_piece(
             &mut self.store,
@@ -103,16 +97,12 @@ impl<S: Store, B: Base> Core<S, B> {
     /// Settles the write of a pass. Where it is done its block is fresh, and owed to the next flush unless every image has it; where it failed the pass is ready with a store fault.
     pub fn settle_issue(&mut self, pass: u32) -> Step
         requires phase { IsAt self.old.passes pass (λ p. p.phase ≡ Issuing) }
-        ensures settled { (answer : AnySettled) × (result ≡ step_of (outcome_of answer)) × WriteSettled answer pass self.old.fresh self.new.fresh self.old.passes self.new.passes self.old.history.log.entries self.new.history.log.entries
-            (S.flies self.old.store) (S.flies self.new.store) (S.tells self.old.store) (S.tells self.new.store) (S.disk self.old.store) (S.disk self.new.store) (S.last self.old.store) (S.last self.new.store)
+        ensures settled { (answer : AnySettled) × (result ≡ step_of (outcome_of answer)) × SettlesWrite S.Store answer pass self.old self.new
             × Extends (numbers_of answer (S.events self.new.store)) 0 self.old.history self.new.history
             × IsCaused answer (S.faults self.old.store) (S.faults self.new.store) (S.late self.old.store) (S.late self.new.store)
             × IsAt self.old.passes pass (λ p. self.new.keeping ≡ owed_after answer p.block self.old.keeping) }
-        ensures stays { Stays (S.sectors self.old.store) (S.sectors self.new.store) (S.depth self.old.store) (S.depth self.new.store) (S.events self.old.store) (S.events self.new.store) }
-        ensures recorded_before { S.records self.new.store → S.records self.old.store }
+        ensures keeps { KeepsStore S.Store self.old.store self.new.store }
         ensures others { self.new ≡ record self.old { store = self.new.store; fresh = self.new.fresh; keeping = self.new.keeping; passes = self.new.passes; history = self.new.history; opening = self.new.opening } }
-        ensures opening { S.tells self.new.store → self.new.opening ≡ self.old.opening }
-        ensures opening_stands { S.records self.new.store → self.new.opening ≡ self.old.opening }
     {
         let outcome = settle_write(
             &mut self.store,

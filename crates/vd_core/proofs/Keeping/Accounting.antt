@@ -25,9 +25,9 @@ use Rattle.vd_passes.specs.Causes.{OfStore, OfBase, IsNumbered}
 use Rattle.vd_passes.proofs.Blaming.{new-blamed}
 use Rattle.vd_passes.proofs.BlamingSteps.{enters-blamed, fetches-blamed, fetches-store_blamed, fills-blamed, fills-store_blamed, fetch_settled-blamed, fetch_settled-store_blamed, issues-blamed, issues-base_blamed, write_settled-blamed, write_settled-base_blamed, looks-blamed, looks-base_blamed, base_looks-blamed, base_looks-store_blamed, sees_zeros-blamed, look_settled-blamed, look_settled-base_blamed, base_look_settled-blamed, base_look_settled-store_blamed, replies-blamed, asks-blamed, asks_full-blamed}
 use Rattle.vd_passes.proofs.Answered.{none-of-passes, set-of-passes, issues-of-passes, write_settled-of-passes, sees-of-passes, look_settled-of-passes, base_look_settled-of-passes, replies-of-passes, asks-of-passes, asks_full-of-passes}
-use Rattle.vd_core.specs.Asking.{CanAsk, AskEnds}
+use Rattle.vd_core.specs.Asking.{asking, CanAsk, AskEnds}
 use Rattle.vd_core.specs.Entering.{IsKeptOut, EntersBlock}
-use Rattle.vd_core.specs.Fetching.{FetchesBlock}
+use Rattle.vd_core.proofs.Fetched.{FetchesIn}
 use Rattle.vd_core.specs.Kept.{IsAccounted}
 use Rattle.vd_core.specs.Local.{AreLocalBy}
 use Rattle.vd_core.specs.Opening.{AreNew}
@@ -48,7 +48,7 @@ module _ {shape : Shape} {had : List MapEntry} {table : Given} {fresh : List Boo
   }
   enter-accounted chunks regions regions' {passes'} (Err busy) out entered = rw out.passes_same was
 
-  pub fetch-accounted : {passes' : List Pass} {base_flies base_flies' : List Ticket → Type 0} {base_last' base_faults' : ℕ} → FetchesBlock shape i passes passes' base_flies base_flies' → IsAt passes' i (IsNumbered OfBase base_last base_last') → base_faults ≤ base_faults'
+  pub fetch-accounted : {passes' : List Pass} {base_flies base_flies' : List Ticket → Type 0} {base_last' base_faults' : ℕ} → FetchesIn shape i passes passes' base_flies base_flies' → IsAt passes' i (IsNumbered OfBase base_last base_last') → base_faults ≤ base_faults'
       → IsAccounted shape had table fresh passes' history last opened faults base_last' base_opened base_faults'
   fetch-accounted {passes'} {base_flies} {base_flies'} {base_last'} {base_faults'} (inl f) number rise = let step = f.0 in record {
     of_store = fetches-store_blamed was.of_store step;
@@ -164,7 +164,7 @@ module _ {shape : Shape} {had : List MapEntry} {table : Given} {fresh : List Boo
 pub ask-accounted : {shape : Shape} {had : List MapEntry} {table : Given} {fresh : List Bool} {places : ℕ → Option ℕ} {passes : List Pass} {history : Numbered} {sectors depth base_sectors base_depth : ℕ} {flies base_flies : List Ticket → Type 0}
     {last opened faults base_last base_opened base_faults : ℕ} {result : Option Answer} {request : Asked} {i : ℕ} {table' : Given} {passes' : List Pass} {history' : Numbered} {spare spare' : Room} {events : ℕ}
     → IsCoherent shape fresh places passes history.log.entries sectors depth base_sectors base_depth flies base_flies → CanAsk shape table passes history spare events request i
-    → AskEnds result request shape i table table' passes passes' history history' spare spare' events → IsAccounted shape had table fresh passes history.log.entries last opened faults base_last base_opened base_faults
+    → AskEnds result request events i (asking shape table passes history spare) (asking shape table' passes' history' spare') → IsAccounted shape had table fresh passes history.log.entries last opened faults base_last base_opened base_faults
     → IsAccounted shape had table' fresh passes' history'.log.entries last opened faults base_last base_opened base_faults
 ask-accounted {result = result} {request = request} {i = i} {passes' = passes'} {spare' = spare'} {events = events} co can (inl none) was = let same = none.2 in record {
   of_store = rw (same.passes_same, same.history_same) was.of_store;

@@ -24,8 +24,8 @@ use Rattle.vd_passes.proofs.PlacesGiven.{are-places}
 use Rattle.vd_passes.proofs.Needing.{room-idle, room-asked}
 use Rattle.vd_passes.proofs.Holding.{phase-at, asks-regions, asks_full-regions}
 use Rattle.vd_passes.proofs.Asking.{IsPlaced, asks-coherent, asks-faithful, asks_full-coherent, asks_full-faithful}
-use Rattle.vd_core.specs.Asking.{CanAsk, HasSize, EndsFull, EndsAsked, AskEnds}
-use Rattle.vd_core.specs.Kept.{IsRoomy, IsKept, IsTold}
+use Rattle.vd_core.specs.Asking.{asking, CanAsk, HasSize, EndsFull, EndsAsked, AskEnds}
+use Rattle.vd_core.specs.Kept.{IsRoomy, IsKept, IsFaithfullyKept}
 use Rattle.vd_core.proofs.Claiming.{some-sectors, need-events, need-sectors, inside-more, run-inside, run-placed, claim-extends, claim-storage}
 use Rattle.vd_core.proofs.Reserving.{room-shared}
 use Rattle.vd_core.proofs.Keeping.Telling.{told-here}
@@ -65,7 +65,7 @@ module _ {shape : Shape} {table : Given} {fresh : List Bool} {regions : List (Op
   none-held = phase-at false Idle passes i refl at
 
   -- A write is answered Full.
-  module _ {needed free : ℕ} {table' : Given} {passes' : List Pass} {history' : Numbered} {spare' : Room} (ends : EndsFull request needed free shape i table table' passes passes' history history' spare spare' events) where
+  module _ {needed free : ℕ} {table' : Given} {passes' : List Pass} {history' : Numbered} {spare' : Room} (ends : EndsFull request needed free events i (asking shape table passes history spare) (asking shape table' passes' history' spare')) where
     full-roomy : IsRoomy shape.block passes' history' spare' events
     full-roomy =
         let step = ends.asks in let none = none-left step.there in
@@ -76,7 +76,7 @@ module _ {shape : Shape} {table : Given} {fresh : List Bool} {regions : List (Op
         (omega (arith, few, a, c)) (omega (arith, told, b, d)) (omega arith) (omega arith)
 
   -- The request is asked.
-  module _ {table' : Given} {passes' : List Pass} {history' : Numbered} {spare' : Room} (ends : EndsAsked request shape i table table' passes passes' history history' spare spare' events) where
+  module _ {table' : Given} {passes' : List Pass} {history' : Numbered} {spare' : Room} (ends : EndsAsked request events i (asking shape table passes history spare) (asking shape table' passes' history' spare')) where
     asked-roomy : IsRoomy shape.block passes' history' spare' events
     asked-roomy =
         let step = ends.asks in let none = none-left step.there in
@@ -104,14 +104,14 @@ module _ {shape : Shape} {table : Given} {fresh : List Bool} {regions : List (Op
       storage = claim-storage kept.storage ends.claims;
     }
 
-    asked-told : {h : Header} {disk : Disk} {last : ℕ} {base : List Sector} → IsTold shape h table fresh passes history disk last base base_sectors → IsTold shape h table' fresh passes' history' disk last base base_sectors
+    asked-told : {h : Header} {disk : Disk} {last : ℕ} {base : List Sector} → IsFaithfullyKept shape h table fresh passes history disk last base base_sectors → IsFaithfullyKept shape h table' fresh passes' history' disk last base base_sectors
     asked-told {h} {disk} {last} {base} told = told-here told ends.extends.opened (λ start faithful. asks-faithful request kept.coherent at (some-sectors request size) inside asked-extends asked-places asked-placed ends.asks faithful)
 
 -- Only a write is answered Full.
 module _ {shape : Shape} {table : Given} {fresh : List Bool} {regions : List (Option Region)} {passes : List Pass} {history : Numbered} {spare : Room} {sectors depth events base_sectors base_depth : ℕ} {flies base_flies : List Ticket → Type 0} where
   full-kept : (request : Asked) (i : ℕ) → IsKept shape table fresh regions passes history spare sectors depth events base_sectors base_depth flies base_flies → IsAt passes i (λ p. p.phase ≡ Idle)
       → HasSize request → IsInside (shape.block * shape.blocks) request → {needed free : ℕ} {table' : Given} {passes' : List Pass} {history' : Numbered} {spare' : Room}
-      → EndsFull request needed free shape i table table' passes passes' history history' spare spare' events
+      → EndsFull request needed free events i (asking shape table passes history spare) (asking shape table' passes' history' spare')
       → IsKept shape table' fresh regions passes' history' spare' sectors depth events base_sectors base_depth flies base_flies
   full-kept (Read first count) i kept at size inside {needed} ends = let none : needed ≡ 0 = ends.needed_is in absurd (let less = ends.fewer in omega arith)
   full-kept (Write first content) i kept at size inside ends = record {
@@ -124,8 +124,8 @@ module _ {shape : Shape} {table : Given} {fresh : List Bool} {regions : List (Op
 
   full-told : (request : Asked) (i : ℕ) → IsKept shape table fresh regions passes history spare sectors depth events base_sectors base_depth flies base_flies → IsAt passes i (λ p. p.phase ≡ Idle)
       → HasSize request → IsInside (shape.block * shape.blocks) request → {needed free : ℕ} {table' : Given} {passes' : List Pass} {history' : Numbered} {spare' : Room}
-      → EndsFull request needed free shape i table table' passes passes' history history' spare spare' events
-      → {h : Header} {disk : Disk} {last : ℕ} {base : List Sector} → IsTold shape h table fresh passes history disk last base base_sectors → IsTold shape h table' fresh passes' history' disk last base base_sectors
+      → EndsFull request needed free events i (asking shape table passes history spare) (asking shape table' passes' history' spare')
+      → {h : Header} {disk : Disk} {last : ℕ} {base : List Sector} → IsFaithfullyKept shape h table fresh passes history disk last base base_sectors → IsFaithfullyKept shape h table' fresh passes' history' disk last base base_sectors
   full-told (Read first count) i kept at size inside {needed} ends told = let none : needed ≡ 0 = ends.needed_is in absurd (let less = ends.fewer in omega arith)
   full-told (Write first content) i kept at size inside ends told =
       told-here told ends.extends.opened (λ start faithful. rw ends.table_same (asks_full-faithful first content kept.coherent at size.0 inside ends.asks faithful))
@@ -135,7 +135,7 @@ module _ {shape : Shape} {table : Given} {fresh : List Bool} {regions : List (Op
 module _ {shape : Shape} {table : Given} {fresh : List Bool} {regions : List (Option Region)} {passes : List Pass} {history : Numbered} {spare : Room} {sectors depth events base_sectors base_depth : ℕ} {flies base_flies : List Ticket → Type 0}
     (request : Asked) (i : ℕ) (kept : IsKept shape table fresh regions passes history spare sectors depth events base_sectors base_depth flies base_flies)
     (at : IsAt passes i (λ p. p.phase ≡ Idle)) (size : HasSize request) (inside : IsInside (shape.block * shape.blocks) request)
-    {result : Option Answer} {table' : Given} {passes' : List Pass} {history' : Numbered} {spare' : Room} (ends : AskEnds result request shape i table table' passes passes' history history' spare spare' events) where
+    {result : Option Answer} {table' : Given} {passes' : List Pass} {history' : Numbered} {spare' : Room} (ends : AskEnds result request events i (asking shape table passes history spare) (asking shape table' passes' history' spare')) where
   pub ask-kept : IsKept shape table' fresh regions passes' history' spare' sectors depth events base_sectors base_depth flies base_flies
   ask-kept = elim ends [
     | inl none ↦ let same = none.2 in rw (same.table_same, same.passes_same, same.history_same, same.left_same) kept
@@ -145,7 +145,7 @@ module _ {shape : Shape} {table : Given} {fresh : List Bool} {regions : List (Op
     ]
   ]
 
-  pub ask-told : {h : Header} {disk : Disk} {last : ℕ} {base : List Sector} → IsTold shape h table fresh passes history disk last base base_sectors → IsTold shape h table' fresh passes' history' disk last base base_sectors
+  pub ask-told : {h : Header} {disk : Disk} {last : ℕ} {base : List Sector} → IsFaithfullyKept shape h table fresh passes history disk last base base_sectors → IsFaithfullyKept shape h table' fresh passes' history' disk last base base_sectors
   ask-told {h} {disk} {last} {base} told = elim ends [
     | inl none ↦ let same = none.2 in rw (same.table_same, same.passes_same, same.history_same) told
     | inr more ↦ elim more [

@@ -22,7 +22,7 @@ use Rattle.vd_passes.proofs.Needing.{is_before_event, room-entered}
 use Rattle.vd_passes.proofs.Holding.{region_on}
 use Rattle.vd_passes.proofs.Entering.{enters-coherent, enters-faithful, enters-regions}
 use Rattle.vd_core.specs.Entering.{CanEnter, EntersBlock, IsKeptOut}
-use Rattle.vd_core.specs.Kept.{IsKept, IsTold}
+use Rattle.vd_core.specs.Kept.{IsKept, IsFaithfullyKept}
 use Rattle.vd_core.proofs.Rooming.{room-same}
 use Rattle.vd_core.proofs.Keeping.Telling.{told-here}
 
@@ -83,13 +83,13 @@ module _ {shape : Shape} {table : Given} {fresh : List Bool} {regions : List (Op
     enter-kept (Ok v) busy enters = entered-kept enters
     enter-kept (Err busy) out enters = kept-out-kept busy.by out
 
-  module _ {passes' : List Pass} {h : Header} {tells base_tells : Type 0} {disk : Disk} {last : ℕ} {base : List Sector} (was : tells → base_tells → IsTold shape h table fresh passes history disk last base base_sectors) (regions' : List (Option Region)) where
-    entered-told : EntersBlock shape table.chunks regions regions' i passes passes' → tells → base_tells → IsTold shape h table fresh passes' history disk last base base_sectors
+  module _ {passes' : List Pass} {h : Header} {tells base_tells : Type 0} {disk : Disk} {last : ℕ} {base : List Sector} (was : tells → base_tells → IsFaithfullyKept shape h table fresh passes history disk last base base_sectors) (regions' : List (Option Region)) where
+    entered-told : EntersBlock shape table.chunks regions regions' i passes passes' → tells → base_tells → IsFaithfullyKept shape h table fresh passes' history disk last base base_sectors
     entered-told step told base_told =
         told-here (was told base_told) refl (λ start faithful. enters-faithful kept.coherent (at.0, at.1, at.2.0) step.enters regions kept.held step.free faithful)
 
     pub enter-told : (result : Result Unit Busy) → IfErr result (λ busy. IsKeptOut shape regions regions' i passes passes' busy.by) → OnOk result (EntersBlock shape table.chunks regions regions' i passes passes')
-        → tells → base_tells → IsTold shape h table fresh passes' history disk last base base_sectors
+        → tells → base_tells → IsFaithfullyKept shape h table fresh passes' history disk last base base_sectors
     enter-told (Ok v) busy enters told base_told = entered-told enters told base_told
     enter-told (Err busy) out enters told base_told = rw out.passes_same (was told base_told)
 

@@ -20,10 +20,10 @@ use Rattle.vd_passes.proofs.Lists.{some-inj}
 use Rattle.vd_passes.proofs.Needing.{is_before_event, room-fetched, room-filled, room-failed}
 use Rattle.vd_passes.proofs.Holding.{phase-at, fetches-regions, fills_zeros-regions, fetch_settled-regions, regions_fetched}
 use Rattle.vd_passes.proofs.Fetching.{IsToFill, fetches-coherent, fetches-faithful, fills_zeros-coherent, fills_zeros-faithful, fetch_settled-coherent, fetch_settled-faithful, waiting-for-fetch, fetch-count}
-use Rattle.vd_core.specs.Devices.{BaseStays}
+use Rattle.vd_core.proofs.Keeping.Devices.{BaseStays}
 use Rattle.vd_core.specs.Outcomes.{outcome_of, released_failed}
-use Rattle.vd_core.specs.Fetching.{FetchesBlock}
-use Rattle.vd_core.specs.Kept.{IsKept, IsTold}
+use Rattle.vd_core.proofs.Fetched.{FetchesIn}
+use Rattle.vd_core.specs.Kept.{IsKept, IsFaithfullyKept}
 use Rattle.vd_core.proofs.Rooming.{room-same}
 use Rattle.vd_core.proofs.Keeping.Devices.{flight-kept, backed}
 use Rattle.vd_core.proofs.Keeping.Telling.{told-here}
@@ -54,25 +54,25 @@ module _ {shape : Shape} {table : Given} {fresh : List Bool} {regions : List (Op
     storage = kept.storage;
   }
 
-  fetched-block : {passes' : List Pass} {base_flies' : List Ticket → Type 0} → FetchesBlock shape i passes passes' base_flies base_flies'
+  fetched-block : {passes' : List Pass} {base_flies' : List Ticket → Type 0} → FetchesIn shape i passes passes' base_flies base_flies'
       → IsKept shape table fresh regions passes' history spare sectors depth events base_sectors base_depth flies base_flies'
   fetched-block {passes'} {base_flies'} step = elim step [
     | inl f ↦ fetches-kept f.0
     | inr z ↦ let k = fills-kept z.0 in record { coherent = flight-kept k.coherent z.1; held = k.held; roomy = k.roomy; storage = k.storage }
   ]
 
-  module _ {passes' : List Pass} {base_flies' : List Ticket → Type 0} (step : FetchesBlock shape i passes passes' base_flies base_flies')
+  module _ {passes' : List Pass} {base_flies' : List Ticket → Type 0} (step : FetchesIn shape i passes passes' base_flies base_flies')
       {base_sectors' base_depth' : ℕ} {tells tells' : Type 0} {content content' : List Sector} (stays : BaseStays base_sectors base_sectors' base_depth base_depth' tells tells' content content') where
     pub fetch-kept : IsKept shape table fresh regions passes' history spare sectors depth events base_sectors' base_depth' flies base_flies'
     fetch-kept = rw (stays.sectors_same, stays.depth_same) (fetched-block step)
 
-    same-told : {h : Header} {disk : Disk} {last : ℕ} → IsTold shape h table fresh passes history disk last content base_sectors → IsTold shape h table fresh passes' history disk last content base_sectors
+    same-told : {h : Header} {disk : Disk} {last : ℕ} → IsFaithfullyKept shape h table fresh passes history disk last content base_sectors → IsFaithfullyKept shape h table fresh passes' history disk last content base_sectors
     same-told {h} {disk} {last} was = told-here was refl (λ start faithful. elim step [
       | inl f ↦ fetches-faithful kept.coherent at f.0 (λ (told : Unit {0}). faithful) tt
       | inr z ↦ fills_zeros-faithful kept.coherent at z.0 content (λ (told : Unit {0}). backed kept.coherent content was.base_size) (λ told. faithful) tt
     ])
 
-    pub fetch-told : {h : Header} {told : Type 0} {disk : Disk} {last : ℕ} → (told → tells → IsTold shape h table fresh passes history disk last content base_sectors) → told → tells' → IsTold shape h table fresh passes' history disk last content' base_sectors'
+    pub fetch-told : {h : Header} {told : Type 0} {disk : Disk} {last : ℕ} → (told → tells → IsFaithfullyKept shape h table fresh passes history disk last content base_sectors) → told → tells' → IsFaithfullyKept shape h table fresh passes' history disk last content' base_sectors'
     fetch-told {h} {told} {disk} {last} was store base = rw (stays.sectors_same, stays.content_same base) (same-told (was store (stays.told_before base)))
 
 -- The settle of that read.
@@ -118,7 +118,7 @@ module _ {shape : Shape} {table : Given} {fresh : List Bool} {regions : List (Op
           → IsKept shape table fresh regions' passes' history spare sectors depth events base_sectors' base_depth' flies base_flies'
       settle_fetch-kept regions' released = rw (stays.sectors_same, stays.depth_same) (settled-block regions' released)
 
-      pub settle_fetch-told : {h : Header} {told : Type 0} {disk : Disk} {last : ℕ} → (told → tells → IsTold shape h table fresh passes history disk last content base_sectors) → told → base_tells → IsTold shape h table fresh passes' history disk last base base_sectors'
+      pub settle_fetch-told : {h : Header} {told : Type 0} {disk : Disk} {last : ℕ} → (told → tells → IsFaithfullyKept shape h table fresh passes history disk last content base_sectors) → told → base_tells → IsFaithfullyKept shape h table fresh passes' history disk last base base_sectors'
       settle_fetch-told {h} {told} {disk} {last} was store tell =
-          let before : IsTold shape h table fresh passes history disk last base base_sectors = rw (stays.content_same tell) (was store (stays.told_before tell)) in
+          let before : IsFaithfullyKept shape h table fresh passes history disk last base base_sectors = rw (stays.content_same tell) (was store (stays.told_before tell)) in
           rw stays.sectors_same (told-here before refl (λ start faithful. fetch_settled-faithful kept.coherent at step (λ (t : Unit {0}). tell) (λ t. backed kept.coherent base before.base_size) (λ t. faithful) tt))

@@ -20,15 +20,11 @@ use Rattle.vd_passes.specs.Causes.{OfStore, IsNumbered}
 use Rattle.vd_passes.proofs.Flushing.{IsFlushing, submits_meta-coherent, submits_meta-regions, meta_settled-coherent, meta_settled-regions, ends_flush-coherent, ends_flush-regions}
 use Rattle.vd_passes.proofs.FlushingTold.{submits_meta-faithful, meta_settled-faithful, ends_flush-faithful}
 use Rattle.vd_passes.proofs.FlushingAccounts.{room-submits_meta, room-meta_settled, room-ends_flush, meta_settled-same, submits_meta-blamed, submits_meta-base_blamed, submits_meta-of-passes, submits_meta-followed, meta_settled-blamed, meta_settled-base_blamed, meta_settled-of-passes, meta_settled-followed, ends_flush-blamed, ends_flush-of-passes, ends_flush-followed}
-use Rattle.vd_core.specs.Devices.{Stays}
-use Rattle.vd_core.specs.Kept.{IsKept, IsLogged, IsTold, IsAccounted}
+use Rattle.vd_core.proofs.Keeping.Devices.{Stays}
+use Rattle.vd_core.specs.Kept.{IsKept, IsLogged, IsFaithfullyKept, IsAccounted}
 use Rattle.vd_core.proofs.Rooming.{room-same}
 use Rattle.vd_core.proofs.Starting.{GoesOn, settle-goes-on}
 use Rattle.vd_core.proofs.Keeping.Telling.{told-on, told-here, logged-on, logged-here}
-
--- how the metadata's steps say that a store stays as it was
-pub stays-by : {sectors sectors' depth depth' events events' : ℕ} → (sectors' ≡ sectors) × (depth' ≡ depth) × (events ≤ events') → Stays sectors sectors' depth depth' events events'
-stays-by stays = record { sectors_same = stays.0; depth_same = stays.1; events_rise = stays.2 }
 
 ends-way : {why : Option Fault} {i : ℕ} {passes passes' : List Pass} (step : EndsFlush why i passes passes') → IsFlushing step.pass
 ends-way step = elim step.cause [ inl over ↦ inr over.1 | inr worn ↦ inl worn.2 ]
@@ -45,8 +41,8 @@ module _ {shape : Shape} {table : Given} {fresh : List Bool} {regions : List (Op
       storage = rw stays.sectors_same kept.storage;
     }
 
-    pub submit-told : {h : Header} {base_told : Type 0} {base : List Sector} → (tells → IsLogged passes history disk) → (tells → base_told → IsTold shape h table fresh passes history disk last base base_sectors) → tells' → base_told
-        → IsTold shape h table fresh passes' history disk' last' base base_sectors
+    pub submit-told : {h : Header} {base_told : Type 0} {base : List Sector} → (tells → IsLogged passes history disk) → (tells → base_told → IsFaithfullyKept shape h table fresh passes history disk last base base_sectors) → tells' → base_told
+        → IsFaithfullyKept shape h table fresh passes' history disk' last' base base_sectors
     submit-told {h} {base_told} {base} logged was store tell = let before = step.told_before store in
         told-on (was before tell) (logged before) (_, (step.told store).0) refl (λ start faithful. submits_meta-faithful kept.coherent step (λ b. faithful) store)
 
@@ -60,8 +56,8 @@ module _ {shape : Shape} {table : Given} {fresh : List Bool} {regions : List (Op
       storage = rw stays.sectors_same kept.storage;
     }
 
-    pub settle_meta-told : {h : Header} {base_told : Type 0} {base : List Sector} → (tells → IsLogged passes history disk) → (tells → base_told → IsTold shape h table fresh passes history disk last base base_sectors) → tells' → base_told
-        → IsTold shape h table fresh passes' history disk' last' base base_sectors
+    pub settle_meta-told : {h : Header} {base_told : Type 0} {base : List Sector} → (tells → IsLogged passes history disk) → (tells → base_told → IsFaithfullyKept shape h table fresh passes history disk last base base_sectors) → tells' → base_told
+        → IsFaithfullyKept shape h table fresh passes' history disk' last' base base_sectors
     settle_meta-told {h} {base_told} {base} logged was store tell = let before = step.told_before store in
         told-on (was before tell) (logged before) (settle-goes-on (step.told store)) refl (λ start faithful. meta_settled-faithful kept.coherent step (λ b. faithful) store)
 
@@ -79,8 +75,8 @@ module _ {shape : Shape} {table : Given} {fresh : List Bool} {regions : List (Op
       storage = kept.storage;
     }
 
-    pub end-told : {h : Header} {tells base_tells : Type 0} {disk : Disk} {last : ℕ} {base : List Sector} → (tells → base_tells → IsTold shape h table fresh passes history disk last base base_sectors) → tells → base_tells
-        → IsTold shape h table fresh passes' history disk last base base_sectors
+    pub end-told : {h : Header} {tells base_tells : Type 0} {disk : Disk} {last : ℕ} {base : List Sector} → (tells → base_tells → IsFaithfullyKept shape h table fresh passes history disk last base base_sectors) → tells → base_tells
+        → IsFaithfullyKept shape h table fresh passes' history disk last base base_sectors
     end-told {h} {tells} {base_tells} {disk} {last} {base} was store tell = told-here (was store tell) refl (λ start faithful. ends_flush-faithful kept.coherent step faithful)
 
 pub submit-opening : {passes passes' : List Pass} {i : ℕ} {content : List Sector} {shape : Shape} {flies flies' : List Ticket → Type 0} {tells tells' : Type 0} {disk disk' : Disk} {last last' : ℕ}

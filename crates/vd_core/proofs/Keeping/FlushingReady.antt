@@ -7,7 +7,7 @@ use Rattle.vd_device.specs.declared.ticket.Ticket.{Ticket}
 use Rattle.vd_device.specs.declared.ticket.Kind.TheVariants.{Write, Flush}
 use Rattle.vd_device.specs.declared.settled.Settled.{Settled}
 use Rattle.vd_device.specs.declared.settled.Settled.TheVariants as settled
-use Rattle.vd_device.specs.Disks.{Disk}
+use Rattle.vd_device.specs.declared.store.Store as store
 use Rattle.vd_device.specs.Tickets.{HasPlace, IsFree}
 use Rattle.vd_format.specs.declared.header.Header.{Header}
 use Rattle.vd_format.specs.Layouts.{blocks_of, storage_start}
@@ -33,7 +33,7 @@ use Rattle.vd_passes.specs.Steps.{IsAt}
 use Rattle.vd_passes.proofs.Flushing.{store-place, flushing-ticket, below-free}
 use Rattle.vd_passes.proofs.PlacesGiven.{place-from}
 use Rattle.vd_metadata.specs.Attending.{IsAtStage, IsAttended}
-use Rattle.vd_metadata.specs.Flushing.{BeginsFlush, IsWornOut, PutsNext, SyncsPuts, SettlesMeta, SealsFlush, IsWaitingMeta, outcome_of}
+use Rattle.vd_metadata.specs.Flushing.{meta_state, BeginsFlush, IsWornOut, PutsNext, SyncsPuts, SettlesMeta, SealsFlush, IsWaitingMeta, outcome_of}
 use Rattle.vd_metadata.proofs.Stages.{gone-left}
 use Rattle.vd_metadata.proofs.Attended.{is-flusher, at-stage, due-at, begin-attended, worn-attended, put-attended, sync-attended, done-attended, late-attended, failed-attended, seal-attended}
 use Rattle.vd_metadata.proofs.Others.{adopting-attended}
@@ -133,9 +133,9 @@ put-stale k k' put (Next_page page sector way lowest bytes) = refl
 put-stale k k' put (Next_header sector way none bytes) = refl
 
 module _ {shape : Shape} {state : State} {passes passes' : List Pass} {flusher : Option ℕ} {k k' : Keeping} {i : ℕ} where
-  module _ {flies flies' : List Ticket → Type 0} {tells tells' : Type 0} {disk disk' : Disk} {last last' : ℕ} where
+  module _ {S : Type 0} {g : store.Ghosts S} {s s' : S} where
     pub begin-recorded : {route : Route} → IsRecorded shape state passes flusher k → flusher ≡ None → ((t : ℕ) → route ≡ Recycle t → t ≡ k.header.tracked)
-        → BeginsFlush route shape i k k' passes passes' flies flies' tells tells' disk disk' last last' → IsRecorded shape state passes' (Some i) k'
+        → BeginsFlush g route shape i (meta_state k passes) (meta_state k' passes') s s' → IsRecorded shape state passes' (Some i) k'
     begin-recorded {route} was none tracked step = record {
       attended = begin-attended (subst (λ (o : Option ℕ). IsAttended shape state.table state.fresh.bits passes o k) none was.attended) tracked step;
       sized = was.sized;
@@ -143,7 +143,7 @@ module _ {shape : Shape} {state : State} {passes passes' : List Pass} {flusher :
       stale = same-marks shape state.map (ap (λ (x : Keeping). x.stale) step.after) was.stale;
     }
 
-    pub put-recorded : IsRecorded shape state passes flusher k → k.stage ≡ Puts → PutsNext state.table shape i k k' passes passes' flies flies' tells tells' disk disk' last last' → IsRecorded shape state passes' flusher k'
+    pub put-recorded : IsRecorded shape state passes flusher k → k.stage ≡ Puts → PutsNext g state.table shape i (meta_state k passes) (meta_state k' passes') s s' → IsRecorded shape state passes' flusher k'
     put-recorded was stage step = record {
       attended = put-attended was.attended stage step;
       sized = was.sized;
@@ -151,7 +151,7 @@ module _ {shape : Shape} {state : State} {passes passes' : List Pass} {flusher :
       stale = same-marks shape state.map (put-stale k k' step.put step.next) was.stale;
     }
 
-    pub settle_meta-recorded : (answer : Settled) → IsRecorded shape state passes flusher k → SettlesMeta answer i k k' passes passes' flies flies' tells tells' disk disk' last last' → IsRecorded shape state passes' (flusher_after answer flusher) k'
+    pub settle_meta-recorded : (answer : Settled) → IsRecorded shape state passes flusher k → SettlesMeta g answer i (meta_state k passes) (meta_state k' passes') s s' → IsRecorded shape state passes' (flusher_after answer flusher) k'
     settle_meta-recorded settled.Done was step = record {
       attended = done-attended was.attended step;
       sized = was.sized;
@@ -175,8 +175,8 @@ still-after (settled.NotYet same) flusher = refl
 still-after (settled.Failed number) flusher = refl
 
 module _ {shape : Shape} {state : State} {passes passes' : List Pass} {flusher : Option ℕ} {k : Keeping} {i : ℕ} where
-  pub sync-recorded : {flies flies' : List Ticket → Type 0} {tells tells' : Type 0} {disk disk' : Disk} {last last' : ℕ} → IsRecorded shape state passes flusher k → k.stage ≡ Syncs
-      → SyncsPuts shape i passes passes' flies flies' tells tells' disk disk' last last' → IsRecorded shape state passes' flusher k
+  pub sync-recorded : {S : Type 0} {g : store.Ghosts S} {s s' : S} → IsRecorded shape state passes flusher k → k.stage ≡ Syncs
+      → SyncsPuts g shape i passes passes' s s' → IsRecorded shape state passes' flusher k
   sync-recorded was stage step = record { attended = sync-attended was.attended stage step; sized = was.sized; same = was.same; stale = was.stale }
 
   pub worn-recorded : {route : Route} → IsRecorded shape state passes flusher k → IsWornOut route i k passes passes' → IsRecorded shape state passes' flusher k

@@ -15,9 +15,9 @@ use Rattle.vd_passes.specs.declared.pass.Phase.TheVariants.{Idle, Asked as HasAs
 use Rattle.vd_passes.specs.Steps.{IsAt}
 use Rattle.vd_passes.specs.Following.{IsFollowed}
 use Rattle.vd_passes.proofs.TracingSteps.{enters-followed, fetches-followed, fills-followed, asks-followed, asks_full-followed}
-use Rattle.vd_core.specs.Asking.{AskEnds}
+use Rattle.vd_core.specs.Asking.{asking, AskEnds}
 use Rattle.vd_core.specs.Entering.{IsKeptOut, EntersBlock}
-use Rattle.vd_core.specs.Fetching.{FetchesBlock}
+use Rattle.vd_core.proofs.Fetched.{FetchesIn}
 
 module _ (shape : Shape) (chunks : List (Option ℕ)) (regions regions' : List (Option Region)) {passes passes' : List Pass} {history : List Entry} {numbers : List ℕ} {log : List Entry}
     (followed : IsFollowed passes history numbers log) (i : ℕ) where
@@ -27,7 +27,7 @@ module _ (shape : Shape) (chunks : List (Option ℕ)) (regions regions' : List (
   enter-followed at (Err busy) out entered = rw out.passes_same followed
 
 pub fetch-followed : {shape : Shape} {passes passes' : List Pass} {history : List Entry} {numbers : List ℕ} {log : List Entry} {base_flies base_flies' : List Ticket → Type 0} → IsFollowed passes history numbers log → (i : ℕ) → IsAt passes i (λ p. p.phase ≡ Held)
-    → FetchesBlock shape i passes passes' base_flies base_flies' → IsFollowed passes' history numbers log
+    → FetchesIn shape i passes passes' base_flies base_flies' → IsFollowed passes' history numbers log
 fetch-followed followed i at (inl f) = fetches-followed followed at f.0
 fetch-followed followed i at (inr z) = fills-followed followed at z.0
 
@@ -36,7 +36,7 @@ longer xs x same = let e = ap length same in let f = length-append xs (x ∷ [])
 
 -- where the history has grown, the store runs
 pub ask-followed : {result : Option Answer} {request : Asked} {shape : Shape} {i : ℕ} {table table' : Given} {passes passes' : List Pass} {history history' : Numbered} {spare spare' : Room} {events : ℕ} {log : List Entry}
-    → IsFollowed passes history.log.entries history.numbers log → IsAt passes i (λ p. p.phase ≡ Idle) → AskEnds result request shape i table table' passes passes' history history' spare spare' events
+    → IsFollowed passes history.log.entries history.numbers log → IsAt passes i (λ p. p.phase ≡ Idle) → AskEnds result request events i (asking shape table passes history spare) (asking shape table' passes' history' spare')
     → (history' ≡ history) ⊎ (events ≡ length log) → IsFollowed passes' history'.log.entries history'.numbers log
 ask-followed {result} {request} {shape} {i} {table} {table'} {passes} {passes'} {history} {history'} {spare} {spare'} {events} {log} followed at (inl none) running = rw (none.2.passes_same, none.2.history_same) followed
 ask-followed {result} {request} {shape} {i} {table} {table'} {passes} {passes'} {history} {history'} {spare} {spare'} {events} {log} followed at (inr (inl full)) running =
@@ -48,7 +48,7 @@ ask-followed {result} {request} {shape} {i} {table} {table'} {passes} {passes'} 
 
 -- no ask changes what the store had told at opening
 pub ask-opened : {result : Option Answer} {request : Asked} {shape : Shape} {i : ℕ} {table table' : Given} {passes passes' : List Pass} {history history' : Numbered} {spare spare' : Room} {events : ℕ}
-    → AskEnds result request shape i table table' passes passes' history history' spare spare' events → history'.opened ≡ history.opened
+    → AskEnds result request events i (asking shape table passes history spare) (asking shape table' passes' history' spare') → history'.opened ≡ history.opened
 ask-opened (inl none) = ap (λ (h : Numbered). h.opened) none.2.history_same
 ask-opened (inr (inl full)) = full.3.extends.opened
 ask-opened (inr (inr asked)) = asked.1.extends.opened

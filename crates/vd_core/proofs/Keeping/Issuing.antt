@@ -3,6 +3,7 @@ use Rattle.std.proofs.Common.{◌≡◌, ◌≢◌, ℕ, ◌<◌, ◌≤◌, ◌
 use Rattle.vd_law.specs.declared.entry.Sector.{Sector}
 use Rattle.vd_law.specs.declared.entry.Room.{Room}
 use Rattle.vd_law.specs.Histories.{Numbered}
+use Rattle.vd_device.specs.declared.store.Store as store
 use Rattle.vd_device.specs.declared.ticket.Ticket.{Ticket}
 use Rattle.vd_device.specs.Disks.{Disk}
 use Rattle.vd_format.specs.declared.header.Header.{Header}
@@ -19,9 +20,9 @@ use Rattle.vd_passes.proofs.Ready.{IsHolding, holding-region, can-write-asked}
 use Rattle.vd_passes.proofs.Issuing.{issues-coherent, issues-faithful}
 use Rattle.vd_passes.proofs.Holding.{issues-regions}
 use Rattle.vd_core.specs.Adding.{Extends}
-use Rattle.vd_core.specs.Devices.{Stays}
+use Rattle.vd_core.proofs.Keeping.Devices.{Stays, piece-short}
 use Rattle.vd_core.specs.Issuing.{CanIssue, IsWritable}
-use Rattle.vd_core.specs.Kept.{IsKept, IsLogged, IsTold}
+use Rattle.vd_core.specs.Kept.{IsKept, IsLogged, IsFaithfullyKept}
 use Rattle.vd_core.proofs.Rooming.{can-add, room-used}
 use Rattle.vd_core.proofs.Keeping.Telling.{told-on}
 
@@ -55,26 +56,28 @@ holding-sectors : (block : ℕ) (p : Pass) → HasRoom block p → IsHolding p �
 holding-sectors block p room (inl held) = let a = room.sectors in let e = ap (λ ph. sectors_needed ph (sectors_left p) p.piece) held in omega arith
 holding-sectors block p room (inr filled) = let a = room.sectors in let e = ap (λ ph. sectors_needed ph (sectors_left p) p.piece) filled in omega arith
 
+-- what is reserved suffices for the Issue of the piece
+pub can-issue : {shape : Shape} {table : Given} {fresh : List Bool} {regions : List (Option Region)} {passes : List Pass} {history : Numbered} {spare : Room} {base_sectors base_depth : ℕ} {base_flies : List Ticket → Type 0} {S : Type 0} (g : store.Ghosts S) (s : S)
+    → IsKept shape table fresh regions passes history spare (g.sectors s) (g.depth s) (g.events s) base_sectors base_depth (g.flies s) base_flies → (i : ℕ) (content : List Sector) → IsAt passes i (IsWritable shape fresh)
+    → HasAskedWrite history.log.entries i content → IsAt passes i (CanIssue g shape fresh content history s)
+can-issue {shape} {fresh = fresh} {passes = passes} g s kept i content at asked =
+    let can = can-write-asked kept.coherent i content asked (writing-at passes i at) in
+    let p = can.0 in let holding = subst (λ (x : Pass). IsHolding x) (some-inj (sym at.1 ∙ can.1)) (writable-holding at.2) in
+    let way = subst (λ (x : Pass). IsWritable shape fresh x) (some-inj (sym at.1 ∙ can.1)) at.2 in
+    let piece = can.2.0.piece in let room = kept.roomy.reserved i p can.1 in (
+      p,
+      can.1,
+      record {
+        writable = can.2.0;
+        inside = let n = piece.no_more in let l = can.2.1 in omega (arith, n, l);
+        way = way.way;
+        room = can-add kept.roomy i p can.1 p.piece (holding-events shape.block p room holding) (let n = piece.no_more in let l = holding-sectors shape.block p room holding in omega (arith, n, l)) (piece-short can.2.0.small piece);
+      },
+    )
+
 module _ {shape : Shape} {table : Given} {fresh : List Bool} {regions : List (Option Region)} {passes : List Pass} {history : Numbered} {spare : Room} {sectors depth events base_sectors base_depth : ℕ} {flies base_flies : List Ticket → Type 0}
     (kept : IsKept shape table fresh regions passes history spare sectors depth events base_sectors base_depth flies base_flies)
     (i : ℕ) (content : List Sector) (at : IsAt passes i (IsWritable shape fresh)) (asked : HasAskedWrite history.log.entries i content) where
-  -- what is reserved suffices for the Issue of the piece
-  pub can-issue : IsAt passes i (CanIssue shape fresh sectors depth flies content history events)
-  can-issue =
-      let can = can-write-asked kept.coherent i content asked (writing-at passes i at) in
-      let p = can.0 in let holding = subst (λ (x : Pass). IsHolding x) (some-inj (sym at.1 ∙ can.1)) (writable-holding at.2) in
-      let way = subst (λ (x : Pass). IsWritable shape fresh x) (some-inj (sym at.1 ∙ can.1)) at.2 in
-      let piece = can.2.0.piece in let room = kept.roomy.reserved i p can.1 in (
-        p,
-        can.1,
-        record {
-          writable = can.2.0;
-          inside = let n = piece.no_more in let l = can.2.1 in omega (arith, n, l);
-          way = way.way;
-          room = can-add kept.roomy i p can.1 p.piece (holding-events shape.block p room holding) (let n = piece.no_more in let l = holding-sectors shape.block p room holding in omega (arith, n, l));
-        },
-      )
-
   module _ {passes' : List Pass} {history' : Numbered} {last last' : ℕ} {flies' : List Ticket → Type 0} {tells tells' : Type 0} {disk disk' : Disk}
       (step : Issues shape fresh content i passes passes' history.log.entries history'.log.entries flies flies' tells tells' disk disk' last last') where
     pub issue-kept : {sectors' depth' events' : ℕ} → IsAt passes i (λ p. Extends (events ∷ []) p.piece history history') → Stays sectors sectors' depth depth' events events'
@@ -92,7 +95,7 @@ module _ {shape : Shape} {table : Given} {fresh : List Bool} {regions : List (Op
           storage = rw stays.sectors_same kept.storage;
         }
 
-    pub issue-told : {h : Header} {base_tells : Type 0} {base : List Sector} → history'.opened ≡ history.opened → (tells → IsLogged passes history disk) → (tells → base_tells → IsTold shape h table fresh passes history disk last base base_sectors)
-        → tells' → base_tells → IsTold shape h table fresh passes' history' disk' last' base base_sectors
+    pub issue-told : {h : Header} {base_tells : Type 0} {base : List Sector} → history'.opened ≡ history.opened → (tells → IsLogged passes history disk) → (tells → base_tells → IsFaithfullyKept shape h table fresh passes history disk last base base_sectors)
+        → tells' → base_tells → IsFaithfullyKept shape h table fresh passes' history' disk' last' base base_sectors
     issue-told {h} {base_tells} {base} opened logged was told base_told = let before = step.told_before told in
         told-on (was before base_told) (logged before) (_, (step.told told).0) opened (λ start faithful. issues-faithful content kept.coherent (writing-at passes i at) asked step (λ b. faithful) told)

@@ -27,9 +27,9 @@ use Rattle.vd_passes.proofs.Fetching.{can-read-base}
 use Rattle.vd_passes.proofs.LookingAt.{IsToLook}
 use Rattle.vd_passes.proofs.LookSteps.{looks-coherent, looks-faithful, looks_at_base-coherent, looks_at_base-faithful, sees_zeros-coherent, sees_zeros-faithful}
 use Rattle.vd_core.specs.Adding.{CanAdd, Extends}
-use Rattle.vd_core.specs.Devices.{Stays, BaseStays}
+use Rattle.vd_core.proofs.Keeping.Devices.{Stays, BaseStays, piece-short}
 use Rattle.vd_core.specs.Looking.{IsReader}
-use Rattle.vd_core.specs.Kept.{IsKept, IsLogged, IsTold}
+use Rattle.vd_core.specs.Kept.{IsKept, IsLogged, IsFaithfullyKept}
 use Rattle.vd_core.proofs.Rooming.{can-add, room-used, room-same}
 use Rattle.vd_core.proofs.Keeping.Devices.{backed}
 use Rattle.vd_core.proofs.Keeping.Telling.{told-on, told-here}
@@ -50,8 +50,8 @@ module _ {shape : Shape} {table : Given} {fresh : List Bool} {regions : List (Op
   -- a pass that holds its block has its next event, and the sectors of its piece, among its room
   pub has-room-to-see : (p : Pass) → slice_get passes i ≡ Some p → has_region p.phase ≡ true → is_before_event p.phase ≡ true → p.write ≡ false → CanAdd p.piece history events
   has-room-to-see p there has before read =
-      let uses = (room-seen ((kept.coherent.each i p there).piece has) (kept.roomy.reserved i p there) before read).1 in let a = uses.events_used in let b = uses.sectors_used in
-      can-add kept.roomy i p there p.piece (omega arith) (omega arith)
+      let piece = (kept.coherent.each i p there).piece has in let uses = (room-seen piece (kept.roomy.reserved i p there) before read).1 in let a = uses.events_used in let b = uses.sectors_used in
+      can-add kept.roomy i p there p.piece (omega arith) (omega arith) (piece-short kept.coherent.shaped.small piece)
 
   -- the numbers of a pass that holds its block are small
   pub holder-fits : (p : Pass) → slice_get passes i ≡ Some p → has_region p.phase ≡ true → (p.first + p.done ≤ 2 ^ 26) × (p.block < length fresh) × (p.block < 2 ^ 26)
@@ -85,8 +85,8 @@ module _ {shape : Shape} {table : Given} {fresh : List Bool} {regions : List (Op
       storage = rw stays.sectors_same kept.storage;
     }
 
-    pub look-told : {h : Header} {base_told : Type 0} {base : List Sector} → (tells → IsLogged passes history disk) → (tells → base_told → IsTold shape h table fresh passes history disk last base base_sectors) → tells' → base_told
-        → IsTold shape h table fresh passes' history disk' last' base base_sectors
+    pub look-told : {h : Header} {base_told : Type 0} {base : List Sector} → (tells → IsLogged passes history disk) → (tells → base_told → IsFaithfullyKept shape h table fresh passes history disk last base base_sectors) → tells' → base_told
+        → IsFaithfullyKept shape h table fresh passes' history disk' last' base base_sectors
     look-told {h} {base_told} {base} logged was store tell = let before = step.told_before store in
         told-on (was before tell) (logged before) (_, (step.told store).0) refl (λ start faithful. looks-faithful kept.coherent (to-look true at) step (λ told. faithful) store)
 
@@ -107,9 +107,9 @@ module _ {shape : Shape} {table : Given} {fresh : List Bool} {regions : List (Op
       storage = kept.storage;
     }
 
-    pub base_look-told : {h : Header} {told : Type 0} {disk : Disk} {last : ℕ} → (told → tells → IsTold shape h table fresh passes history disk last content base_sectors) → told → tells' → IsTold shape h table fresh passes' history disk last content' base_sectors'
+    pub base_look-told : {h : Header} {told : Type 0} {disk : Disk} {last : ℕ} → (told → tells → IsFaithfullyKept shape h table fresh passes history disk last content base_sectors) → told → tells' → IsFaithfullyKept shape h table fresh passes' history disk last content' base_sectors'
     base_look-told {h} {told} {disk} {last} was store tell =
-        let before : IsTold shape h table fresh passes history disk last content' base_sectors = rw (stays.content_same tell) (was store (stays.told_before tell)) in
+        let before : IsFaithfullyKept shape h table fresh passes history disk last content' base_sectors = rw (stays.content_same tell) (was store (stays.told_before tell)) in
         rw stays.sectors_same (told-here before refl (λ start faithful. looks_at_base-faithful kept.coherent (to-look false at) step (λ (t : Unit {0}). faithful) tt))
 
   -- The piece is zeros.
@@ -139,7 +139,7 @@ module _ {shape : Shape} {table : Given} {fresh : List Bool} {regions : List (Op
             storage = kept.storage;
           }
 
-      pub zeros-told : {h : Header} {tells base_tells : Type 0} {disk : Disk} {last : ℕ} {base : List Sector} → history'.opened ≡ history.opened → (tells → base_tells → IsTold shape h table fresh passes history disk last base base_sectors)
-          → tells → base_tells → IsTold shape h table fresh passes' history' disk last base base_sectors
+      pub zeros-told : {h : Header} {tells base_tells : Type 0} {disk : Disk} {last : ℕ} {base : List Sector} → history'.opened ≡ history.opened → (tells → base_tells → IsFaithfullyKept shape h table fresh passes history disk last base base_sectors)
+          → tells → base_tells → IsFaithfullyKept shape h table fresh passes' history' disk last base base_sectors
       zeros-told {h} {tells} {base_tells} {disk} {last} {base} opened was store tell = let old = was store tell in
           told-here old opened (λ start faithful. sees_zeros-faithful kept.coherent (to-look false at) step base (λ (t : Unit {0}). backed kept.coherent base old.base_size) (λ t. faithful) tt)

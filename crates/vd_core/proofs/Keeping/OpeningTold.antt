@@ -9,7 +9,7 @@ use Rattle.vd_passes.specs.declared.pass.Pass.{Pass}
 use Rattle.vd_passes.specs.Tracks.{track}
 use Rattle.vd_passes.proofs.Tracing.{new-followed}
 use Rattle.vd_metadata.proofs.Others.{new-attended}
-use Rattle.vd_core.specs.Kept.{IsTold, IsLogged, IsRecorded}
+use Rattle.vd_core.specs.Kept.{IsFaithfullyKept, IsLogged, IsRecorded}
 use Rattle.vd_core.proofs.Local.{new-marks}
 use Rattle.vd_core.specs.Opening.{shape_of, AreNew, empty_history, new_keeping}
 use Rattle.vd_core.proofs.Starting.{all-told}
@@ -21,7 +21,7 @@ opened-logged room disk new all = record { since = omega arith; followed = new-f
 
 -- whatever the guest's disk was, the store agrees with it where blocks are local, and the base elsewhere
 pub opened-told : (s : State) → IsWhole s → s.header.version ≡ 2 → {passes : List Pass} {count events base_sectors : ℕ} (room : Room) (disk : Disk) (last : ℕ) (base : List Sector) → AreNew count s.header.block passes
-    → length base ≡ base_sectors → events ≡ length disk.log → IsHonest disk → Says disk.held s → IsTold (shape_of s.header base_sectors) s.header s.table s.fresh.bits passes (empty_history room events) disk last base base_sectors
+    → length base ≡ base_sectors → events ≡ length disk.log → IsHonest disk → Says disk.held s → IsFaithfullyKept (shape_of s.header base_sectors) s.header s.table s.fresh.bits passes (empty_history room events) disk last base base_sectors
 opened-told s whole version {passes} {count} {events} {base_sectors} room disk last base new base_size all honest says = record {
   base_size = base_size;
   faithful = λ start is. record {

@@ -30,9 +30,9 @@ use Rattle.vd_passes.specs.Steps.{IsAt, fetched, FetchSettled, Issues, EndsWrite
 use Rattle.vd_passes.proofs.Lists.{some-inj, length-set'}
 use Rattle.vd_metadata.specs.Attending.{IsAttended}
 use Rattle.vd_metadata.proofs.Others.{pass-attended, table-attended, owing-attended}
-use Rattle.vd_core.specs.Asking.{AskEnds}
+use Rattle.vd_core.specs.Asking.{asking, AskEnds}
 use Rattle.vd_core.specs.Entering.{IsKeptOut, EntersBlock}
-use Rattle.vd_core.specs.Fetching.{FetchesBlock}
+use Rattle.vd_core.proofs.Fetched.{FetchesIn}
 use Rattle.vd_core.specs.Issuing.{owed_after}
 use Rattle.vd_core.specs.Kept.{IsRecorded}
 use Rattle.vd_core.proofs.Local.{same-marks}
@@ -96,7 +96,7 @@ module _ {shape : Shape} {state : State} {passes : List Pass} {flusher : Option 
         let e = entered.enters in recorded-pass i _ e.there e.after (other-phase e.pass (phase-of passes i at e.pass e.there) asked-not) held-not
     enter-recorded chunks regions regions' at (Err busy) out entered = recorded-same out.passes_same
 
-    pub fetch-recorded : {base_flies base_flies' : List Ticket → Type 0} → IsAt passes i (λ p. p.phase ≡ Held) → FetchesBlock shape i passes passes' base_flies base_flies' → IsRecorded shape state passes' flusher k
+    pub fetch-recorded : {base_flies base_flies' : List Ticket → Type 0} → IsAt passes i (λ p. p.phase ≡ Held) → FetchesIn shape i passes passes' base_flies base_flies' → IsRecorded shape state passes' flusher k
     fetch-recorded {base_flies} {base_flies'} at (inl f) = let step = f.0 in recorded-pass i _ step.there step.after (other-phase step.pass (phase-of passes i at step.pass step.there) held-not) fetching-not
     fetch-recorded {base_flies} {base_flies'} at (inr z) = let step = z.0 in recorded-pass i _ step.there step.after (other-phase step.pass (phase-of passes i at step.pass step.there) held-not) filled-not
 
@@ -157,7 +157,7 @@ with-table : {shape : Shape} {state : State} {passes : List Pass} {flusher : Opt
 with-table {shape} {state} table' chunks storage was = record { attended = table-attended was.attended chunks storage; sized = tabled state table' was.sized chunks storage; same = was.same; stale = was.stale }
 
 pub ask-recorded : {shape : Shape} {state : State} {passes : List Pass} {flusher : Option ℕ} {k : Keeping} {result : Option Answer} {request : Asked} {i : ℕ} {table' : Given} {passes' : List Pass} {history history' : Numbered} {spare spare' : Room} {events : ℕ}
-    → IsRecorded shape state passes flusher k → IsAt passes i (λ p. p.phase ≡ Idle) → AskEnds result request shape i state.table table' passes passes' history history' spare spare' events → IsRecorded shape (record state { table = table' }) passes' flusher k
+    → IsRecorded shape state passes flusher k → IsAt passes i (λ p. p.phase ≡ Idle) → AskEnds result request events i (asking shape state.table passes history spare) (asking shape table' passes' history' spare') → IsRecorded shape (record state { table = table' }) passes' flusher k
 ask-recorded {table' = table'} {passes' = passes'} was at (inl none) = let same = none.2 in
     with-table table' (ap (λ (t : Given). length t.chunks) same.table_same) (ap (λ (t : Given). t.storage) same.table_same) (recorded-same was same.passes_same)
 ask-recorded {passes = passes} {i = i} {table' = table'} was at (inr (inl full)) = let e = full.3 in let step = e.asks in let before = other-phase step.pass (phase-of passes i at step.pass step.there) idle-not in

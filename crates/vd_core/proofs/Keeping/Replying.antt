@@ -25,7 +25,7 @@ use Rattle.vd_passes.proofs.Holding.{phase-at, replies-regions}
 use Rattle.vd_passes.proofs.Asking.{replies-coherent, replies-faithful}
 use Rattle.vd_core.specs.Adding.{Extends}
 use Rattle.vd_core.specs.Asking.{CanReply, IsOkWhereDone, freed}
-use Rattle.vd_core.specs.Kept.{IsRoomy, IsKept, IsTold}
+use Rattle.vd_core.specs.Kept.{IsRoomy, IsKept, IsFaithfullyKept}
 use Rattle.vd_core.proofs.Reserving.{room-shared}
 use Rattle.vd_core.proofs.Keeping.Telling.{told-here}
 
@@ -77,5 +77,5 @@ module _ {shape : Shape} {table : Given} {fresh : List Bool} {regions : List (Op
       storage = kept.storage;
     }
 
-    pub reply-told : {h : Header} {disk : Disk} {last : ℕ} {base : List Sector} → history'.opened ≡ history.opened → IsTold shape h table fresh passes history disk last base base_sectors → IsTold shape h table fresh passes' history' disk last base base_sectors
+    pub reply-told : {h : Header} {disk : Disk} {last : ℕ} {base : List Sector} → history'.opened ≡ history.opened → IsFaithfullyKept shape h table fresh passes history disk last base base_sectors → IsFaithfullyKept shape h table fresh passes' history' disk last base base_sectors
     reply-told {h} {disk} {last} {base} opened told = told-here told opened (λ start faithful. replies-faithful kept.coherent at step faithful)

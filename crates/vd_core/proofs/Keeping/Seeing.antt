@@ -28,9 +28,9 @@ use Rattle.vd_passes.proofs.Holding.{regions_ended, look_settled-regions, base_l
 use Rattle.vd_passes.proofs.Settling.{in-flight}
 use Rattle.vd_passes.proofs.LookSteps.{look_settled-coherent, look_settled-faithful, base_look_settled-coherent, base_look_settled-faithful}
 use Rattle.vd_core.specs.Adding.{CanAdd, Extends}
-use Rattle.vd_core.specs.Devices.{Stays, BaseStays}
+use Rattle.vd_core.proofs.Keeping.Devices.{Stays, BaseStays}
 use Rattle.vd_core.specs.Outcomes.{outcome_of, read_numbers_of, read_sectors_of, released}
-use Rattle.vd_core.specs.Kept.{IsKept, IsLogged, IsTold, IsRoomy}
+use Rattle.vd_core.specs.Kept.{IsKept, IsLogged, IsFaithfullyKept, IsRoomy}
 use Rattle.vd_core.proofs.Rooming.{room-used, room-late}
 use Rattle.vd_core.proofs.Keeping.Devices.{backed}
 use Rattle.vd_core.proofs.Keeping.Looking.{has-room-to-see}
@@ -142,8 +142,8 @@ module _ {shape : Shape} {table : Given} {fresh : List Bool} {regions : List (Op
         storage = rw stays.sectors_same kept.storage;
       }
 
-      pub settle_look-told : {h : Header} {base_tells : Type 0} {base : List Sector} → history'.opened ≡ history.opened → (tells → IsLogged passes history disk) → (tells → base_tells → IsTold shape h table fresh passes history disk last base base_sectors)
-          → tells' → base_tells → IsTold shape h table fresh passes' history' disk' last' base base_sectors
+      pub settle_look-told : {h : Header} {base_tells : Type 0} {base : List Sector} → history'.opened ≡ history.opened → (tells → IsLogged passes history disk) → (tells → base_tells → IsFaithfullyKept shape h table fresh passes history disk last base base_sectors)
+          → tells' → base_tells → IsFaithfullyKept shape h table fresh passes' history' disk' last' base base_sectors
       settle_look-told {h} {base_tells} {base} opened logged was store tell = let before = step.told_before store in
           told-on (was before tell) (logged before) (settle-goes-on (step.told store)) opened (λ start faithful. look_settled-faithful kept.coherent at step (λ told. faithful) store)
 
@@ -160,8 +160,8 @@ module _ {shape : Shape} {table : Given} {fresh : List Bool} {regions : List (Op
         storage = kept.storage;
       }
 
-      pub settle_base_look-told : {h : Header} {told : Type 0} {disk : Disk} {last : ℕ} → history'.opened ≡ history.opened → (told → tells → IsTold shape h table fresh passes history disk last content base_sectors) → told → base_tells
-          → IsTold shape h table fresh passes' history' disk last base base_sectors'
+      pub settle_base_look-told : {h : Header} {told : Type 0} {disk : Disk} {last : ℕ} → history'.opened ≡ history.opened → (told → tells → IsFaithfullyKept shape h table fresh passes history disk last content base_sectors) → told → base_tells
+          → IsFaithfullyKept shape h table fresh passes' history' disk last base base_sectors'
       settle_base_look-told {h} {told} {disk} {last} opened was store tell =
-          let before : IsTold shape h table fresh passes history disk last base base_sectors = rw (stays.content_same tell) (was store (stays.told_before tell)) in
+          let before : IsFaithfullyKept shape h table fresh passes history disk last base base_sectors = rw (stays.content_same tell) (was store (stays.told_before tell)) in
           rw stays.sectors_same (told-here before opened (λ start faithful. base_look_settled-faithful kept.coherent at step (λ (t : Unit {0}). tell) (λ t. backed kept.coherent base before.base_size) (λ t. faithful) tt))

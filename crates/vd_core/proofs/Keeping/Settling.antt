@@ -25,8 +25,8 @@ use Rattle.vd_passes.proofs.Settling.{waiting-write, write_settled-coherent, wri
 use Rattle.vd_passes.proofs.Holding.{regions_ended, write_settled-regions}
 use Rattle.vd_core.specs.Adding.{CanAdd, Extends}
 use Rattle.vd_core.specs.Outcomes.{outcome_of, numbers_of, released}
-use Rattle.vd_core.specs.Devices.{Stays}
-use Rattle.vd_core.specs.Kept.{IsRoomy, IsKept, IsLogged, IsTold}
+use Rattle.vd_core.proofs.Keeping.Devices.{Stays}
+use Rattle.vd_core.specs.Kept.{IsRoomy, IsKept, IsLogged, IsFaithfullyKept}
 use Rattle.vd_core.proofs.Rooming.{can-add, room-used, room-late}
 use Rattle.vd_core.proofs.Starting.{settle-goes-on}
 use Rattle.vd_core.proofs.Keeping.Telling.{told-on}
@@ -51,7 +51,7 @@ module _ {shape : Shape} {table : Given} {fresh : List Bool} {regions : List (Op
       let p = at.0 in let stands = kept.coherent.each i p at.1 in let left = pieces-left (stands.piece (region-of _ Issuing refl at.2)) in
       let room = (kept.roomy.reserved i p at.1).events in let e = ap (λ ph. events_needed ph p.write (pieces_left shape.block p)) at.2 in
       let f = ap (λ (w : Bool). events_of w (pieces_left shape.block p)) (issuing-write stands at.2) in
-      can-add kept.roomy i p at.1 0 (omega (arith, left, room, e, f)) (omega arith)
+      can-add kept.roomy i p at.1 0 (omega (arith, left, room, e, f)) (omega arith) (omega arith)
 
   issues : {fresh' : List Bool} {passes' : List Pass} {entries' : List Entry} {last last' : ℕ} {flies' : List Ticket → Type 0} {tells tells' : Type 0} {disk disk' : Disk} {answer : Settled}
       (step : WriteSettled answer i fresh fresh' passes passes' history.log.entries entries' flies flies' tells tells' disk disk' last last') → step.pass.phase ≡ Issuing
@@ -82,7 +82,7 @@ module _ {shape : Shape} {table : Given} {fresh : List Bool} {regions : List (Op
         }
 
     pub settle_issue-told : {answer : Settled} {h : Header} {base_tells : Type 0} {base : List Sector} → WriteSettled answer i fresh fresh' passes passes' history.log.entries history'.log.entries flies flies' tells tells' disk disk' last last'
-        → history'.opened ≡ history.opened → (tells → IsLogged passes history disk) → (tells → base_tells → IsTold shape h table fresh passes history disk last base base_sectors) → tells' → base_tells
-        → IsTold shape h table fresh' passes' history' disk' last' base base_sectors
+        → history'.opened ≡ history.opened → (tells → IsLogged passes history disk) → (tells → base_tells → IsFaithfullyKept shape h table fresh passes history disk last base base_sectors) → tells' → base_tells
+        → IsFaithfullyKept shape h table fresh' passes' history' disk' last' base base_sectors
     settle_issue-told {answer} {h} {base_tells} {base} step opened logged was told base_told = let before = step.told_before told in
         told-on (was before base_told) (logged before) (settle-goes-on (step.told told)) opened (λ start faithful. write_settled-faithful kept.coherent at step (λ b. faithful) told)

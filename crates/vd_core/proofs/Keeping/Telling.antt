@@ -13,7 +13,7 @@ use Rattle.vd_passes.specs.Places.{place_of}
 use Rattle.vd_passes.specs.Coherent.{IsFaithful}
 use Rattle.vd_passes.specs.Following.{IsFollowed}
 use Rattle.vd_core.specs.Start.{Opening, opening_at, IsStart}
-use Rattle.vd_core.specs.Kept.{IsLogged, IsTold}
+use Rattle.vd_core.specs.Kept.{IsLogged, IsFaithfullyKept}
 use Rattle.vd_core.proofs.Starting.{GoesOn, since-more, opening-same}
 
 pub same-opening : {passes : List Pass} {history : Numbered} {disk disk' : Disk} {opened : ℕ} → IsLogged passes history disk → GoesOn disk disk' → opened ≡ history.opened → opening_at opened disk' ≡ opening_at history.opened disk
@@ -31,20 +31,20 @@ pub logged-here : {passes passes' : List Pass} {history history' : Numbered} {di
 logged-here logged opened followed = record { since = let since = logged.since in omega (arith, since, opened); followed = followed }
 
 module _ {shape : Shape} {h : Header} {table table' : Given} {fresh fresh' : List Bool} {passes passes' : List Pass} {history history' : Numbered} {last last' : ℕ} {base : List Sector} {base_sectors : ℕ} where
-  pub told-on : {disk disk' : Disk} → IsTold shape h table fresh passes history disk last base base_sectors → IsLogged passes history disk → GoesOn disk disk' → history'.opened ≡ history.opened
+  pub told-on : {disk disk' : Disk} → IsFaithfullyKept shape h table fresh passes history disk last base base_sectors → IsLogged passes history disk → GoesOn disk disk' → history'.opened ≡ history.opened
       → ((start : List Sector) → IsFaithful start (background base shape.tracked) shape fresh (place_of shape table.chunks) passes history.log.entries disk last
       → IsFaithful start (background base shape.tracked) shape fresh' (place_of shape table'.chunks) passes' history'.log.entries disk' last')
-      → IsTold shape h table' fresh' passes' history' disk' last' base base_sectors
+      → IsFaithfullyKept shape h table' fresh' passes' history' disk' last' base base_sectors
   told-on {disk} {disk'} was logged on opened next = record {
     base_size = was.base_size;
     faithful = λ start is. next start (was.faithful start (subst (λ (o : Opening). IsStart o base h start) (same-opening logged on opened) is));
   }
 
   -- the store is as it was
-  pub told-here : {disk : Disk} → IsTold shape h table fresh passes history disk last base base_sectors → history'.opened ≡ history.opened
+  pub told-here : {disk : Disk} → IsFaithfullyKept shape h table fresh passes history disk last base base_sectors → history'.opened ≡ history.opened
       → ((start : List Sector) → IsFaithful start (background base shape.tracked) shape fresh (place_of shape table.chunks) passes history.log.entries disk last
       → IsFaithful start (background base shape.tracked) shape fresh' (place_of shape table'.chunks) passes' history'.log.entries disk last')
-      → IsTold shape h table' fresh' passes' history' disk last' base base_sectors
+      → IsFaithfullyKept shape h table' fresh' passes' history' disk last' base base_sectors
   told-here {disk} was opened next = record {
     base_size = was.base_size;
     faithful = λ start is. next start (was.faithful start (subst (λ (n : ℕ). IsStart (opening_at n disk) base h start) opened is));
@@ -52,7 +52,7 @@ module _ {shape : Shape} {h : Header} {table table' : Given} {fresh fresh' : Lis
 
 -- Where the devices tell, the history is legal from whatever the guest's disk was at opening.
 pub told-legal : {shape : Shape} {h : Header} {table : Given} {fresh : List Bool} {passes : List Pass} {history : Numbered} {disk : Disk} {last : ℕ} {base : List Sector} {base_sectors : ℕ} → IsRegular (shape.block * shape.blocks) history.log.entries
-    → IsTold shape h table fresh passes history disk last base base_sectors → (start : List Sector) → IsStart (opening_at history.opened disk) base h start → IsLegal start history.log.entries
+    → IsFaithfullyKept shape h table fresh passes history disk last base base_sectors → (start : List Sector) → IsStart (opening_at history.opened disk) base h start → IsLegal start history.log.entries
 told-legal {history = history} regular told start is = let faithful = told.faithful start is in record {
   regular = subst (λ (n : ℕ). IsRegular n history.log.entries) (sym faithful.size) regular;
   shown = faithful.shown;

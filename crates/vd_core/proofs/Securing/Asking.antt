@@ -18,8 +18,8 @@ use Rattle.vd_passes.specs.Steps.{IsAt, Replies}
 use Rattle.vd_safety.proofs.Asking.{ask-secured, ask_full-secured}
 use Rattle.vd_safety.proofs.Replying.{reply-secured}
 use Rattle.vd_core.specs.Adding.{Extends}
-use Rattle.vd_core.specs.Asking.{AskEnds}
-use Rattle.vd_core.specs.Kept.{IsKept, IsTold, IsRecorded, IsSafelyKept}
+use Rattle.vd_core.specs.Asking.{asking, AskEnds}
+use Rattle.vd_core.specs.Kept.{IsKept, IsFaithfullyKept, IsRecorded, IsSafelyKept}
 use Rattle.vd_core.proofs.Securing.Carrying.{safely-here, around}
 use Rattle.vd_core.proofs.Securing.Issuing.{number-now}
 
@@ -30,11 +30,11 @@ two-now history history' events disk is (inr runs) = is ∙ ap (λ (n : ℕ). hi
 module _ {shape : Shape} {state : State} {regions : List (Option Region)} {passes : List Pass} {history : Numbered} {spare : Room} {sectors depth events base_sectors base_depth : ℕ} {flies base_flies : List Ticket → Type 0} {flusher : Option ℕ} {k : Keeping}
     {tells base_tells : Type 0} {disk : Disk} {last : ℕ} {base : List Sector}
     (kept : IsKept shape state.table state.fresh.bits regions passes history spare sectors depth events base_sectors base_depth flies base_flies) (recorded : IsRecorded shape state passes flusher k)
-    (told : tells → base_tells → IsTold shape state.header state.table state.fresh.bits passes history disk last base base_sectors)
+    (told : tells → base_tells → IsFaithfullyKept shape state.header state.table state.fresh.bits passes history disk last base base_sectors)
     (was : tells → base_tells → IsSafelyKept state.header state.map state.table state.fresh.bits k flusher passes history disk base sectors) (i : ℕ) where
   -- A request is asked, or answered at once.
   pub ask-safely : {result : Option Answer} {request : Asked} {table' : Given} {passes' : List Pass} {history' : Numbered} {spare' : Room} → IsAt passes i (λ p. p.phase ≡ Idle)
-      → AskEnds result request shape i state.table table' passes passes' history history' spare spare' events → (tells → (history' ≡ history) ⊎ IsRunning events disk)
+      → AskEnds result request events i (asking shape state.table passes history spare) (asking shape table' passes' history' spare') → (tells → (history' ≡ history) ⊎ IsRunning events disk)
       → tells → base_tells → IsSafelyKept state.header state.map table' state.fresh.bits k flusher passes' history' disk base sectors
   ask-safely {result} {request} {table'} {passes'} {history'} at (inl none) runs now base_now =
       subst (λ (t : Given). IsSafelyKept state.header state.map t state.fresh.bits k flusher passes' history' disk base sectors) (sym none.2.table_same)

@@ -19,7 +19,7 @@ use Rattle.vd_passes.specs.declared.pass.Pass.{Pass}
 use Rattle.vd_safety.specs.Mirrors.{opening_for, IsSecured}
 use Rattle.vd_safety.proofs.Surroundings.{Surroundings, surroundings-of}
 use Rattle.vd_core.specs.Start.{Opening, opening_at, IsStart, WasSafe}
-use Rattle.vd_core.specs.Kept.{IsKept, IsTold, IsLogged, IsRecorded, IsSafelyKept}
+use Rattle.vd_core.specs.Kept.{IsKept, IsFaithfullyKept, IsLogged, IsRecorded, IsSafelyKept}
 use Rattle.vd_core.proofs.Starting.{GoesOn}
 use Rattle.vd_core.proofs.Keeping.Telling.{same-opening}
 
@@ -90,7 +90,7 @@ module _ {h : Header} {entries : List MapEntry} {table table' : Given} {fresh fr
 -- What else is known of the core, of what its type keeps.
 module _ {shape : Shape} {state : State} {regions : List (Option Region)} {passes : List Pass} {history : Numbered} {spare : Room} {sectors depth events base_sectors base_depth : ℕ} {flies base_flies : List Ticket → Type 0} {flusher : Option ℕ} {k : Keeping} {disk : Disk} {last : ℕ} {base : List Sector}
     (kept : IsKept shape state.table state.fresh.bits regions passes history spare sectors depth events base_sectors base_depth flies base_flies) (recorded : IsRecorded shape state passes flusher k)
-    (told : IsTold shape state.header state.table state.fresh.bits passes history disk last base base_sectors)
+    (told : IsFaithfullyKept shape state.header state.table state.fresh.bits passes history disk last base base_sectors)
     (start : List Sector) (held : ℕ → Sector) (is : IsStart (opening_at history.opened disk) base state.header start) where
   pub around : Surroundings state.header (opening_for state.header state.map disk.start held base start history.opened) shape state.table state.fresh.bits k flusher passes history.log.entries base last
   around = surroundings-of (record { format = refl; layout = refl; zeros = refl; same = recorded.same }) (λ s. refl) recorded.attended kept.coherent (told.faithful start is)

@@ -16,16 +16,16 @@ use Rattle.vd_passes.specs.declared.pass.Pass.{Pass}
 use Rattle.vd_passes.specs.declared.pass.Phase.TheVariants.{Asked as HasAsked, Held, Fetching}
 use Rattle.vd_passes.specs.Steps.{IsAt, FetchSettled}
 use Rattle.vd_safety.proofs.Others.{enter-secured, fetch-secured, fill-secured, settle_fetch-secured}
-use Rattle.vd_core.specs.Devices.{BaseStays}
+use Rattle.vd_core.proofs.Keeping.Devices.{BaseStays}
 use Rattle.vd_core.specs.Entering.{IsKeptOut, EntersBlock}
-use Rattle.vd_core.specs.Fetching.{FetchesBlock}
-use Rattle.vd_core.specs.Kept.{IsKept, IsTold, IsRecorded, IsSafelyKept}
+use Rattle.vd_core.proofs.Fetched.{FetchesIn}
+use Rattle.vd_core.specs.Kept.{IsKept, IsFaithfullyKept, IsRecorded, IsSafelyKept}
 use Rattle.vd_core.proofs.Securing.Carrying.{safely-here, around}
 
 module _ {shape : Shape} {state : State} {regions : List (Option Region)} {passes : List Pass} {history : Numbered} {spare : Room} {sectors depth events base_sectors base_depth : ℕ} {flies base_flies : List Ticket → Type 0} {flusher : Option ℕ} {k : Keeping}
     {tells base_tells : Type 0} {disk : Disk} {last : ℕ} {base : List Sector}
     (kept : IsKept shape state.table state.fresh.bits regions passes history spare sectors depth events base_sectors base_depth flies base_flies) (recorded : IsRecorded shape state passes flusher k)
-    (told : tells → base_tells → IsTold shape state.header state.table state.fresh.bits passes history disk last base base_sectors)
+    (told : tells → base_tells → IsFaithfullyKept shape state.header state.table state.fresh.bits passes history disk last base base_sectors)
     (was : tells → base_tells → IsSafelyKept state.header state.map state.table state.fresh.bits k flusher passes history disk base sectors) (i : ℕ) where
   -- A pass enters the block of its next piece, or is kept out.
   pub enter-safely : (chunks : List (Option ℕ)) (before after : List (Option Region)) {passes' : List Pass} → IsAt passes i (λ p. p.phase ≡ HasAsked) → (result : Result Unit Busy)
@@ -38,7 +38,7 @@ module _ {shape : Shape} {state : State} {regions : List (Option Region)} {passe
 
   -- It reads its block from the base, or fills it with zeros.
   pub fetch-safely : {passes' : List Pass} {base_flies' : List Ticket → Type 0} {base_tells' : Type 0} {base' : List Sector} {base_sectors' base_depth' : ℕ}
-      → IsAt passes i (λ p. p.phase ≡ Held) → FetchesBlock shape i passes passes' base_flies base_flies' → BaseStays base_sectors base_sectors' base_depth base_depth' base_tells base_tells' base base'
+      → IsAt passes i (λ p. p.phase ≡ Held) → FetchesIn shape i passes passes' base_flies base_flies' → BaseStays base_sectors base_sectors' base_depth base_depth' base_tells base_tells' base base'
       → tells → base_tells' → IsSafelyKept state.header state.map state.table state.fresh.bits k flusher passes' history disk base' sectors
   fetch-safely at (inl f) stays now base_now =
       let before = stays.told_before base_now in

@@ -3,6 +3,7 @@ use Rattle.std.proofs.Common.{◌≡◌, ℕ, ◌+◌, ◌<◌, ◌≤◌, ◌�
 use Rattle.vd_law.specs.declared.entry.Sector.{Sector}
 use Rattle.vd_law.specs.declared.entry.Room.{Room}
 use Rattle.vd_law.specs.Histories.{Numbered}
+use Rattle.vd_device.specs.declared.store.Store as store
 use Rattle.vd_device.specs.declared.ticket.Ticket.{Ticket}
 use Rattle.vd_device.specs.declared.ticket.Kind.{Kind}
 use Rattle.vd_device.specs.declared.ticket.Kind.TheVariants.{Read, Write, Flush}
@@ -22,7 +23,7 @@ use Rattle.vd_passes.specs.declared.shape.Shape.{Shape}
 use Rattle.vd_passes.specs.declared.pass.Pass.{Pass}
 use Rattle.vd_passes.specs.declared.pass.Phase.TheVariants.{Idle}
 use Rattle.vd_passes.specs.Steps.{SubmitsMeta, meta_entry}
-use Rattle.vd_metadata.specs.Flushing.{BeginsFlush, IsWornOut, PutsNext, SyncsPuts, SettlesMeta, SealsFlush}
+use Rattle.vd_metadata.specs.Flushing.{meta_state, BeginsFlush, IsWornOut, PutsNext, SyncsPuts, SettlesMeta, SealsFlush}
 use Rattle.vd_safety.proofs.Begins.{begin-secured, worn-secured}
 use Rattle.vd_safety.proofs.Puts.{put-secured}
 use Rattle.vd_safety.proofs.Syncs.{sync-secured}
@@ -31,9 +32,8 @@ use Rattle.vd_safety.proofs.Settles as settles
 use Rattle.vd_safety.proofs.Seals.{seal-secured}
 use Rattle.vd_safety.proofs.Adopts.{adopt-secured}
 use Rattle.vd_safety.proofs.Supplied.{flushing-of, flush-asked}
-use Rattle.vd_core.specs.Devices.{Stays}
 use Rattle.vd_core.specs.Flushing.{flusher_after}
-use Rattle.vd_core.specs.Kept.{IsKept, IsTold, IsLogged, IsRecorded, IsSafelyKept}
+use Rattle.vd_core.specs.Kept.{IsKept, IsFaithfullyKept, IsLogged, IsRecorded, IsSafelyKept}
 use Rattle.vd_core.proofs.Securing.Carrying.{safely-on, safely-here, around}
 use Rattle.vd_core.proofs.Securing.Issuing.{range-inside, none-written, settled-inside}
 
@@ -44,6 +44,12 @@ meta-inside Flush t content low sectors is fits j a v w = absurd (none-written (
 meta-inside Write t content low sectors (inl flush) fits j a v w = absurd cc
 meta-inside Write t content low sectors (inr write) fits j a v w = range-inside t content sectors (let within = write.1 in omega (arith, within, fits)) j a v w
 
+-- so does all of a submitted call
+submit-inside : {content : List Sector} {shape : Shape} {i : ℕ} {passes passes' : List Pass} {flies flies' : List Ticket → Type 0} {tells tells' : Type 0} {disk disk' : Disk} {last last' sectors : ℕ} → shape.storage_at ≤ sectors
+    → (step : SubmitsMeta content shape i passes passes' flies flies' tells tells' disk disk' last last') → (j a : ℕ) (v : Sector) → Writes (meta_entry step.ticket.kind step.ticket content ∷ []) j a v → a < sectors
+submit-inside {content} {shape} {sectors = sectors} low step = meta-inside step.ticket.kind step.ticket content shape.storage_at sectors
+    (elim step.is_meta [ inl flush ↦ inl flush | inr write ↦ inr (write.0, (let within = write.1 in let count = step.count write.0 in omega (arith, within, count))) ]) low
+
 same-after : (answer : Settled) (flusher : Option ℕ) → settles.flusher_after answer flusher ≡ flusher_after answer flusher
 same-after settled.Done flusher = refl
 same-after (settled.NotYet same) flusher = refl
@@ -52,62 +58,57 @@ same-after (settled.Failed number) flusher = refl
 module _ {shape : Shape} {state : State} {regions : List (Option Region)} {passes : List Pass} {history : Numbered} {spare : Room} {sectors depth events base_sectors base_depth : ℕ} {flies base_flies : List Ticket → Type 0} {flusher : Option ℕ} {k : Keeping}
     {tells base_tells : Type 0} {disk : Disk} {last : ℕ} {base : List Sector}
     (kept : IsKept shape state.table state.fresh.bits regions passes history spare sectors depth events base_sectors base_depth flies base_flies) (recorded : IsRecorded shape state passes flusher k)
-    (told : tells → base_tells → IsTold shape state.header state.table state.fresh.bits passes history disk last base base_sectors) (logged : tells → IsLogged passes history disk)
+    (told : tells → base_tells → IsFaithfullyKept shape state.header state.table state.fresh.bits passes history disk last base base_sectors) (logged : tells → IsLogged passes history disk)
     (was : tells → base_tells → IsSafelyKept state.header state.map state.table state.fresh.bits k flusher passes history disk base sectors) (i : ℕ) where
-  -- what a submitted call writes lies in the store
-  submit-inside : {content : List Sector} {passes' : List Pass} {last' : ℕ} {flies' : List Ticket → Type 0} {tells' : Type 0} {disk' : Disk} (step : SubmitsMeta content shape i passes passes' flies flies' tells tells' disk disk' last last')
-      → (j a : ℕ) (v : Sector) → Writes (meta_entry step.ticket.kind step.ticket content ∷ []) j a v → a < sectors
-  submit-inside {content} step = meta-inside step.ticket.kind step.ticket content shape.storage_at sectors
-      (elim step.is_meta [ inl flush ↦ inl flush | inr write ↦ inr (write.0, (let within = write.1 in let count = step.count write.0 in omega (arith, within, count))) ])
-      (let inside = kept.storage.inside in omega (arith, inside))
-
-  -- A flush is begun.
-  pub begin-safely : {route : Route} {k' : Keeping} {passes' : List Pass} {last' sectors' depth' events' : ℕ} {flies' : List Ticket → Type 0} {tells' : Type 0} {disk' : Disk}
-      → flusher ≡ None → ((t : ℕ) → route ≡ Recycle t → t ≡ k.header.tracked) → BeginsFlush route shape i k k' passes passes' flies flies' tells tells' disk disk' last last'
-      → Stays sectors sectors' depth depth' events events' → tells' → base_tells → IsSafelyKept state.header state.map state.table state.fresh.bits k' (Some i) passes' history disk' base sectors'
-  begin-safely none tracked step stays now base_now =
-      let before = step.sends.told_before now in
-      safely-on (was before base_now) (logged before) (_, (step.sends.told now).0) (submit-inside step.sends) stays.sectors_same refl
-      (λ start held is secured. let near = around kept recorded (told before base_now) start held is in
-      begin-secured (flushing-of near secured) step none tracked
-      (λ p there asked flush. flush-asked history.log.entries i p (kept.coherent.each i p there) asked flush) now secured)
-
-  -- Or it isn't, at the last generation.
+  -- A flush isn't begun, at the last generation.
   pub worn-safely : {route : Route} {passes' : List Pass} → flusher ≡ None → IsWornOut route i k passes passes' → tells → base_tells → IsSafelyKept state.header state.map state.table state.fresh.bits k flusher passes' history disk base sectors
   worn-safely none step now base_now = safely-here (was now base_now) refl refl (λ start held is secured. worn-secured step none secured)
-
-  -- The next record, sector of the map or header is put.
-  pub put-safely : {k' : Keeping} {passes' : List Pass} {last' sectors' depth' events' : ℕ} {flies' : List Ticket → Type 0} {tells' : Type 0} {disk' : Disk}
-      → k.stage ≡ Puts → PutsNext state.table shape i k k' passes passes' flies flies' tells tells' disk disk' last last' → Stays sectors sectors' depth depth' events events'
-      → tells' → base_tells → IsSafelyKept state.header state.map state.table state.fresh.bits k' flusher passes' history disk' base sectors'
-  put-safely stage step stays now base_now =
-      let before = step.sends.told_before now in
-      safely-on (was before base_now) (logged before) (_, (step.sends.told now).0) (submit-inside step.sends) stays.sectors_same refl
-      (λ start held is secured. put-secured (flushing-of (around kept recorded (told before base_now) start held is) secured) step stage now secured)
-
-  -- What was put is flushed.
-  pub sync-safely : {passes' : List Pass} {last' sectors' depth' events' : ℕ} {flies' : List Ticket → Type 0} {tells' : Type 0} {disk' : Disk}
-      → k.stage ≡ Syncs → SyncsPuts shape i passes passes' flies flies' tells tells' disk disk' last last' → Stays sectors sectors' depth depth' events events'
-      → tells' → base_tells → IsSafelyKept state.header state.map state.table state.fresh.bits k flusher passes' history disk' base sectors'
-  sync-safely stage step stays now base_now =
-      let before = step.sends.told_before now in
-      safely-on (was before base_now) (logged before) (_, (step.sends.told now).0) (submit-inside step.sends) stays.sectors_same refl
-      (λ start held is secured. sync-secured (flushing-of (around kept recorded (told before base_now) start held is) secured) step stage now secured)
-
-  -- A call of it is settled.
-  pub settle_meta-safely : {answer : Settled} {k' : Keeping} {passes' : List Pass} {last' sectors' depth' events' : ℕ} {flies' : List Ticket → Type 0} {tells' : Type 0} {disk' : Disk}
-      → SettlesMeta answer i k k' passes passes' flies flies' tells tells' disk disk' last last' → Stays sectors sectors' depth depth' events events'
-      → tells' → base_tells → IsSafelyKept state.header state.map state.table state.fresh.bits k' (flusher_after answer flusher) passes' history disk' base sectors'
-  settle_meta-safely {answer} {k'} {passes'} {last'} {sectors'} {depth'} {events'} {flies'} {tells'} {disk'} step stays now base_now =
-      let before = step.settles.told_before now in
-      subst (λ (f : Option ℕ). IsSafelyKept state.header state.map state.table state.fresh.bits k' f passes' history disk' base sectors') (same-after answer flusher)
-      (safely-on (was before base_now) (logged before) (_, (step.settles.told now).grows) (settled-inside answer step.settles.ticket _ sectors) stays.sectors_same refl
-      (λ start held is secured. settle_meta-secured (flushing-of (around kept recorded (told before base_now) start held is) secured) step now secured))
 
   -- It is over.
   pub seal-safely : {k' : Keeping} {passes' : List Pass} → k.stage ≡ Seals → SealsFlush i k k' passes passes' → tells → base_tells → IsSafelyKept state.header state.map state.table state.fresh.bits k' None passes' history disk base sectors
   seal-safely stage step now base_now =
       safely-here (was now base_now) refl refl (λ start held is secured. seal-secured (flushing-of (around kept recorded (told now base_now) start held is) secured) step stage secured)
+
+-- its calls
+module _ {shape : Shape} {state : State} {regions : List (Option Region)} {passes : List Pass} {history : Numbered} {spare : Room} {base_sectors base_depth : ℕ} {base_flies : List Ticket → Type 0} {flusher : Option ℕ} {k : Keeping}
+    {S : Type 0} {g : store.Ghosts S} {s : S} {base_tells : Type 0} {base : List Sector}
+    (kept : IsKept shape state.table state.fresh.bits regions passes history spare (g.sectors s) (g.depth s) (g.events s) base_sectors base_depth (g.flies s) base_flies) (recorded : IsRecorded shape state passes flusher k)
+    (told : g.tells s → base_tells → IsFaithfullyKept shape state.header state.table state.fresh.bits passes history (g.disk s) (g.last s) base base_sectors) (logged : g.tells s → IsLogged passes history (g.disk s))
+    (was : g.tells s → base_tells → IsSafelyKept state.header state.map state.table state.fresh.bits k flusher passes history (g.disk s) base (g.sectors s)) (i : ℕ) {passes' : List Pass} {s' : S} where
+  -- A flush is begun.
+  pub begin-safely : {route : Route} {k' : Keeping} → flusher ≡ None → ((t : ℕ) → route ≡ Recycle t → t ≡ k.header.tracked) → BeginsFlush g route shape i (meta_state k passes) (meta_state k' passes') s s'
+      → g.sectors s' ≡ g.sectors s → g.tells s' → base_tells → IsSafelyKept state.header state.map state.table state.fresh.bits k' (Some i) passes' history (g.disk s') base (g.sectors s')
+  begin-safely none tracked step same now base_now =
+      let before = step.sends.told_before now in
+      safely-on (was before base_now) (logged before) (_, (step.sends.told now).0) (submit-inside (let inside = kept.storage.inside in omega (arith, inside)) step.sends) same refl
+      (λ start held is secured. let near = around kept recorded (told before base_now) start held is in
+      begin-secured (flushing-of near secured) step none tracked
+      (λ p there asked flush. flush-asked history.log.entries i p (kept.coherent.each i p there) asked flush) now secured)
+
+  -- The next record, sector of the map or header is put.
+  pub put-safely : {k' : Keeping} → k.stage ≡ Puts → PutsNext g state.table shape i (meta_state k passes) (meta_state k' passes') s s' → g.sectors s' ≡ g.sectors s
+      → g.tells s' → base_tells → IsSafelyKept state.header state.map state.table state.fresh.bits k' flusher passes' history (g.disk s') base (g.sectors s')
+  put-safely stage step same now base_now =
+      let before = step.sends.told_before now in
+      safely-on (was before base_now) (logged before) (_, (step.sends.told now).0) (submit-inside (let inside = kept.storage.inside in omega (arith, inside)) step.sends) same refl
+      (λ start held is secured. put-secured (flushing-of (around kept recorded (told before base_now) start held is) secured) step stage now secured)
+
+  -- What was put is flushed.
+  pub sync-safely : k.stage ≡ Syncs → SyncsPuts g shape i passes passes' s s' → g.sectors s' ≡ g.sectors s
+      → g.tells s' → base_tells → IsSafelyKept state.header state.map state.table state.fresh.bits k flusher passes' history (g.disk s') base (g.sectors s')
+  sync-safely stage step same now base_now =
+      let before = step.sends.told_before now in
+      safely-on (was before base_now) (logged before) (_, (step.sends.told now).0) (submit-inside (let inside = kept.storage.inside in omega (arith, inside)) step.sends) same refl
+      (λ start held is secured. sync-secured (flushing-of (around kept recorded (told before base_now) start held is) secured) step stage now secured)
+
+  -- A call of it is settled.
+  pub settle_meta-safely : {answer : Settled} {k' : Keeping} → SettlesMeta g answer i (meta_state k passes) (meta_state k' passes') s s' → g.sectors s' ≡ g.sectors s
+      → g.tells s' → base_tells → IsSafelyKept state.header state.map state.table state.fresh.bits k' (flusher_after answer flusher) passes' history (g.disk s') base (g.sectors s')
+  settle_meta-safely {answer} {k'} step same now base_now =
+      let before = step.settles.told_before now in
+      subst (λ (f : Option ℕ). IsSafelyKept state.header state.map state.table state.fresh.bits k' f passes' history (g.disk s') base (g.sectors s')) (same-after answer flusher)
+      (safely-on (was before base_now) (logged before) (_, (step.settles.told now).grows) (settled-inside answer step.settles.ticket _ (g.sectors s)) same refl
+      (λ start held is secured. settle_meta-secured (flushing-of (around kept recorded (told before base_now) start held is) secured) step now secured))
 
 module _ {shape : Shape} {state : State} {passes : List Pass} {history : Numbered} {sectors : ℕ} {flusher : Option ℕ} {k : Keeping} {tells base_tells : Type 0} {disk : Disk} {base : List Sector}
     (recorded : IsRecorded shape state passes flusher k) (was : tells → base_tells → IsSafelyKept state.header state.map state.table state.fresh.bits k flusher passes history disk base sectors) where

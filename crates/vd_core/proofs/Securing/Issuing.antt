@@ -27,10 +27,10 @@ use Rattle.vd_passes.proofs.Ready.{can-write-asked}
 use Rattle.vd_safety.proofs.Ending.{IsOwedAfter, IsNumberedAfter, settle_issue-secured}
 use Rattle.vd_safety.proofs.Issuing.{issue-secured, part-long}
 use Rattle.vd_core.specs.Adding.{Extends}
-use Rattle.vd_core.specs.Devices.{Stays}
+use Rattle.vd_core.proofs.Keeping.Devices.{Stays}
 use Rattle.vd_core.specs.Issuing.{IsWritable, owed_after}
 use Rattle.vd_core.specs.Outcomes.{numbers_of}
-use Rattle.vd_core.specs.Kept.{IsKept, IsTold, IsLogged, IsRecorded, IsSafelyKept}
+use Rattle.vd_core.specs.Kept.{IsKept, IsFaithfullyKept, IsLogged, IsRecorded, IsSafelyKept}
 use Rattle.vd_core.proofs.Keeping.Issuing.{writing-at}
 use Rattle.vd_core.proofs.Securing.Carrying.{safely-on, around}
 
@@ -88,7 +88,7 @@ numbered-as (settled.Failed number) history history' events disk is runs = numbe
 module _ {shape : Shape} {state : State} {regions : List (Option Region)} {passes : List Pass} {history : Numbered} {spare : Room} {sectors depth events base_sectors base_depth : ℕ} {flies base_flies : List Ticket → Type 0} {flusher : Option ℕ} {k : Keeping}
     {tells base_tells : Type 0} {disk : Disk} {last : ℕ} {base : List Sector}
     (kept : IsKept shape state.table state.fresh.bits regions passes history spare sectors depth events base_sectors base_depth flies base_flies) (recorded : IsRecorded shape state passes flusher k)
-    (told : tells → base_tells → IsTold shape state.header state.table state.fresh.bits passes history disk last base base_sectors) (logged : tells → IsLogged passes history disk)
+    (told : tells → base_tells → IsFaithfullyKept shape state.header state.table state.fresh.bits passes history disk last base base_sectors) (logged : tells → IsLogged passes history disk)
     (was : tells → base_tells → IsSafelyKept state.header state.map state.table state.fresh.bits k flusher passes history disk base sectors) (i : ℕ) where
   -- the piece, or the block, lies in the store
   issued-inside : {content : List Sector} {passes' : List Pass} {history' : List Entry} {last' : ℕ} {flies' : List Ticket → Type 0} {tells' : Type 0} {disk' : Disk}

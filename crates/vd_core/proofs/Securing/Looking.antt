@@ -18,9 +18,9 @@ use Rattle.vd_passes.specs.Steps.{IsAt, Looks, LooksAtBase, SeesZeros, LookSettl
 use Rattle.vd_safety.proofs.Looking.{IsReadNumberedAfter, look-secured, settle_look-secured, settle_base_look-secured, see_zeros-secured}
 use Rattle.vd_safety.proofs.Others.{base_look-secured}
 use Rattle.vd_core.specs.Adding.{Extends}
-use Rattle.vd_core.specs.Devices.{Stays, BaseStays}
+use Rattle.vd_core.proofs.Keeping.Devices.{Stays, BaseStays}
 use Rattle.vd_core.specs.Outcomes.{read_numbers_of}
-use Rattle.vd_core.specs.Kept.{IsKept, IsTold, IsLogged, IsRecorded, IsSafelyKept}
+use Rattle.vd_core.specs.Kept.{IsKept, IsFaithfullyKept, IsLogged, IsRecorded, IsSafelyKept}
 use Rattle.vd_core.proofs.Securing.Carrying.{safely-on, safely-here, around}
 use Rattle.vd_core.proofs.Securing.Issuing.{none-written, settled-inside, number-now}
 
@@ -33,7 +33,7 @@ read-numbered-as (settled.Failed number) history history' events disk is runs = 
 module _ {shape : Shape} {state : State} {regions : List (Option Region)} {passes : List Pass} {history : Numbered} {spare : Room} {sectors depth events base_sectors base_depth : ℕ} {flies base_flies : List Ticket → Type 0} {flusher : Option ℕ} {k : Keeping}
     {tells base_tells : Type 0} {disk : Disk} {last : ℕ} {base : List Sector}
     (kept : IsKept shape state.table state.fresh.bits regions passes history spare sectors depth events base_sectors base_depth flies base_flies) (recorded : IsRecorded shape state passes flusher k)
-    (told : tells → base_tells → IsTold shape state.header state.table state.fresh.bits passes history disk last base base_sectors) (logged : tells → IsLogged passes history disk)
+    (told : tells → base_tells → IsFaithfullyKept shape state.header state.table state.fresh.bits passes history disk last base base_sectors) (logged : tells → IsLogged passes history disk)
     (was : tells → base_tells → IsSafelyKept state.header state.map state.table state.fresh.bits k flusher passes history disk base sectors) (i : ℕ) where
   -- A pass looks in the store.
   pub look-safely : {passes' : List Pass} {last' sectors' depth' events' : ℕ} {flies' : List Ticket → Type 0} {tells' : Type 0} {disk' : Disk}

@@ -8,7 +8,7 @@ use Rattle.vd_law.specs.Entries.{Entry}
 use Rattle.vd_law.specs.Contents.{may}
 use Rattle.vd_law.specs.Histories.{Numbered}
 use Rattle.vd_device.specs.declared.ticket.Ticket.{Ticket}
-use Rattle.vd_device.specs.Disks.{Disk, IsHonest}
+use Rattle.vd_device.specs.Disks.{Disk, IsHonest, TellsOrStopped}
 use Rattle.vd_device.specs.Now.{call_number}
 use Rattle.vd_format.specs.declared.header.Header.{Header}
 use Rattle.vd_image.specs.Log.{Flush, Ask, At, Writes, Flushes, May}
@@ -35,7 +35,7 @@ use Rattle.vd_safety.specs.Mirrors.{opening_for, IsSecured}
 use Rattle.vd_safety.proofs.Opening.{IsStart as IsMadeFrom, opened-secured}
 use Rattle.vd_core.specs.Start.{opening_at, IsStart, WasSafe, image_at}
 use Rattle.vd_core.specs.Opening.{AreNew, shape_of, empty_history, new_keeping}
-use Rattle.vd_core.specs.Kept.{IsKept, IsTold, IsAccounted, IsLogged, IsRecorded, IsSafelyKept, IsSafelyStopped}
+use Rattle.vd_core.specs.Kept.{IsKept, IsFaithfullyKept, IsAccounted, IsLogged, IsRecorded, IsSafelyKept, IsSafelyStopped}
 use Rattle.vd_core.proofs.Starting.{all-told, clean-held}
 use Rattle.vd_core.proofs.StartingDisk.{disk-over}
 
@@ -124,12 +124,13 @@ module _ (s : State) (passes : List Pass) (count : ℕ) (room : Room) (sectors d
   -- what the type keeps, of a core with these parts
   abbrev pub AllKept : Shape → Keeping → List (Option Region) → Numbered → Room → Type 0
   AllKept shape k regions history spare = IsKept shape s.table s.fresh.bits regions passes history spare sectors depth events base_sectors base_depth flies base_flies
-      × (tells → base_tells → IsTold shape s.header s.table s.fresh.bits passes history disk last base base_sectors)
+      × (tells → base_tells → IsFaithfullyKept shape s.header s.table s.fresh.bits passes history disk last base base_sectors)
       × IsAccounted shape s.map s.table s.fresh.bits passes history.log.entries last opened faults base_last base_opened base_faults
       × (tells → IsLogged passes history disk)
       × IsRecorded shape s passes None k
       × (tells → base_tells → IsSafelyKept s.header s.map s.table s.fresh.bits k None passes history disk base sectors)
       × (records → base_tells → tells ⊎ IsSafelyStopped s.header history events disk base)
+      × (records → TellsOrStopped tells events disk)
 
   pub opened-parts : {shape : Shape} {k : Keeping} {regions : List (Option Region)} {history : Numbered} {spare : Room} → shape ≡ shape_of s.header base_sectors → k ≡ new_keeping s → regions ≡ replicate count None
       → history ≡ empty_history room events → spare ≡ room → AllKept (shape_of s.header base_sectors) (new_keeping s) (replicate count None) (empty_history room events) room → AllKept shape k regions history spare

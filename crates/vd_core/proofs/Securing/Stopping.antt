@@ -30,8 +30,8 @@ use Rattle.vd_passes.specs.Steps.{Issues, EndsWrite, WriteSettled, EndsRead, Loo
 use Rattle.vd_safety.specs.Mirrors.{opening_for}
 use Rattle.vd_safety.proofs.Words.{IsHarmless, secured-rising, stopped-crash-safe}
 use Rattle.vd_core.specs.Adding.{Extends}
-use Rattle.vd_core.specs.Asking.{AskEnds}
-use Rattle.vd_core.specs.Devices.{Stays, BaseStays}
+use Rattle.vd_core.specs.Asking.{asking, AskEnds}
+use Rattle.vd_core.proofs.Keeping.Devices.{Stays, BaseStays}
 use Rattle.vd_core.specs.Outcomes.{numbers_of, read_numbers_of}
 use Rattle.vd_core.specs.Opening.{empty_history}
 use Rattle.vd_core.specs.Start.{Opening, opening_at, IsStart, WasSafe}
@@ -122,7 +122,7 @@ module _ {h : Header} {base start : List Sector} {disk : Disk} where
       read-ends answer step.pass (fault.Base step.ticket.number) (step.content ++ replicate (step.pass.piece - step.ticket.count) zero_sector) i passes passes' out out' step.effect
 
   -- as a request is asked, or answered at once
-  pub ask-still : {result : Option Answer} {request : Asked} {shape : Shape} {i events : ℕ} {table table' : Given} {passes passes' : List Pass} {history history' : Numbered} {spare spare' : Room} → AskEnds result request shape i table table' passes passes' history history' spare spare' events
+  pub ask-still : {result : Option Answer} {request : Asked} {shape : Shape} {i events : ℕ} {table table' : Given} {passes passes' : List Pass} {history history' : Numbered} {spare spare' : Room} → AskEnds result request events i (asking shape table passes history spare) (asking shape table' passes' history' spare')
       → last_number history.opened history.numbers ≤ events → length disk.log < events → IsStillSafe h base start disk history → IsStillSafe h base start disk history'
   ask-still (inl none) later late was = subst (IsStillSafe h base start disk) (sym none.2.history_same) was
   ask-still (inr (inl full)) later late was = late-two _ _ full.3.extends full.3.asks.event later late was

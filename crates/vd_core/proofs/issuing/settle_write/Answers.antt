@@ -6,7 +6,7 @@ use Rattle.vd_passes.specs.Passes.{spent, after_piece}
 use Rattle.vd_meta.specs.Moves.{owing}
 use Rattle.vd_core.proofs.Picked.{read-there}
 use Rattle.vd_core.proofs.Ended.{set-there, put-back, write-failed, tells-nothing-read, extends-none, broke-entry, done-entry, nothing-long}
-use Rattle.vd_device.proofs.Stopping.{stood-after}
+use Rattle.vd_passes.proofs.Stopping.{takes-stood}
 use Rattle.vd_core.proofs.issuing.settle_write.Goals as goal
 
 pub returns-in-NotYet-clause-settled : goal.returns-in-NotYet-clause-settled
@@ -28,8 +28,8 @@ returns-in-NotYet-clause-settled g c =
               ∙ set-there c.args.passes.now.items c.args.pass q there,
           refl,
         );
-        told_before = late.told_before;
-        told = λ told. tells-nothing-read (NotYet c.in-NotYet.ticket) c.take_ticket-ticket.result c.settle.new.out _ _ late.settles.1 (late.told told);
+        told_before = late.takes.keeps.told_before;
+        told = λ told. tells-nothing-read (NotYet c.in-NotYet.ticket) c.take_ticket-ticket.result c.settle.new.out _ _ late.settles.1 (record { grows = late.takes.told told; gives = late.gives told });
       },
       extends-none c.args.history.now,
       late.cause,
@@ -55,8 +55,8 @@ returns-in-Failed-clause-settled g c =
               (write-failed q c.take_ticket-ticket.new.self c.fail.new.self c.spend-in-Failed.new.self c.take_ticket-ticket.result.number c.in-Failed.number taken.rest failed.settles.0 c.fail.ensures c.spend-in-Failed.ensures),
           broke-entry c.call_id-id.result c.args.pass q c.args.history.now.log.entries c.add-in-Failed.new.history.log.entries c.call_id-id.ensures.pass c.call_id-id.ensures.call c.add-in-Failed.ensures.entry,
         );
-        told_before = failed.told_before;
-        told = λ told. tells-nothing-read (Failed c.in-Failed.number) c.take_ticket-ticket.result c.settle.new.out _ _ failed.settles.1 (failed.told told);
+        told_before = failed.takes.keeps.told_before;
+        told = λ told. tells-nothing-read (Failed c.in-Failed.number) c.take_ticket-ticket.result c.settle.new.out _ _ failed.settles.1 (record { grows = failed.takes.told told; gives = failed.gives told });
       },
       c.add-in-Failed.ensures.extends,
       failed.cause,
@@ -81,8 +81,8 @@ returns-in-Done-clause-settled g c =
           ap (λ (x : Pass). slice_set c.args.passes.now.items c.args.pass x) (c.spend.ensures ∙ ap (spent 1 0) (c.end_piece.ensures ∙ ap after_piece taken.rest)),
           done-entry c.call_id-id.result c.args.pass q c.args.history.now.log.entries c.add.new.history.log.entries c.call_id-id.ensures.pass c.call_id-id.ensures.call c.add.ensures.entry,
         );
-        told_before = done.told_before;
-        told = λ told. tells-nothing-read Done c.take_ticket-ticket.result c.settle.new.out _ _ (nothing-long c.settle.new.out c.settle.auto.out) (done.told told);
+        told_before = done.takes.keeps.told_before;
+        told = λ told. tells-nothing-read Done c.take_ticket-ticket.result c.settle.new.out _ _ (nothing-long c.settle.new.out c.settle.auto.out) (record { grows = done.takes.told told; gives = done.gives told });
       },
       c.add.ensures.extends,
       done.cause,
@@ -90,10 +90,19 @@ returns-in-Done-clause-settled g c =
     )
 
 pub returns-in-Done-clause-stopped : goal.returns-in-Done-clause-stopped
-returns-in-Done-clause-stopped g c recorded = let got = c.in-Done.ensures in stood-after _ _ _ _ _ _ (got.recorded recorded) (got.stopped recorded)
+returns-in-Done-clause-stopped g c = takes-stood g.S.Store _ _ _ c.in-Done.ensures.takes
+
+pub returns-in-Done-clause-keeps : goal.returns-in-Done-clause-keeps
+returns-in-Done-clause-keeps g c = let got = c.in-Done.ensures in record { counts = got.counts; telling = got.takes.keeps }
 
 pub returns-in-NotYet-clause-stopped : goal.returns-in-NotYet-clause-stopped
-returns-in-NotYet-clause-stopped g c recorded = let got = c.in-NotYet.ensures in stood-after _ _ _ _ _ _ (got.recorded recorded) (got.stopped recorded)
+returns-in-NotYet-clause-stopped g c = takes-stood g.S.Store _ _ _ c.in-NotYet.ensures.takes
+
+pub returns-in-NotYet-clause-keeps : goal.returns-in-NotYet-clause-keeps
+returns-in-NotYet-clause-keeps g c = let got = c.in-NotYet.ensures in record { counts = got.counts; telling = got.takes.keeps }
 
 pub returns-in-Failed-clause-stopped : goal.returns-in-Failed-clause-stopped
-returns-in-Failed-clause-stopped g c recorded = let got = c.in-Failed.ensures in stood-after _ _ _ _ _ _ (got.recorded recorded) (got.stopped recorded)
+returns-in-Failed-clause-stopped g c = takes-stood g.S.Store _ _ _ c.in-Failed.ensures.takes
+
+pub returns-in-Failed-clause-keeps : goal.returns-in-Failed-clause-keeps
+returns-in-Failed-clause-keeps g c = let got = c.in-Failed.ensures in record { counts = got.counts; telling = got.takes.keeps }

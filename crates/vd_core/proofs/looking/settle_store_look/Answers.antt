@@ -5,7 +5,7 @@ use Rattle.vd_passes.specs.Passes.{after_piece}
 use Rattle.vd_core.proofs.Picked.{read-there, picked}
 use Rattle.vd_core.proofs.Ended.{set-there, put-back, extends-none}
 use Rattle.vd_core.proofs.Seen.{part_of, part-long, part-kept, sees-part, extends-part, read-failed}
-use Rattle.vd_device.proofs.Stopping.{stood-after}
+use Rattle.vd_passes.proofs.Stopping.{takes-stood}
 use Rattle.vd_core.proofs.looking.settle_store_look.Goals as goal
 
 pub returns-in-Done-clause-settled : goal.returns-in-Done-clause-settled
@@ -25,8 +25,8 @@ returns-in-Done-clause-settled g c =
         number = c.settle.ensures.last;
         settles = (part_of q out, part, c.in-Done.ensures.settles);
         effect = sees-part q c.end_piece.new.self c.spend.new.self c.call_id-id.result part there (c.end_piece.ensures ∙ ap after_piece taken.rest) c.spend.ensures c.call_id-id.ensures.pass c.call_id-id.ensures.call c.add.ensures.entry filled;
-        told_before = c.settle.ensures.told_before;
-        told = c.in-Done.ensures.told;
+        told_before = c.settle.ensures.takes.keeps.told_before;
+        told = λ told. record { grows = c.in-Done.ensures.takes.told told; gives = c.in-Done.ensures.gives told };
       },
       (q, there, extends-part part q.piece filled c.add.ensures.extends),
       c.in-Done.ensures.cause,
@@ -51,8 +51,8 @@ returns-in-NotYet-clause-settled g c =
           refl,
           part-kept q out part c.in-NotYet.ensures.settles.1,
         );
-        told_before = c.settle.ensures.told_before;
-        told = c.in-NotYet.ensures.told;
+        told_before = c.settle.ensures.takes.keeps.told_before;
+        told = λ told. record { grows = c.in-NotYet.ensures.takes.told told; gives = c.in-NotYet.ensures.gives told };
       },
       (q, there, extends-none c.args.history.now),
       c.in-NotYet.ensures.cause,
@@ -77,18 +77,27 @@ returns-in-Failed-clause-settled g c =
           refl,
           part-kept q out part c.in-Failed.ensures.settles.1,
         );
-        told_before = c.settle.ensures.told_before;
-        told = c.in-Failed.ensures.told;
+        told_before = c.settle.ensures.takes.keeps.told_before;
+        told = λ told. record { grows = c.in-Failed.ensures.takes.told told; gives = c.in-Failed.ensures.gives told };
       },
       (q, there, extends-none c.args.history.now),
       c.in-Failed.ensures.cause,
     )
 
 pub returns-in-Done-clause-stopped : goal.returns-in-Done-clause-stopped
-returns-in-Done-clause-stopped g c recorded = let got = c.in-Done.ensures in stood-after _ _ _ _ _ _ (got.recorded recorded) (got.stopped recorded)
+returns-in-Done-clause-stopped g c = takes-stood g.S.Store _ _ _ c.in-Done.ensures.takes
+
+pub returns-in-Done-clause-keeps : goal.returns-in-Done-clause-keeps
+returns-in-Done-clause-keeps g c = let got = c.in-Done.ensures in record { counts = got.counts; telling = got.takes.keeps }
 
 pub returns-in-NotYet-clause-stopped : goal.returns-in-NotYet-clause-stopped
-returns-in-NotYet-clause-stopped g c recorded = let got = c.in-NotYet.ensures in stood-after _ _ _ _ _ _ (got.recorded recorded) (got.stopped recorded)
+returns-in-NotYet-clause-stopped g c = takes-stood g.S.Store _ _ _ c.in-NotYet.ensures.takes
+
+pub returns-in-NotYet-clause-keeps : goal.returns-in-NotYet-clause-keeps
+returns-in-NotYet-clause-keeps g c = let got = c.in-NotYet.ensures in record { counts = got.counts; telling = got.takes.keeps }
 
 pub returns-in-Failed-clause-stopped : goal.returns-in-Failed-clause-stopped
-returns-in-Failed-clause-stopped g c recorded = let got = c.in-Failed.ensures in stood-after _ _ _ _ _ _ (got.recorded recorded) (got.stopped recorded)
+returns-in-Failed-clause-stopped g c = takes-stood g.S.Store _ _ _ c.in-Failed.ensures.takes
+
+pub returns-in-Failed-clause-keeps : goal.returns-in-Failed-clause-keeps
+returns-in-Failed-clause-keeps g c = let got = c.in-Failed.ensures in record { counts = got.counts; telling = got.takes.keeps }

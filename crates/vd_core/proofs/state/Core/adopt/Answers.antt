@@ -22,4 +22,5 @@ invariant_of-self g c =
       adopt-recorded c.self.invariant.4 (blocks-same c.self.invariant.0 c.self.invariant.4) c.adopt.ensures,
       adopt-safely c.self.invariant.4 c.self.invariant.5 idle c.adopt.ensures,
       c.self.invariant.6,
+      c.self.invariant.7,
     )

@@ -27,6 +27,7 @@ invariant_of-self g c =
       ask-recorded c.self.invariant.4 at done.ends,
       ask-safely c.self.invariant.0 c.self.invariant.4 c.self.invariant.1 c.self.invariant.5 c.args.pass at done.ends done.running,
       stopped-same c.self.invariant.6 (ask-opened done.ends) (λ late start. ask-still done.ends kept.roomy.later late),
+      c.self.invariant.7,
     )
 
 pub returns-clause-ends : goal.returns-clause-ends

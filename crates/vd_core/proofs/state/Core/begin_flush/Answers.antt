@@ -1,9 +1,11 @@
 use Rattle.std.proofs.Common.{sym, refl, arith}
+use Rattle.vd_device.proofs.Keeping.{keeps-same}
+use Rattle.vd_passes.proofs.Stopping.{takes-stood}
+use Rattle.vd_core.proofs.Keeping.Devices.{stays-of}
 use Rattle.vd_core.proofs.Keeping.FlushingReady.{asked-flush, flush-place, begin-recorded, worn-recorded}
-use Rattle.vd_core.proofs.Keeping.Flushing.{stays-by, submit-kept, submit-told, submit-accounted, submit-logged, submit-opening, end-kept, end-told, end-accounted, end-logged}
-use Rattle.vd_core.proofs.Keeping.Telling.{same-opening}
+use Rattle.vd_core.proofs.Keeping.Flushing.{submit-kept, submit-told, submit-accounted, submit-logged, end-kept, end-told, end-accounted, end-logged}
 use Rattle.vd_core.proofs.Securing.Flushing.{begin-safely, worn-safely}
-use Rattle.vd_core.proofs.Securing.Stopping.{stopped-on, opening-stands}
+use Rattle.vd_core.proofs.Securing.Stopping.{stopped-on}
 use Rattle.vd_core.proofs.state.Core.begin_flush.Goals as goal
 
 pub begin-going-requires : goal.begin-going-requires
@@ -19,13 +21,14 @@ pub invariant_of-self : goal.invariant_of-self
 invariant_of-self g c =
     let tracked = rw (sym c.self.view_is) at c.requires.tracked in let done = c.begin-going.ensures in
     let begun = done.begun c.if-going.true c.self.inside.shape in let step = begun.sends in (
-      submit-kept c.self.invariant.0 c.args.pass step (stays-by done.stays),
+      submit-kept c.self.invariant.0 c.args.pass step (stays-of (done.keeps c.if-going.true)),
       submit-told c.self.invariant.0 c.args.pass step c.self.invariant.3 c.self.invariant.1,
-      submit-accounted c.self.invariant.2 step (done.number c.if-going.true) done.calm.0,
+      submit-accounted c.self.invariant.2 step (done.number c.if-going.true) (done.keeps c.if-going.true).counts.faults,
       submit-logged step c.self.invariant.3,
       begin-recorded c.self.invariant.4 c.in_default.is tracked begun,
-      begin-safely c.self.invariant.0 c.self.invariant.4 c.self.invariant.1 c.self.invariant.3 c.self.invariant.5 c.args.pass c.in_default.is tracked begun (stays-by done.stays),
-      stopped-on c.self.invariant.5 c.self.invariant.6 done.recorded_before (done.stopped c.if-going.true) refl (λ late start before. before),
+      begin-safely c.self.invariant.0 c.self.invariant.4 c.self.invariant.1 c.self.invariant.3 c.self.invariant.5 c.args.pass c.in_default.is tracked begun (done.keeps c.if-going.true).counts.sectors,
+      stopped-on c.self.invariant.5 c.self.invariant.6 (done.keeps c.if-going.true).telling.recorded_before (takes-stood g.S.Store _ _ _ begun.submits.takes) refl (λ late start before. before),
+      (done.keeps c.if-going.true).telling.state,
     )
 
 pub invariant_of-self-else-going : goal.invariant_of-self-else-going
@@ -39,18 +42,17 @@ invariant_of-self-else-going g c =
       worn-recorded c.self.invariant.4 worn,
       worn-safely c.self.invariant.0 c.self.invariant.4 c.self.invariant.1 c.self.invariant.3 c.self.invariant.5 c.args.pass c.in_default.is worn,
       c.self.invariant.6,
+      c.self.invariant.7,
     )
 
 pub returns-then-going-clause-going : goal.returns-then-going-clause-going
 returns-then-going-clause-going g c = rw (sym c.self.view_is) (λ is. (c.in_default.is, refl, c.begin-going.ensures.begun c.if-going.true c.self.inside.shape))
 
-pub returns-then-going-clause-told_before : goal.returns-then-going-clause-told_before
-returns-then-going-clause-told_before g c = rw (sym c.self.view_is) (c.begin-going.ensures.begun c.if-going.true c.self.inside.shape).sends.told_before
+pub returns-then-going-clause-keeps : goal.returns-then-going-clause-keeps
+returns-then-going-clause-keeps g c = rw (sym c.self.view_is) (c.begin-going.ensures.keeps c.if-going.true)
 
-pub returns-then-going-clause-opening : goal.returns-then-going-clause-opening
-returns-then-going-clause-opening g c = let step = (c.begin-going.ensures.begun c.if-going.true c.self.inside.shape).sends in
-    rw (sym c.self.view_is) (λ told. same-opening (c.self.invariant.3 (step.told_before told)) (submit-opening step told) refl)
+pub returns-else-going-clause-keeps : goal.returns-else-going-clause-keeps
+returns-else-going-clause-keeps g c = rw ((c.begin-going.ensures.unchanged c.if-going.false).0, sym c.self.view_is) (keeps-same g.S.Store c.self.inside.store c.self.invariant.7)
 
-pub returns-then-going-clause-opening_stands : goal.returns-then-going-clause-opening_stands
-returns-then-going-clause-opening_stands g c = let done = c.begin-going.ensures in let step = (done.begun c.if-going.true c.self.inside.shape).sends in
-    rw (sym c.self.view_is) (opening-stands c.self.invariant.3 step.told_before (submit-opening step) (done.stopped c.if-going.true) refl)
+pub returns-in-Some-clause-keeps : goal.returns-in-Some-clause-keeps
+returns-in-Some-clause-keeps g c = rw (sym c.self.view_is) (keeps-same g.S.Store c.self.inside.store c.self.invariant.7)

@@ -24,6 +24,7 @@ invariant_of-self g c =
       enter-recorded c.self.invariant.4 c.args.pass c.self.inside.state.table.chunks c.self.inside.regions c.enter_block.new.regions (at.0, at.1, at.2.0) c.enter_block.result done.busy done.enters,
       enter-safely c.self.invariant.0 c.self.invariant.4 c.self.invariant.1 c.self.invariant.5 c.args.pass c.self.inside.state.table.chunks c.self.inside.regions c.enter_block.new.regions (at.0, at.1, at.2.0) c.enter_block.result done.busy done.enters,
       c.self.invariant.6,
+      c.self.invariant.7,
     )
 
 pub returns-clause-enters : goal.returns-clause-enters

@@ -5,6 +5,7 @@ use Rattle.vd_passes.specs.Causes.{OfStore, OfBase}
 use Rattle.vd_passes.specs.Laying.{below}
 use Rattle.vd_passes.proofs.Regions.{region-of}
 use Rattle.vd_passes.proofs.BlamingSteps.{looks-base_numbered, base_looks-store_numbered, sees-numbered}
+use Rattle.vd_device.proofs.Keeping.{keeps-same, base-keeps-same}
 use Rattle.vd_core.specs.Adding.{Extends}
 use Rattle.vd_core.specs.Looking.{IsReader}
 use Rattle.vd_core.proofs.Picked.{read-there, at-same}
@@ -119,3 +120,15 @@ pub returns-else-count-gt0-clause-base_number : goal.returns-else-count-gt0-clau
 returns-else-count-gt0-clause-base_number g c =
     let step = rw (sym c.self.view_is) at c.look_at_zeros.ensures.sees in
     rw (ap g.B.Base.last (same-base c.look_at_zeros.ensures.others), sym c.self.view_is) (sees-numbered OfBase (g.B.Base.last c.self.inside.base) step.sees)
+
+pub returns-then-get-clause-base_keeps : goal.returns-then-get-clause-base_keeps
+returns-then-get-clause-base_keeps g c = rw (same-base c.look_in_store.ensures.others, sym c.self.view_is) (base-keeps-same g.B.Base c.self.inside.base)
+
+pub returns-then-count-gt0-clause-keeps : goal.returns-then-count-gt0-clause-keeps
+returns-then-count-gt0-clause-keeps g c = rw (same-store c.look_in_base.ensures.others, sym c.self.view_is) (keeps-same g.S.Store c.self.inside.store c.self.invariant.7)
+
+pub returns-else-count-gt0-clause-keeps : goal.returns-else-count-gt0-clause-keeps
+returns-else-count-gt0-clause-keeps g c = rw (same-store c.look_at_zeros.ensures.others, sym c.self.view_is) (keeps-same g.S.Store c.self.inside.store c.self.invariant.7)
+
+pub returns-else-count-gt0-clause-base_keeps : goal.returns-else-count-gt0-clause-base_keeps
+returns-else-count-gt0-clause-base_keeps g c = rw (same-base c.look_at_zeros.ensures.others, sym c.self.view_is) (base-keeps-same g.B.Base c.self.inside.base)

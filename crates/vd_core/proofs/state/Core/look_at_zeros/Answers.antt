@@ -31,4 +31,5 @@ invariant_of-self g c =
       sees-recorded c.self.invariant.4 c.args.pass held-not (at.0, at.1, at.2.0.phase) step.sees,
       zeros-safely c.self.invariant.0 c.self.invariant.4 c.self.invariant.1 c.self.invariant.3 c.self.invariant.5 c.args.pass (at.0, at.1, at.2.0.phase) step seen.2.1 c.see_zeros.ensures.running,
       stopped-same c.self.invariant.6 seen.2.1.opened (λ late start. late-one _ seen.2.1 step.sees.event c.self.invariant.0.roomy.later late),
+      c.self.invariant.7,
     )

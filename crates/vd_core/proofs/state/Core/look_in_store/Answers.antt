@@ -1,11 +1,12 @@
 use Rattle.std.proofs.Common.{sym, refl}
 use Rattle.vd_passes.proofs.TracingSteps.{looks-followed}
+use Rattle.vd_core.proofs.Keeping.Devices.{stays-of}
 use Rattle.vd_core.proofs.Keeping.Accounting.{look-accounted}
 use Rattle.vd_core.proofs.Keeping.Looking.{can-look, look-kept, look-told}
 use Rattle.vd_core.proofs.Keeping.Recording.{look-recorded}
-use Rattle.vd_core.proofs.Keeping.Telling.{logged-on, same-opening}
+use Rattle.vd_core.proofs.Keeping.Telling.{logged-on}
 use Rattle.vd_core.proofs.Securing.Looking.{look-safely}
-use Rattle.vd_core.proofs.Securing.Stopping.{stopped-on, opening-stands}
+use Rattle.vd_core.proofs.Securing.Stopping.{stopped-on}
 use Rattle.vd_core.proofs.state.Core.look_in_store.Goals as goal
 
 pub look_at_store-requires : goal.look_at_store-requires
@@ -16,22 +17,15 @@ look_at_store-requires g c =
 pub invariant_of-self : goal.invariant_of-self
 invariant_of-self g c =
     let at = rw (sym c.self.view_is) at c.requires.phase in let done = c.look_at_store.ensures in (
-      look-kept c.self.invariant.0 c.args.pass at done.looks done.stays,
+      look-kept c.self.invariant.0 c.args.pass at done.looks (stays-of done.keeps),
       look-told c.self.invariant.0 c.args.pass at done.looks c.self.invariant.3 c.self.invariant.1,
-      look-accounted c.self.invariant.2 c.args.pass done.looks done.number done.calm.0,
+      look-accounted c.self.invariant.2 c.args.pass done.looks done.number done.keeps.counts.faults,
       λ told. let was = c.self.invariant.3 (done.looks.told_before told) in let adds = (done.looks.told told).0 in logged-on was (_, adds) refl (looks-followed was.followed (at.0, at.1, at.2.0.phase) done.looks adds),
       look-recorded c.self.invariant.4 c.args.pass (at.0, at.1, at.2.0.phase) done.looks,
-      look-safely c.self.invariant.0 c.self.invariant.4 c.self.invariant.1 c.self.invariant.3 c.self.invariant.5 c.args.pass (at.0, at.1, at.2.0.phase) done.looks done.stays,
-      stopped-on c.self.invariant.5 c.self.invariant.6 done.recorded_before done.stopped refl (λ late start before. before),
+      look-safely c.self.invariant.0 c.self.invariant.4 c.self.invariant.1 c.self.invariant.3 c.self.invariant.5 c.args.pass (at.0, at.1, at.2.0.phase) done.looks (stays-of done.keeps),
+      stopped-on c.self.invariant.5 c.self.invariant.6 done.keeps.telling.recorded_before done.stopped refl (λ late start before. before),
+      done.keeps.telling.state,
     )
 
 pub returns-clause-looks : goal.returns-clause-looks
 returns-clause-looks g c = rw (sym c.self.view_is) c.look_at_store.ensures.looks
-
-pub returns-clause-opening : goal.returns-clause-opening
-returns-clause-opening g c = let looks = c.look_at_store.ensures.looks in
-    rw (sym c.self.view_is) (λ told. same-opening (c.self.invariant.3 (looks.told_before told)) (_, (looks.told told).0) refl)
-
-pub returns-clause-opening_stands : goal.returns-clause-opening_stands
-returns-clause-opening_stands g c = let done = c.look_at_store.ensures in
-    rw (sym c.self.view_is) (opening-stands c.self.invariant.3 done.looks.told_before (λ told. (_, (done.looks.told told).0)) done.stopped refl)

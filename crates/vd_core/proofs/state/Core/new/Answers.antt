@@ -21,6 +21,7 @@ pub invariant_of-result : goal.invariant_of-result
 invariant_of-result g c =
     let s = c.args.state in let parts = c.in-Ok.ensures in let whole = c.requires.whole in
     let new = subst (λ (block : ℕ). AreNew c.args.passes block c.in-Ok-new_passes.passes.items) (ap (λ (shape : Shape). shape.block) c.shape_of-shape.ensures) c.in-Ok-new_passes.ensures in
+    let still = λ (recorded : g.S.Store.records c.args.store). subst (λ (n : ℕ). TellsOrStopped (g.S.Store.tells c.args.store) n (g.S.Store.disk c.args.store)) c.events.ensures.value (c.events.ensures.stopped recorded) in
     opened-parts s c.in-Ok-new_passes.passes.items c.args.passes c.args.room (g.S.Store.sectors c.args.store) (g.S.Store.depth c.args.store) (g.S.Store.events c.args.store) (g.B.Base.sectors c.args.base) (g.B.Base.depth c.args.base)
     (g.S.Store.flies c.args.store) (g.B.Base.flies c.args.base) (g.S.Store.records c.args.store) (g.S.Store.tells c.args.store) (g.B.Base.tells c.args.base) (g.S.Store.disk c.args.store) (g.S.Store.last c.args.store) (g.B.Base.content c.args.base)
     (g.B.Base.last c.args.base) c.faults-store_faults.result (g.S.Store.faults c.args.store) c.faults-base_faults.result (g.B.Base.faults c.args.base)
@@ -36,5 +37,6 @@ invariant_of-result g c =
       (λ told base_told. opened-safely s whole c.requires.version c.args.room (g.S.Store.disk c.args.store) (g.B.Base.content c.args.base) new
           (sym c.events.ensures.value ∙ c.events.ensures.running told) (c.in_flight.ensures.honest told) (c.requires.says told)
           (c.sectors.ensures.start (c.in_flight.ensures.recorded told) ∙ c.sectors.ensures.value) (c.sectors.ensures.held told ∙ c.sectors.ensures.value) (c.requires.flushed told)),
-      opened-stopped (λ recorded. subst (λ (n : ℕ). TellsOrStopped (g.S.Store.tells c.args.store) n (g.S.Store.disk c.args.store)) c.events.ensures.value (c.events.ensures.stopped recorded)),
+      opened-stopped still,
+      still,
     )

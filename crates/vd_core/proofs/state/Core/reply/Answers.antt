@@ -23,6 +23,7 @@ invariant_of-self g c =
       reply-recorded c.self.invariant.4 c.args.pass at done.replies,
       reply-safely c.self.invariant.0 c.self.invariant.4 c.self.invariant.1 c.self.invariant.5 c.args.pass at done.replies done.extends done.running,
       stopped-same c.self.invariant.6 done.extends.opened (λ late start. late-one _ done.extends done.replies.event c.self.invariant.0.roomy.later late),
+      c.self.invariant.7,
     )
 
 pub returns-clause-ok : goal.returns-clause-ok

@@ -17,4 +17,5 @@ invariant_of-self g c =
       seal-recorded c.self.invariant.4 stage step,
       seal-safely c.self.invariant.0 c.self.invariant.4 c.self.invariant.1 c.self.invariant.3 c.self.invariant.5 c.args.pass stage step,
       c.self.invariant.6,
+      c.self.invariant.7,
     )
