@@ -5,7 +5,10 @@ pub mod RowFills
 pub mod Splices
 pub mod SetLaws
 pub mod SummaryLaws
+pub mod WordLaws
 pub mod MarkedLaws
-pub mod LowestLaws
+pub mod LevelLaws
+pub mod SearchLaws
 pub mod Chunks
 pub mod MaskLaws
+pub mod Sent

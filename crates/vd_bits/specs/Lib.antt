@@ -3,5 +3,5 @@ pub mod Marks
 pub mod Rows
 pub mod Blocks
 pub mod Summaries
-pub mod Levels
+pub mod Searches
 pub mod BitFields

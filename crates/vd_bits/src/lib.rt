@@ -3,6 +3,7 @@
 
 pub mod bits;
 mod flags;
+mod levels;
 pub mod marked;
 #[cfg(test)]
 mod tests;

@@ -8,29 +8,22 @@ ghost use Rattle.std.specs.Prelude.{◌≡◌, ℕ, ◌<◌, false, true, Some, 
 ghost use Rattle.vd_bits.specs.Marks.{IsLowest, NoneFrom, count_true};
 
 use crate::flags::Flags;
+use crate::levels::{climb, descend, empties, empty_levels, mark_above, raise_all, unmark_above};
 use std::alloc::Global;
 use std::marker::Model;
 use vd_law::entry::NoMemory;
 
 /// The members of a set, which clauses see as a truth value for each number below the bound.
-#[cycle(marked)]
 #[derive(Drop)]
 pub struct Marked {
     flags: Flags,
     count: u64,
-    above: Above,
-}
-
-/// The words that have a member, where there is more than one word.
-#[cycle(marked)]
-#[derive(Drop)]
-enum Above {
-    Nothing,
-    Words(Box<Marked>),
+    /// The words that have a member, and above them theirs.
+    above: Vec<Flags>,
 }
 
 impl Model for Marked {
-    ghost use Rattle.std.specs.Prelude.{List, Bool, length};
+    ghost use Rattle.std.specs.Prelude.{List, Bool};
 
     ghost Value = { List Bool };
 
@@ -39,12 +32,6 @@ impl Model for Marked {
     ghost view = { λ set. set.flags };
 
     ghost invariant = { IsCounted };
-
-    ghost size = { length };
-
-    ghost use Rattle.vd_bits.specs.Levels.{above_is_shorter};
-
-    ghost size_decreases = { λ set h. above_is_shorter set.flags set.above h.covered };
 }
 
 impl Marked {
@@ -53,15 +40,7 @@ impl Marked {
         ensures { IfOk result (λ marked. marked ≡ replicate pages false) }
     {
         let flags = Flags::new(alloc, pages)?;
-        let above = if pages <= 64 {
-            Above::Nothing
-        } else {
-            let words = Marked::new(alloc, pages.div_ceil(64))?;
-            let Ok(words) = Box::new(alloc, words) else {
-                return Err(NoMemory);
-            };
-            Above::Words(words)
-        };
+        let above = empty_levels(alloc, pages)?;
         Ok(Marked {
             flags,
             count: 0,
@@ -75,9 +54,7 @@ impl Marked {
     {
         self.flags.raise();
         self.count = self.flags.len();
-        if let Above::Words(words) = &mut self.above {
-            words.mark_all();
-        }
+        raise_all(&mut self.above);
     }
 
     /// Marks a number below the bound. Every other stays as it is.
@@ -90,9 +67,7 @@ impl Marked {
         }
         self.flags.put(page, true);
         self.count += 1;
-        if let Above::Words(words) = &mut self.above {
-            words.mark(page / 64);
-        }
+        mark_above(&mut self.above, page);
     }
 
     /// Takes the mark off a number below the bound. Every other stays as it is.
@@ -103,14 +78,9 @@ impl Marked {
         if !self.flags.get(page) {
             return;
         }
-        self.flags.put(page, false);
         self.count -= 1;
-        let word = page / 64;
-        if self.flags.lowest_from(word * 64).is_some() {
-            return;
-        }
-        if let Above::Words(words) = &mut self.above {
-            words.unmark(word);
+        if empties(&mut self.flags, page) {
+            unmark_above(&mut self.above, page);
         }
     }
 
@@ -119,11 +89,7 @@ impl Marked {
         ensures lowest { IfSome result (IsLowest self.now 0) }
         ensures none { IsNone result ↔ NoneFrom self.now 0 }
     {
-        let Above::Words(words) = &self.above else {
-            return self.flags.lowest_from(0);
-        };
-        let word = words.first()?;
-        self.flags.lowest_from(word * 64)
+        descend(&self.flags, &self.above, 0)
     }
 
     /// The lowest marked number from `from` on, None where none from there on is marked.
@@ -137,11 +103,8 @@ impl Marked {
         if let Some(page) = self.flags.lowest_from(from) {
             return Some(page);
         }
-        let Above::Words(words) = &self.above else {
-            return None;
-        };
-        let word = words.first_from(from / 64 + 1)?;
-        self.flags.lowest_from(word * 64)
+        let (level, word) = climb(&self.above, from)?;
+        descend(&self.flags, &self.above[..level], word)
     }
 
     /// How many numbers are marked.

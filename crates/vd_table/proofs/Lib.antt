@@ -1,3 +1,4 @@
 pub mod Links
 pub mod Hindrances
 pub mod RunLaws
+pub mod Sent
