@@ -1,6 +1,6 @@
 -- The guest's disk, run by run.
-use Rattle.std.proofs.Common.{ℕ, ◌≡◌, ◌+◌, ◌-◌, ◌*◌, ◌/◌, ◌%◌, ◌^◌, ◌<◌, ◌≤◌, ◌⊎◌, inl, inr, Bool, true, false, List, length, replicate, take, drop, Option, Some, None, refl, ap, sym, ◌∙◌, subst, arith}
-use Rattle.std.specs.Prelude.{slice_get, nat_lt, if◌then◌else◌, unwrap_or}
+use Rattle.std.proofs.Common.{ℕ, ◌≡◌, ◌+◌, ◌-◌, ◌/◌, ◌<◌, ◌≤◌, inl, inr, Bool, true, false, List, length, replicate, take, drop, Option, Some, refl, ap, sym, ◌∙◌, subst, arith}
+use Rattle.std.specs.Prelude.{slice_get, nat_lt, if◌then◌else◌}
 use Rattle.std.proofs.lemmas.Bool.{cases_lt}
 use Rattle.std.proofs.lemmas.Option.{slice_get_within, unwrap_or-slice_get, get_or_from_slice_get}
 use Rattle.std.proofs.lemmas.List.{length-append, length-take, length-drop}
@@ -9,23 +9,23 @@ use borrow.Rule.Slice.PartMut.{put_mid}
 use Rattle.std.proofs.lemmas.List.FromFn.{length-map-range_with_len}
 use Rattle.vd_law.specs.declared.entry.Sector.{Sector}
 use Rattle.vd_format.specs.Headers.{IsValid}
-use Rattle.vd_format.specs.Layouts.{blocks_of, chunks_of, storage_start, need_of}
+use Rattle.vd_format.specs.Layouts.{chunks_of, need_of}
 use Rattle.vd_format.specs.Entries.{empty_entry}
-use Rattle.vd_table.specs.Tables.{Has}
 use Rattle.vd_table.proofs.Links.{none_some}
-use Rattle.vd_reading.specs.Quiet.{OnlyReadsBase}
-use Rattle.vd_reading.specs.Background.{background, background_run, zero_sector as read_zero}
+use Rattle.vd_reading.specs.Background.{background, background_run, count_in_base, zero_sector as read_zero}
 use Rattle.vd_reading.proofs.BackgroundLaws.{slice_get_run}
-use Rattle.vd_image.specs.Image.{Header, Mapping, DiskHas, Maps, IsLocalBy, unmapped, background as image_background}
+use Rattle.vd_image.specs.Image.{Header, DiskHas, Maps, IsLocalBy, background as image_background}
 use Rattle.vd_image.specs.Layouts.{layout_of}
-use Rattle.vd_image.specs.Decoders.{Entry, this_version, mapping_in, storage_in, mask_has, format_of}
+use Rattle.vd_image.specs.Decoders.{Entry, mapping_in, format_of}
 use Rattle.vd_image.specs.CrashImages.{base_at}
 use Rattle.vd_image.specs.Made.{zero_sector}
-use Rattle.vd_image.proofs.Layouts.{parts_apart, parts_inside}
+use Rattle.vd_image.proofs.Layouts.{parts_inside}
 use Rattle.vd_replay.specs.Images.{image_of}
-use Rattle.vd_replay.specs.States.{IsSized, IsState, IsOldState, Says, IsEntryOf}
-use Rattle.vd_replay.specs.Disks.{IsAway, ReadsZeros, IsSource, further, IsInside, IsFrom, ReadRun, AreShown, IsDisk}
+use Rattle.vd_replay.specs.States.{IsSized, IsState, IsOldState, Says}
+use Rattle.vd_replay.specs.Disks.{IsAway, IsSource, further, IsInside, IsFrom, ReadRun, AreShown, IsDisk, ForDevice, ForSource, HasLocal, HasOfBase, IsWanted, NeedsBase, Spares}
 use Rattle.vd_replay.specs.declared.state.State.{State}
+use Rattle.vd_replay.specs.declared.disk.DiskFault.{DiskFault}
+use Rattle.vd_replay.specs.declared.disk.DiskFault.TheVariants as fault
 use Rattle.vd_replay.specs.declared.disk.Source.{Source}
 use Rattle.vd_replay.specs.declared.disk.Source.TheVariants.{Local, Background, Zeros}
 use Rattle.vd_replay.proofs.ListLaws.{get_copies, get_right, get_take}
@@ -51,16 +51,53 @@ next_of_run s first n source next run same is i less = elim (cases_lt i n) [
 ]
 
 -- a run lies in the store
-pub run_inside : (s : State) (first n sectors : ℕ) (source : Source) → 0 < n → IsValid s.header → need_of s.header ≤ sectors → ((i : ℕ) → i < n → IsSource s (first + i) (further source i)) → IsInside source n sectors
-run_inside s first n sectors (Local at) some valid room run =
+pub run_inside : (s : State) (first n sectors : ℕ) (source : Source) → 0 < n → n ≤ 2048 → IsValid s.header → need_of s.header ≤ sectors → ((i : ℕ) → i < n → IsSource s (first + i) (further source i)) → IsInside source n sectors
+run_inside s first n sectors (Local at) some most valid room run =
     let last = run (n - 1) (omega arith) in
     let p = last.1.0 in
     let e = last.1.3 in
     let inside = parts_inside s.header valid in
     let k = inside.places p (first + (n - 1)) last.1.2 in
-    omega arith
-run_inside s first n sectors Background some valid room run = tt
-run_inside s first n sectors Zeros some valid room run = tt
+    (some, most, omega arith)
+run_inside s first n sectors Background some most valid room run = most
+run_inside s first n sectors Zeros some most valid room run = tt
+
+-- ---- what fails
+
+-- the fault of a run is one of the whole work
+pub fault_of_run : {P Q P' Q' : ℕ → Type 0} (source : Source) (e : DiskFault) → ((n : ℕ) → P n → P' n) → ((n : ℕ) → Q n → Q' n) → ForSource source P Q e → ForDevice P' Q' e
+fault_of_run (Local at) (fault.Store ticket) p q is = p ticket is
+fault_of_run (Local at) (fault.Base ticket) p q is = absurd is
+fault_of_run Background (fault.Store ticket) p q is = absurd is
+fault_of_run Background (fault.Base ticket) p q is = q ticket is
+fault_of_run Zeros (fault.Store ticket) p q is = absurd is
+fault_of_run Zeros (fault.Base ticket) p q is = absurd is
+
+-- the device that failed has the first sector of the run
+pub wanted_by_run : (P Q : ℕ → Type 0) (s : State) (now sectors first count n k : ℕ) (source : Source) (e : DiskFault) → now ≡ sectors → n < count → IsSource s (first + n) source → ForSource source P Q e
+    → NeedsBase (count_in_base now s.header.tracked (first + n) k) e → IsWanted (HasLocal s first count) (HasOfBase s sectors first count) e
+wanted_by_run P Q s now sectors first count n k (Local at) (fault.Store ticket) same within is failed needs = record { place = n; at = at; within = within; source = is }
+wanted_by_run P Q s now sectors first count n k (Local at) (fault.Base ticket) same within is failed needs = absurd failed
+wanted_by_run P Q s now sectors first count n k Background (fault.Store ticket) same within is failed needs = absurd failed
+wanted_by_run P Q s now sectors first count n k Background (fault.Base ticket) same within is failed needs =
+    record { place = n; within = within; source = is; tracked = omega (arith, needs); inside = omega (arith, needs) }
+wanted_by_run P Q s now sectors first count n k Zeros (fault.Store ticket) same within is failed needs = absurd failed
+wanted_by_run P Q s now sectors first count n k Zeros (fault.Base ticket) same within is failed needs = absurd failed
+
+-- a run without a sector of a device leaves that as it is
+pub store_spared : (P Q : Type 0) (s : State) (first count n many : ℕ) (source : Source) → n < count → IsSource s (first + n) source → Spares source many P Q → (HasLocal s first count → ⊥) → P
+store_spared P Q s first count n many (Local at) within is spared none = absurd (none (record { place = n; at = at; within = within; source = is }))
+store_spared P Q s first count n many Background within is spared none = spared.0
+store_spared P Q s first count n many Zeros within is spared none = spared.0
+
+pub base_spared : (P Q : Type 0) (s : State) (now sectors first count n k : ℕ) (source : Source) → now ≡ sectors → n < count → IsSource s (first + n) source → Spares source (count_in_base now s.header.tracked (first + n) k) P Q
+    → (HasOfBase s sectors first count → ⊥) → Q
+base_spared P Q s now sectors first count n k (Local at) same within is spared none = spared
+base_spared P Q s now sectors first count n k Background same within is spared none = elim (cases_lt 0 (count_in_base now s.header.tracked (first + n) k)) [
+  | inl some ↦ absurd (none (record { place = n; within = within; source = is; tracked = omega (arith, some); inside = omega (arith, some) }))
+  | inr empty ↦ spared.1 (omega (arith, empty))
+]
+base_spared P Q s now sectors first count n k Zeros same within is spared none = spared.1
 
 -- ---- what is read
 
@@ -113,15 +150,6 @@ part_length out n count inside =
     let a = length-take (n + count - n) (drop n out) in
     let b = length-drop n out in
     omega arith
-
-pub base_twice : {i1 i2 : Type 0} {s0 s1 s2 f0 f1 f2 : ℕ} {t0 t1 t2 : Type 0} {c0 c1 c2 : List Sector} → OnlyReadsBase i1 s0 s1 f0 f1 t0 t1 c0 c1 → OnlyReadsBase i2 s1 s2 f1 f2 t1 t2 c1 c2 → OnlyReadsBase i2 s0 s2 f0 f2 t0 t2 c0 c2
-base_twice x y = record {
-  idle = y.idle;
-  sectors_same = y.sectors_same ∙ x.sectors_same;
-  calm = (let p = x.calm in let q = y.calm in omega arith);
-  told_before = λ t. x.told_before (y.told_before t);
-  content_same = λ t. y.content_same t ∙ x.content_same (y.told_before t);
-}
 
 -- what a base gives as the background is that of the image
 background_same : (content : List Sector) (tracked n : ℕ) → background content tracked n ≡ image_background (base_at zero_sector content) zero_sector tracked n

@@ -1,12 +1,12 @@
 -- How a state is filled from what was read.
-use Rattle.std.proofs.Common.{ℕ, ◌≡◌, ◌+◌, ◌*◌, ◌<◌, ◌≤◌, ◌⊎◌, inl, inr, Bool, true, false, ◌==◌, if◌then◌else◌, List, length, replicate, Option, Some, None, Result, Ok, Err, refl, ap, sym, ◌∙◌, subst, arith}
-use Rattle.std.specs.Prelude.{⊤, IfOk, IfErr, OnOk}
+use Rattle.std.proofs.Common.{ℕ, ◌≡◌, ◌*◌, Bool, true, false, ◌==◌, if◌then◌else◌, List, length, replicate, Option, Some, None, Result, Ok, Err, refl, ap, sym, ◌∙◌, subst, arith}
+use Rattle.std.specs.Prelude.{⊤, IfErr, OnOk}
 use Rattle.std.proofs.lemmas.Bool.{eqb-true}
 use Rattle.vd_law.specs.declared.entry.Sector.{Sector}
 use Rattle.vd_format.specs.declared.map.Entry.{Entry}
 use Rattle.vd_format.specs.declared.map.Shape2.{Shape2}
 use Rattle.vd_format.specs.Headers.{IsValid}
-use Rattle.vd_format.specs.Layouts.{blocks_of, chunks_of, sectors_of, map_start, slots_start, need_of}
+use Rattle.vd_format.specs.Layouts.{blocks_of, chunks_of, sectors_of, map_start, slots_start}
 use Rattle.vd_format.specs.Entries.{empty_entry}
 use Rattle.vd_image.specs.Image.{Header, Geometry, geometry_of}
 use Rattle.vd_image.specs.Decoders.{shape_of}
@@ -20,11 +20,10 @@ use Rattle.vd_replay.specs.Headers.{first_changed}
 use Rattle.vd_replay.specs.Images.{image_of}
 use Rattle.vd_replay.specs.Pages.{area_at, Judged, AreEntries}
 use Rattle.vd_replay.specs.Journal.{Replayed}
-use Rattle.vd_replay.specs.Placing.{AreTwins}
 use Rattle.vd_replay.specs.Finding.{Found}
 use Rattle.vd_replay.specs.Filling.{AreApplied, IsSettled, AreDouble}
 use Rattle.vd_replay.specs.Fresh.{is_fresh}
-use Rattle.vd_replay.specs.States.{IsSized, IsState, IsOldState, Says}
+use Rattle.vd_replay.specs.States.{IsSized, Says}
 use Rattle.vd_replay.specs.Refusals.{IsValueOf, Unfilled}
 use Rattle.vd_replay.proofs.StateLaws.{bad_entry, bad_record, double_chunk, state_is, old_state_is, no_twins}
 
@@ -111,14 +110,15 @@ old_fine T (Err error.NoMemory) held s n map twins = absurd twins
 
 -- ---- whether it is void
 
-pub sized_anyway : (s : State) (b : Bool) → IsSized s → IsSized (record s { void = b })
-sized_anyway s b z = record { valid = z.valid; map = z.map; pages = z.pages; table = z.table; storage = z.storage; chunk = z.chunk; fresh = z.fresh; more = z.more; slots = z.slots }
-
 pub says_anyway : (held : List Sector) (s : State) (b : Bool) → Says held s → Says held (record s { void = b })
 says_anyway held s b says = record {
   current = λ two. (let w = says.current two in record { opens = w.opens; header_is = w.header_is; entries = w.entries; table = w.table; fresh = w.fresh; more = w.more; next = w.next; none_later = w.none_later });
   old = λ one. (let w = says.old one in record { reads = w.reads; room = w.room; is_fresh = w.is_fresh; header_is = w.header_is; map = w.map; table = w.table; fresh = w.fresh; more = w.more; next = w.next });
 }
+
+pub says_void : (T : Type 0) (r : Result ⊤ OpenError) (held : List Sector) (s : State) (b : Bool) → OnOk r (T → Found held s.header → Says held s) → OnOk r (T → Found held s.header → Says held (record s { void = b }))
+says_void T (Ok done) held s b says = λ told found. says_anyway held s b (says told found)
+says_void T (Err e) held s b says = tt
 
 -- ---- a header that was read again
 

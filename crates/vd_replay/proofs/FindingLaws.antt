@@ -1,14 +1,15 @@
 -- What the first sector of a store says.
-use Rattle.std.proofs.Common.{ℕ, ◌≡◌, ◌+◌, ◌<◌, ◌≤◌, List, [], ◌∷◌, length, Option, Some, None, Result, Ok, Err, refl, ap, sym, ◌∙◌, subst, arith}
+use Rattle.std.proofs.Common.{ℕ, ◌≡◌, ◌<◌, ◌≤◌, List, [], ◌∷◌, length, Option, Result, Ok, Err, ap, sym, ◌∙◌, subst, arith}
 use Rattle.std.specs.Prelude.{slice_index_or, IfOk, IfErr}
 use Rattle.vd_law.specs.declared.entry.Sector.{Sector}
 use Rattle.vd_format.specs.declared.header.Header.{Header}
 use Rattle.vd_format.specs.declared.header.HeaderError.{HeaderError}
 use Rattle.vd_format.specs.Headers.{IsValid, header_of}
 use Rattle.vd_reading.specs.Quiet.{sectors_from}
-use Rattle.vd_image.specs.Openings.{RefusesOpening, TooSmall, BadHeader, No_sectors, Header_bad, Store_small, need_of}
+use Rattle.vd_image.specs.Openings.{RefusesOpening, TooSmall, No_sectors, Header_bad, Store_small, need_of}
 use Rattle.vd_replay.specs.Images.{image_of}
-use Rattle.vd_replay.specs.Finding.{Found, Agrees, IsWrong, NotFound, KeepsFields, ForStore}
+use Rattle.vd_replay.specs.Finding.{Found, Agrees, IsWrong, NotFound, ForStore}
+use Rattle.vd_replay.specs.Filling.{IsOfReading}
 use Rattle.vd_replay.specs.declared.error.OpenError.{OpenError}
 use Rattle.vd_replay.specs.declared.error.OpenError.TheVariants as error
 
@@ -24,6 +25,18 @@ for_store (error.DoubleChunk a b) more is = tt
 for_store (error.Changed field) more is = tt
 for_store error.NotBuilt more is = tt
 for_store error.NoMemory more is = tt
+
+pub reading_fault : {P Q : ℕ → Type 0} (e : OpenError) → ((ticket : ℕ) → P ticket → Q ticket) → IsOfReading P e → ForStore Q e
+reading_fault (error.Store ticket) more is = more ticket is
+reading_fault (error.Header e) more is = absurd is
+reading_fault (error.TooSmall need have) more is = absurd is
+reading_fault error.OldVersion more is = absurd is
+reading_fault (error.BadEntry chunk value) more is = tt
+reading_fault (error.BadRecord slot) more is = tt
+reading_fault (error.DoubleChunk a b) more is = tt
+reading_fault (error.Changed field) more is = absurd is
+reading_fault error.NotBuilt more is = tt
+reading_fault error.NoMemory more is = absurd is
 
 pub no_sectors : (kept : Option Header) (held : List Sector) → length held ≡ 0 → NotFound kept held (error.TooSmall 1 0)
 no_sectors kept held none = (No_sectors none, λ h some. absurd (omega arith))

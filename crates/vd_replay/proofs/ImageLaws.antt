@@ -1,17 +1,16 @@
 -- The grammar by which the map and the slots are read is that of an image.
-use Rattle.std.proofs.Common.{ℕ, zero, suc, ◌≡◌, ◌+◌, ◌-◌, ◌*◌, ◌/◌, ◌%◌, ◌==◌, ◌&&◌, ◌<◌, ◌≤◌, ◌⊎◌, inl, inr, Bool, true, false, if◌then◌else◌, List, [], ◌∷◌, length, map, Option, Some, None, refl, ap, sym, ◌∙◌, subst, arith}
-use Rattle.std.specs.Prelude.{slice_get}
+use Rattle.std.proofs.Common.{ℕ, ◌≡◌, ◌*◌, ◌/◌, ◌%◌, ◌==◌, ◌&&◌, ◌≤◌, Bool, true, false, if◌then◌else◌, List, length, Option, Some, None, refl, ap, sym, ◌∙◌, subst}
 use Rattle.std.specs.Option.{option_map}
-use Rattle.std.proofs.lemmas.Bool.{cases_Bool, eqb-true, eq-eqb}
+use Rattle.std.proofs.lemmas.Bool.{eqb-true, eq-eqb}
 use Rattle.vd_format.specs.Headers.{IsValid}
-use Rattle.vd_format.specs.Entries.{is_entry, has_entry}
-use Rattle.vd_format.specs.Records.{AreFacts, Said as Slot, Nothing, Facts, Outside, said_by, slot_of, are_facts}
+use Rattle.vd_format.specs.Entries.{is_entry}
+use Rattle.vd_format.specs.Records.{Said as Slot, Nothing, Facts, Outside, said_by, slot_of, are_facts}
 use Rattle.vd_format.proofs.Entries.{entry_grammar, grammar_entry}
 use Rattle.vd_format.proofs.Facts.{facts_grammar, grammar_facts}
-use Rattle.vd_image.specs.Log.{Sector, At}
-use Rattle.vd_image.specs.Image.{Header, Mapping, Fact, Record, Image, IsCurrent, IsMapping, IsRecord, IsGoodMapping, IsGoodSlot}
+use Rattle.vd_image.specs.Log.{Sector}
+use Rattle.vd_image.specs.Image.{Header, Mapping, Record, IsCurrent, IsMapping, IsRecord, IsGoodMapping, IsGoodSlot}
 use Rattle.vd_image.specs.Layouts.{layout_of, map_start, slots_start}
-use Rattle.vd_image.specs.Decoders.{Entry, Fact2, Said, IsEntry, this_version, has_kind, entry_byte, entry_at, record_of, shape_of, mapping_in, fact_in, record_in, entry_place, format_of}
+use Rattle.vd_image.specs.Decoders.{Entry, Said, IsEntry, has_kind, record_of, shape_of, mapping_in, record_in, format_of}
 use Rattle.vd_image.proofs.Decoders.{entry_is_mapping}
 use Rattle.vd_image.proofs.Records.{facts_fit, read_record_is_facts}
 use Rattle.vd_replay.specs.Images.{image_of}

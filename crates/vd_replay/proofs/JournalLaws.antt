@@ -1,6 +1,6 @@
 -- The slots of the journal, fact by fact and slot by slot.
-use Rattle.std.proofs.Common.{ℕ, zero, suc, ◌≡◌, ◌+◌, ◌-◌, ◌<◌, ◌≤◌, ◌⊎◌, inl, inr, Bool, true, false, List, [], ◌∷◌, ◌++◌, length, take, Some, Result, Ok, Err, refl, ap, sym, ◌∙◌, subst, arith}
-use Rattle.std.specs.Prelude.{slice_get, slice_set, slice_index_or}
+use Rattle.std.proofs.Common.{ℕ, zero, suc, ◌≡◌, ◌+◌, ◌-◌, ◌<◌, ◌≤◌, inl, inr, List, [], ◌∷◌, ◌++◌, length, take, Some, refl, ap, sym, ◌∙◌, subst, arith}
+use Rattle.std.specs.Prelude.{slice_get, slice_set}
 use Rattle.std.specs.List.{All}
 use Rattle.std.proofs.lemmas.Bool.{cases_lt, cases_eq}
 use Rattle.std.proofs.lemmas.List.{length-set, append-nil}
@@ -15,7 +15,7 @@ use Rattle.vd_map2.specs.declared.facts.Slot2.TheVariants.{Other, Counts, Bad}
 use Rattle.vd_map2.specs.Slots.{slot_for}
 use Rattle.vd_bits.proofs.SetLaws.{set_same, set_other}
 use Rattle.vd_replay.specs.Pages.{AreEntries}
-use Rattle.vd_replay.specs.Journal.{facts_said, facts_to, put_facts, CountsAt, IsNext, AreReplayed, IsFirstOutside, Replayed}
+use Rattle.vd_replay.specs.Journal.{facts_said, facts_to, put_facts, AreReplayed, IsFirstOutside}
 
 -- ---- facts
 
@@ -109,13 +109,6 @@ replay_facts shape at n pages entries entries' next facts says put before = reco
 -- a slot that is bad
 pub replay_bad : (shape : Shape2) (at : ℕ → Sector) (n : ℕ) (pages entries : List Entry) (next : ℕ) → slot_of shape (at n) ≡ Outside → AreReplayed shape at n pages entries next → IsFirstOutside shape at (n + 1) n
 replay_bad shape at n pages entries next bad before = record { within = omega arith; bad = bad; before = before.good }
-
-pub none_replayed : (shape : Shape2) (at : ℕ → Sector) (pages : List Entry) → AreReplayed shape at 0 pages pages 0
-none_replayed shape at pages = record {
-  good = λ k less bad. omega (arith, less);
-  entries_are = refl;
-  next_is = record { within = omega arith; counts = λ some. absurd (omega (arith, some)); none_later = λ k low less counts. omega (arith, less) };
-}
 
 pub outside_further : (shape : Shape2) (at : ℕ → Sector) (n m slot : ℕ) → n ≤ m → IsFirstOutside shape at n slot → IsFirstOutside shape at m slot
 outside_further shape at n m slot more is = record { within = (let w = is.within in omega arith); bad = is.bad; before = is.before }

@@ -1,8 +1,6 @@
 -- Lists, place by place.
-use Rattle.std.proofs.Common.{ℕ, zero, suc, ◌≡◌, ◌≢◌, ◌+◌, ◌-◌, ◌<◌, ◌≤◌, ◌⊎◌, inl, inr, List, [], ◌∷◌, ◌++◌, length, take, drop, replicate, Option, Some, None, refl, ap, sym, ◌∙◌, arith}
-use Rattle.std.specs.Prelude.{slice_get, slice_set}
-use Rattle.std.proofs.lemmas.Bool.{cases_lt, cases_eq}
-use Rattle.vd_bits.proofs.SetLaws.{set_same, set_other}
+use Rattle.std.proofs.Common.{ℕ, zero, suc, ◌≡◌, ◌+◌, ◌-◌, ◌<◌, ◌≤◌, List, [], ◌∷◌, ◌++◌, length, take, drop, replicate, Some, refl, ap, sym, ◌∙◌, arith}
+use Rattle.std.specs.Prelude.{slice_get}
 
 pub get_left : {X : Type 0} (xs ys : List X) (i : ℕ) → i < length xs → slice_get (xs ++ ys) i ≡ slice_get xs i
 get_left [] ys i h = absurd (omega (arith, h))
@@ -36,21 +34,8 @@ get_copy zero x i h = absurd (omega (arith, h))
 get_copy (suc n) x zero h = refl
 get_copy (suc n) x (suc i) h = get_copy n x i (omega arith)
 
--- a place past the end has nothing
-pub past_none : {X : Type 0} (xs : List X) (i : ℕ) (x : X) → length xs ≤ i → slice_get xs i ≡ Some x → ⊥
-past_none [] i x h at = absurd cc
-past_none (y ∷ xs) zero x h at = omega arith
-past_none (y ∷ xs) (suc i) x h at = past_none xs i x (omega arith) at
-
 -- each place of a list has something
 pub get_some : {X : Type 0} (xs : List X) (i : ℕ) → i < length xs → (x : X) × (slice_get xs i ≡ Some x)
 get_some [] i h = absurd (omega (arith, h))
 get_some (x ∷ xs) zero h = (x, refl)
 get_some (x ∷ xs) (suc i) h = get_some xs i (omega arith)
-
--- a change at one place: what stands below it stays
-pub set_below : {X : Type 0} (P : ℕ → Option X → Type 0) (xs : List X) (n : ℕ) (x : X) → n < length xs → P n (Some x) → ((i : ℕ) → i < n → P i (slice_get xs i)) → (i : ℕ) → i < n + 1 → P i (slice_get (slice_set xs n x) i)
-set_below P xs n x within here before i less = elim (cases_eq i n) [
-  | inl same ↦ rw (same, set_same xs n x within) here
-  | inr other ↦ rw (set_other xs n i x other) (before i (omega arith))
-]

@@ -1,5 +1,5 @@
 -- After all records were put over the map, each chunk has the entry of the last fact that names it, else that of the map.
-use Rattle.std.proofs.Common.{ℕ, zero, suc, ◌≡◌, ◌+◌, ◌<◌, ◌≤◌, ◌⊎◌, inl, inr, List, [], ◌∷◌, ◌++◌, length, map, Option, Some, None, refl, ap, sym, ◌∙◌, subst, arith}
+use Rattle.std.proofs.Common.{ℕ, zero, suc, ◌≡◌, ◌<◌, ◌⊎◌, inl, inr, List, [], ◌∷◌, length, map, Option, Some, None, refl, ap, sym, ◌∙◌, subst, arith}
 use Rattle.std.specs.Prelude.{slice_get, slice_set}
 use Rattle.std.specs.Option.{option_map}
 use Rattle.std.proofs.lemmas.Bool.{cases_lt, cases_eq}
@@ -11,11 +11,11 @@ use Rattle.vd_format.specs.Records.{Said as Slot, Nothing, Facts, Outside, slot_
 use Rattle.vd_format.specs.Layouts.{chunks_of}
 use Rattle.vd_bits.proofs.SetLaws.{set_same, set_other}
 use Rattle.vd_image.specs.Log.{Sector, At}
-use Rattle.vd_image.specs.Image.{Header, Mapping, Fact, Record, Counts, IsCurrent, IsRecord, IsLater, IsUnnamed, IsLastNamed, Maps, Gives}
+use Rattle.vd_image.specs.Image.{Header, Mapping, Fact, Record, Counts, IsLater, Maps}
 use Rattle.vd_image.specs.Layouts.{layout_of}
-use Rattle.vd_image.specs.Decoders.{Entry, Fact2, Said, record_of, shape_of, mapping_in, fact_in, record_in, format_of}
+use Rattle.vd_image.specs.Decoders.{Entry, Fact2, shape_of, mapping_in, fact_in, record_in, format_of}
 use Rattle.vd_replay.specs.Images.{image_of}
-use Rattle.vd_replay.specs.Pages.{entry_in, IsGood, AreRead}
+use Rattle.vd_replay.specs.Pages.{entry_in, AreRead}
 use Rattle.vd_replay.specs.Journal.{facts_said, facts_to, put_facts, AreReplayed}
 use Rattle.vd_replay.proofs.JournalLaws.{put-append}
 use Rattle.vd_replay.proofs.ImageLaws.{map_of, slots_of, mapping_read, good_kind, Views, views}

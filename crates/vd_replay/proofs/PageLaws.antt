@@ -1,12 +1,12 @@
 -- The map, entry by entry.
-use Rattle.std.proofs.Common.{ℕ, ◌≡◌, ◌+◌, ◌-◌, ◌*◌, ◌/◌, ◌%◌, ◌<◌, ◌≤◌, ◌⊎◌, ◌&&◌, inl, inr, Bool, true, false, if◌then◌else◌, List, length, drop, Some, Result, Ok, Err, refl, ap, sym, ◌∙◌, subst, arith}
-use Rattle.std.specs.Prelude.{⊤, slice_get, slice_set, slice_index_or, min, is_err, OnOk}
-use Rattle.std.proofs.lemmas.List.{get_or-take, get_or-drop, get_or_default}
+use Rattle.std.proofs.Common.{ℕ, ◌≡◌, ◌+◌, ◌/◌, ◌%◌, ◌<◌, ◌≤◌, ◌⊎◌, inl, inr, Bool, true, false, if◌then◌else◌, List, length, drop, Some, Result, Ok, Err, refl, ap, sym, ◌∙◌, subst, arith}
+use Rattle.std.specs.Prelude.{slice_get, slice_set, slice_index_or}
+use Rattle.std.proofs.lemmas.List.{get_or-take, get_or-drop}
 use Rattle.std.proofs.lemmas.Bool.{cases_lt, cases_eq}
 use Rattle.vd_law.specs.declared.entry.Sector.{Sector}
 use Rattle.vd_format.specs.declared.map.Entry.{Entry}
 use Rattle.vd_format.specs.declared.map.Shape2.{Shape2}
-use Rattle.vd_format.specs.Entries.{IsEntry, SpellsEntry, entry_at, has_entry, entry_of}
+use Rattle.vd_format.specs.Entries.{IsEntry, entry_at, has_entry, entry_of}
 use Rattle.vd_bits.proofs.SetLaws.{set_same, set_other}
 use Rattle.vd_reading.specs.Quiet.{sectors_from}
 use Rattle.vd_image.specs.Made.{zero_sector}
@@ -92,9 +92,6 @@ entries_more shape n entries e within is before = record { each = each }
       | inr other ↦ before.each c x (omega arith) (sym (set_other entries n c e other) ∙ at)
     ]
 
-pub no_entries : (shape : Shape2) (entries : List Entry) → AreEntries shape 0 entries
-no_entries shape entries = record { each = λ c e less at. absurd (omega (arith, less)) }
-
 pub none_read : (shape : Shape2) (at : ℕ → Sector) (entries : List Entry) → AreRead shape at 0 entries
 none_read shape at entries = record { good = λ c less. absurd (omega (arith, less)); entry = λ c less. absurd (omega (arith, less)) }
 
@@ -110,18 +107,3 @@ pub piece_at : (held : List Sector) (from n count : ℕ) (out : List Sector) →
 piece_at held from n count out is size i within =
     let e : from + (n + i) ≡ from + n + i = omega arith in
     sym (ap (λ (xs : List Sector). slice_index_or xs i zero_sector) is ∙ get_or-take count (drop (from + n) held) i zero_sector (omega arith) ∙ get_or-drop (from + n) held i zero_sector ∙ ap (λ (k : ℕ). slice_index_or held k zero_sector) (sym e))
-
--- where all entries before were good, the answer is that for these
-pub judged_now : (shape : Shape2) (at : ℕ → Sector) (n m : ℕ) (entries entries' : List Entry) (judged after : Result ⊤ BadEntry) → is_err judged ≡ false → (AreRead shape at n entries → Judged shape at m entries' after)
-    → Judged shape at n entries judged → Judged shape at m entries' after
-judged_now shape at n m entries entries' (Ok all) after good step before = step before
-judged_now shape at n m entries entries' (Err bad) after good step before = absurd cc
-
-pub entries_now : (shape : Shape2) (n m : ℕ) (entries entries' : List Entry) (judged : Result ⊤ BadEntry) → is_err judged ≡ false → OnOk judged (AreEntries shape n entries) → AreEntries shape n entries
-entries_now shape n m entries entries' (Ok all) good before = before
-entries_now shape n m entries entries' (Err bad) good before = absurd cc
-
--- and else it stays
-pub judged_then : (shape : Shape2) (at : ℕ → Sector) (n m : ℕ) (entries entries' : List Entry) (judged : Result ⊤ BadEntry) → n ≤ m → is_err judged ≡ true → Judged shape at n entries judged → Judged shape at m entries' judged
-judged_then shape at n m entries entries' (Ok all) more bad before = absurd cc
-judged_then shape at n m entries entries' (Err bad) more is before = judged_further shape at n m entries entries' bad more before

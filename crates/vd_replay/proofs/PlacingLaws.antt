@@ -1,5 +1,5 @@
 -- Storage and blocks, chunk by chunk.
-use Rattle.std.proofs.Common.{ℕ, ◌≡◌, ◌≢◌, ◌+◌, ◌-◌, ◌*◌, ◌/◌, ◌%◌, ◌^◌, ◌==◌, ◌<◌, ◌≤◌, ◌⊎◌, inl, inr, Bool, true, false, if◌then◌else◌, List, [], ◌∷◌, ◌++◌, length, take, drop, map, replicate, Option, Some, None, refl, ap, sym, ◌∙◌, subst, arith}
+use Rattle.std.proofs.Common.{ℕ, ◌≡◌, ◌≢◌, ◌+◌, ◌-◌, ◌*◌, ◌/◌, ◌%◌, ◌^◌, ◌==◌, ◌<◌, ◌⊎◌, inl, inr, Bool, true, false, if◌then◌else◌, List, ◌++◌, length, take, drop, replicate, Option, Some, None, refl, ap, sym, ◌∙◌, subst, arith}
 use Rattle.std.specs.Prelude.{slice_get, slice_set, min}
 use Rattle.std.specs.Int.{bit_at}
 use Rattle.std.specs.List.{range_with_len}
@@ -17,8 +17,8 @@ use Rattle.vd_bits.specs.Masks.{bits_of}
 use Rattle.vd_bits.specs.Blocks.{Blocks, bits_in, with_mask}
 use Rattle.vd_bits.proofs.SetLaws.{set_same, set_other}
 use Rattle.vd_table.specs.Tables.{Given, Has, with_storage}
-use Rattle.vd_table.proofs.Links.{none_some, same_some, cases_place}
-use Rattle.vd_replay.specs.Placing.{IsShape, HasStorage, Places, IsTwin, IsPlaced, IsSpread, AreTwins}
+use Rattle.vd_table.proofs.Links.{same_some, cases_place}
+use Rattle.vd_replay.specs.Placing.{Places, IsTwin, IsPlaced, IsSpread, AreTwins}
 use Rattle.vd_replay.proofs.ListLaws.{get_left, get_right, get_take, get_drop, get_copies}
 
 same_entry : (e x : Entry) (o : Option Entry) → o ≡ Some e → o ≡ Some x → e ≡ x

@@ -1,34 +1,34 @@
 -- A state that was filled says what the image says, and what was refused is refused of the image.
-use Rattle.std.proofs.Common.{ℕ, zero, suc, ◌≡◌, ◌≢◌, ◌+◌, ◌-◌, ◌*◌, ◌/◌, ◌%◌, ◌==◌, ◌&&◌, ◌<◌, ◌≤◌, ◌⊎◌, ◌↔◌, inl, inr, Bool, true, false, nat_le, if◌then◌else◌, List, length, replicate, Option, Some, None, Ok, refl, ap, sym, ◌∙◌, subst, arith}
+use Rattle.std.proofs.Common.{ℕ, ◌≡◌, ◌+◌, ◌-◌, ◌*◌, ◌/◌, ◌%◌, ◌==◌, ◌&&◌, ◌<◌, inl, inr, Bool, true, false, nat_le, if◌then◌else◌, List, length, replicate, Option, Some, None, refl, ap, sym, ◌∙◌, subst, arith}
 use Rattle.std.specs.Prelude.{slice_get}
 use Rattle.std.specs.Int.{bit_at}
 use Rattle.std.specs.Option.{option_map}
-use Rattle.std.proofs.lemmas.Bool.{cases_lt, cases_eq, le-leb, eq-eqb, ne_eqb}
-use Rattle.std.proofs.lemmas.Nat.{div-add-mod', mod_below}
+use Rattle.std.proofs.lemmas.Bool.{cases_eq, le-leb, eq-eqb, ne_eqb}
+use Rattle.std.proofs.lemmas.Nat.{div-add-mod'}
 use Rattle.std.proofs.lemmas.Nat.Bits.{bit_at-zero}
 use Rattle.std.proofs.lemmas.Option.{slice_get_within}
-use Rattle.vd_format.specs.Headers.{IsValid, header_of}
-use Rattle.vd_format.specs.Layouts.{blocks_of, chunks_of, sectors_of, need_of}
+use Rattle.vd_format.specs.Headers.{IsValid}
+use Rattle.vd_format.specs.Layouts.{blocks_of, chunks_of}
 use Rattle.vd_format.specs.Entries.{empty_entry}
 use Rattle.vd_format.specs.Records.{Said as Slot, Nothing, Facts, Outside, slot_of}
 use Rattle.vd_format.proofs.Rules.{chunk_within}
 use Rattle.vd_bits.specs.Blocks.{Blocks}
 use Rattle.vd_table.specs.Tables.{Has}
 use Rattle.vd_image.specs.Log.{Sector}
-use Rattle.vd_image.specs.Image.{Header, Mapping, Record, Maps, Gives, IsGoodMapping, IsGoodSlot, IsCurrent, IsConsistent}
+use Rattle.vd_image.specs.Image.{Header, Mapping, Gives, IsGoodMapping, IsGoodSlot}
 use Rattle.vd_image.specs.Layouts.{layout_of}
-use Rattle.vd_image.specs.Decoders.{Entry, IsEntry, entry_at, this_version, shape_of, storage_in, mask_has, mapping_in, record_in, entry_place, format_of}
-use Rattle.vd_image.specs.Refusals.{BadEntry, BadRecord, DoubleChunk, IsNew, Entry_bad, Record_bad, Chunk_double}
-use Rattle.vd_image.specs.Openings.{RefusesOpening, BadImage, Image_bad, Opens}
+use Rattle.vd_image.specs.Decoders.{Entry, shape_of, storage_in, mask_has, mapping_in, record_in, format_of}
+use Rattle.vd_image.specs.Refusals.{BadEntry, BadRecord, DoubleChunk, Entry_bad, Record_bad, Chunk_double}
+use Rattle.vd_image.specs.Openings.{RefusesOpening, BadImage, Image_bad}
 use Rattle.vd_image.proofs.Deciding.{maps_one}
 use Rattle.vd_image.proofs.Layouts.{parts_apart}
 use Rattle.vd_replay.specs.Images.{image_of}
-use Rattle.vd_replay.specs.Pages.{entry_in, IsGood, AreRead, IsFirstBad, AreEntries}
-use Rattle.vd_replay.specs.Journal.{CountsAt, IsNext, AreReplayed, IsFirstOutside}
-use Rattle.vd_replay.specs.Placing.{HasStorage, AreTwins, IsPlaced, IsSpread, Differs, AreMarked}
+use Rattle.vd_replay.specs.Pages.{entry_in, AreRead, IsFirstBad, AreEntries}
+use Rattle.vd_replay.specs.Journal.{CountsAt, AreReplayed, IsFirstOutside}
+use Rattle.vd_replay.specs.Placing.{HasStorage, AreTwins, IsSpread, Differs}
 use Rattle.vd_replay.specs.Finding.{Found}
 use Rattle.vd_replay.specs.Filling.{AreApplied, IsSettled}
-use Rattle.vd_replay.specs.States.{IsSized, IsEntryOf, Stores, IsInMask, SaysMore, HasCounting, IsState, IsOldState, Says}
+use Rattle.vd_replay.specs.States.{IsSized, SaysMore, HasCounting, IsState, IsOldState}
 use Rattle.vd_replay.specs.Refusals.{IsValueOf}
 use Rattle.vd_replay.specs.Fresh.{is_fresh}
 use Rattle.vd_replay.specs.declared.state.State.{State}

@@ -1,6 +1,9 @@
 -- The guest's disk, by a state: where each of its sectors comes from.
-use Rattle.std.specs.Prelude.{ℕ, ◌≡◌, ◌+◌, ◌/◌, ◌^◌, ◌<◌, ◌≤◌, ◌⊎◌, Bool, true, false, List, None, Some, length, slice_get}
+use Rattle.std.specs.Prelude.{ℕ, ◌≡◌, ◌+◌, ◌/◌, ◌^◌, ◌<◌, ◌≤◌, ◌⊎◌, Bool, true, false, List, None, Some, ⊤, Result, IfErr, slice_get}
 use Rattle.vd_law.specs.declared.entry.Sector.{Sector}
+use Rattle.vd_device.specs.Tickets.{IsRange}
+use Rattle.vd_format.specs.declared.header.Header.{Header}
+use Rattle.vd_format.specs.Layouts.{storage_start, need_of}
 use Rattle.vd_table.specs.Tables.{Has}
 use Rattle.vd_reading.specs.Background.{background}
 use Rattle.vd_image.specs.Image.{DiskHas, background as image_background}
@@ -41,11 +44,16 @@ IsNear (Local at) = at < 2 ^ 32
 IsNear Background = Unit {0}
 IsNear Zeros = Unit {0}
 
--- so many sectors from there on lie in a store
+-- so many sectors from there on are read by one ticket at the most, with a store of so many
 abbrev pub IsInside : Source → (count sectors : ℕ) → Type 0
-IsInside (Local at) count sectors = at + count ≤ sectors
-IsInside Background count sectors = Unit {0}
+IsInside (Local at) count sectors = IsRange sectors at count
+IsInside Background count sectors = count ≤ 2048
 IsInside Zeros count sectors = Unit {0}
+
+-- the storage of an image with this header begins at this sector
+pub record IsStorageAt (h : Header) (at : ℕ) : Type 0 where
+  pub start : at ≡ storage_start h
+  pub near : need_of h < 2 ^ 32
 
 -- this is what the sector is, by its source
 abbrev pub IsFrom : (held content : List Sector) (tracked : ℕ) → Source → (sector : ℕ) → Sector → Type 0
@@ -70,3 +78,47 @@ pub record IsDisk (held content : List Sector) (s : State) (first : ℕ) (out : 
 abbrev pub ForDevice : (P Q : ℕ → Type 0) → DiskFault → Type 0
 ForDevice P Q (fault.Store ticket) = P ticket
 ForDevice P Q (fault.Base ticket) = Q ticket
+
+-- the same, of the one device from which this source reads
+abbrev pub ForSource : Source → (P Q : ℕ → Type 0) → DiskFault → Type 0
+ForSource (Local at) P Q (fault.Store ticket) = P ticket
+ForSource Background P Q (fault.Base ticket) = Q ticket
+ForSource source P Q e = ⊥
+
+-- A device from which a run doesn't read is as it was: of the store P says so, of the base Q. So many sectors of it are the base's.
+abbrev pub Spares : Source → (many : ℕ) → (P Q : Type 0) → Type 0
+Spares (Local at) many P Q = Q
+Spares Background many P Q = P × (many ≡ 0 → Q)
+Spares Zeros many P Q = P × Q
+
+-- a base failed only where some sectors were the base's
+abbrev pub NeedsBase : (many : ℕ) → DiskFault → Type 0
+NeedsBase many (fault.Store ticket) = Unit {0}
+NeedsBase many (fault.Base ticket) = 0 < many
+
+-- some sector of so many from `first` on is a local block's
+pub record HasLocal (s : State) (first count : ℕ) : Type 0 where
+  pub place : ℕ
+  pub at : ℕ
+  pub within : place < count
+  pub source : IsSource s (first + place) (Local at)
+
+-- some sector of so many from `first` on is that of a base of so many sectors
+pub record HasOfBase (s : State) (sectors first count : ℕ) : Type 0 where
+  pub place : ℕ
+  pub within : place < count
+  pub source : IsSource s (first + place) Background
+  pub tracked : first + place < s.header.tracked
+  pub inside : first + place < sectors
+
+-- the device that failed has some sector of the range: the store has one, or the base
+abbrev pub IsWanted : (local of_base : Type 0) → DiskFault → Type 0
+IsWanted local of_base (fault.Store ticket) = local
+IsWanted local of_base (fault.Base ticket) = of_base
+
+module _ {S B : Type 0} where
+  -- A device is asked only where it has some sector of the range: else it is as it was, and no fault of it is answered.
+  pub record AsksOwn (local of_base : Type 0) (result : Result ⊤ DiskFault) (s s' : S) (b b' : B) : Type 0 where
+    pub failed : IfErr result (IsWanted local of_base)
+    pub store : (local → ⊥) → s' ≡ s
+    pub base : (of_base → ⊥) → b' ≡ b

@@ -43,13 +43,13 @@ NotFound kept held (error.TooSmall need have) = RefusesOpening (length held) (im
 NotFound kept held (error.Changed field) = (h : Header) × (0 < length held) × (header_of (image_of held 0) ≡ Ok h) × HasChanged kept h field
 NotFound kept held e = ⊥
 
--- the errors of this search
-abbrev pub IsOfHeader : OpenError → Type 0
-IsOfHeader (error.Store ticket) = Unit {0}
-IsOfHeader (error.Header e) = Unit {0}
-IsOfHeader (error.TooSmall need have) = Unit {0}
-IsOfHeader (error.Changed field) = Unit {0}
-IsOfHeader e = ⊥
+-- the errors of this search; of a store fault's ticket P holds
+abbrev pub IsOfHeader : (P : ℕ → Type 0) → OpenError → Type 0
+IsOfHeader P (error.Store ticket) = P ticket
+IsOfHeader P (error.Header e) = Unit {0}
+IsOfHeader P (error.TooSmall need have) = Unit {0}
+IsOfHeader P (error.Changed field) = Unit {0}
+IsOfHeader P e = ⊥
 
 -- where the answer is a store fault, P holds of its ticket
 abbrev pub ForStore : (ℕ → Type 0) → OpenError → Type 0

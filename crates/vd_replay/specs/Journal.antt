@@ -6,6 +6,7 @@ use Rattle.vd_format.specs.declared.map.Entry.{Entry}
 use Rattle.vd_format.specs.declared.map.Fact2.{Fact2}
 use Rattle.vd_format.specs.declared.map.Shape2.{Shape2}
 use Rattle.vd_format.specs.Records.{Said, Nothing, Facts, Outside}
+use Rattle.vd_replay.specs.Pages.{AreEntries}
 unfoldable use Rattle.vd_format.specs.Records.{slot_of}
 
 -- the facts of a slot that counts
@@ -48,3 +49,8 @@ pub record IsFirstOutside (shape : Shape2) (at : ℕ → Sector) (n slot : ℕ) 
 abbrev pub Replayed : Shape2 → (ℕ → Sector) → (n : ℕ) → (pages entries : List Entry) → Result ℕ ℕ → Type 0
 Replayed shape at n pages entries (Ok next) = AreReplayed shape at n pages entries next
 Replayed shape at n pages entries (Err slot) = IsFirstOutside shape at n slot
+
+-- the slots before `slot` were taken over: `next` is no further, and the entries are in the grammar
+pub record AreTaken (shape : Shape2) (slot next : ℕ) (entries : List Entry) : Type 0 where
+  pub within : next ≤ slot
+  pub grammar : AreEntries shape shape.chunks entries

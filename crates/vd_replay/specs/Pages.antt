@@ -1,5 +1,5 @@
 -- The map, sector by sector: `at` gives its sector of each number.
-use Rattle.std.specs.Prelude.{ℕ, ◌≡◌, ◌+◌, ◌/◌, ◌%◌, ◌<◌, true, List, Some, Result, Ok, Err, ⊤, slice_get}
+use Rattle.std.specs.Prelude.{ℕ, ◌≡◌, ◌+◌, ◌*◌, ◌/◌, ◌%◌, ◌<◌, true, List, length, min, Some, Result, Ok, Err, ⊤, slice_get, slice_index_or}
 use Rattle.vd_law.specs.declared.entry.Sector.{Sector}
 use Rattle.vd_format.specs.declared.map.Entry.{Entry}
 use Rattle.vd_format.specs.declared.map.Shape2.{Shape2}
@@ -11,6 +11,14 @@ use Rattle.vd_replay.specs.declared.pages.BadEntry.{BadEntry}
 -- the sectors of a store from one on, by their number in that area
 abbrev pub area_at : (held : List Sector) (from : ℕ) → ℕ → Sector
 area_at held from n = sectors_or zero_sector held (from + n)
+
+-- these are the sectors from number n on
+abbrev pub AreAt : (ℕ → Sector) → (n : ℕ) → List Sector → Type 0
+AreAt at n sectors = (i : ℕ) → i < length sectors → at (n + i) ≡ slice_index_or sectors i zero_sector
+
+-- how many chunks have their entry in the first so many sectors of the map
+abbrev pub chunks_in : Shape2 → (pages : ℕ) → ℕ
+chunks_in shape pages = min (32 * pages) shape.chunks
 
 -- the entry of a chunk, whatever it is
 abbrev pub entry_in : (ℕ → Sector) → (chunk : ℕ) → Entry
@@ -40,3 +48,8 @@ Judged shape at n entries (Err bad) = IsFirstBad shape at n bad.chunk bad.value
 -- each of these entries of the first n chunks is in the grammar
 pub record AreEntries (shape : Shape2) (n : ℕ) (entries : List Entry) : Type 0 where
   pub each : (c : ℕ) (e : Entry) → c < n → slice_get entries c ≡ Some e → IsEntry shape c e
+
+-- an entry of the grammar for each chunk
+pub record IsMap (shape : Shape2) (entries : List Entry) : Type 0 where
+  pub size : length entries ≡ shape.chunks
+  pub grammar : AreEntries shape shape.chunks entries

@@ -18,6 +18,13 @@ pub record IsShape (shape : Shape2) : Type 0 where
   pub first_block : (c : ℕ) → c < shape.chunks → c * shape.chunk < shape.blocks
   pub last_block : (b : ℕ) → b < shape.blocks → b / shape.chunk < shape.chunks
 
+-- a table and blocks of a disk's sizes
+pub record AreSized (shape : Shape2) (table : Given) (fresh : Blocks) : Type 0 where
+  pub chunks : length table.chunks ≡ shape.chunks
+  pub storage : table.storage ≡ shape.storage
+  pub chunk : fresh.chunk ≡ shape.chunk
+  pub blocks : length fresh.bits ≡ shape.blocks
+
 -- The chunk got the storage of this entry, which no chunk had before, and its blocks.
 pub record Places (e : Entry) (chunk : ℕ) (table : Given) (fresh : Blocks) (table' : Given) (fresh' : Blocks) : Type 0 where
   pub alone : (by p : ℕ) → e.storage ≡ p + 1 → Has table by p → ⊥

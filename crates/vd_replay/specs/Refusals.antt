@@ -1,9 +1,8 @@
 -- Why an image isn't opened, by what the store holds.
-use Rattle.std.specs.Prelude.{ℕ, ◌≡◌, ◌≢◌, ◌<◌, ◌≤◌, true, false, List, length, Some, None, Ok}
+use Rattle.std.specs.Prelude.{ℕ, ◌≡◌, ◌<◌, ◌≤◌, false, List, length, Some, Ok}
 use Rattle.vd_law.specs.declared.entry.Sector.{Sector}
 use Rattle.vd_format.specs.declared.header.Header.{Header}
 use Rattle.vd_format.specs.Headers.{header_of}
-use Rattle.vd_image.specs.Image.{Image}
 use Rattle.vd_image.specs.Layouts.{layout_of}
 use Rattle.vd_image.specs.Decoders.{entry_at, entry_place}
 use Rattle.vd_image.specs.Refusals.{BadEntry, BadRecord, DoubleChunk}
@@ -53,8 +52,9 @@ RefusedAgain kept held error.NoMemory = ⊥
 RefusedAgain kept held (error.Store ticket) = Unit {0}
 RefusedAgain kept held e = Refused 1 held e × KeepsFields (Some kept) held
 
--- the errors that only a first opening gives
-abbrev pub IsOfReload : OpenError → Type 0
-IsOfReload error.OldVersion = ⊥
-IsOfReload error.NoMemory = ⊥
-IsOfReload e = Unit {0}
+-- the errors of an opening but those that only a first one gives; of a store fault's ticket P holds
+abbrev pub IsOfReload : (P : ℕ → Type 0) → OpenError → Type 0
+IsOfReload P (error.Store ticket) = P ticket
+IsOfReload P error.OldVersion = ⊥
+IsOfReload P error.NoMemory = ⊥
+IsOfReload P e = Unit {0}

@@ -37,6 +37,17 @@ pub record IsWhole (s : State) : Type 0 where
   pub spread : IsSpread s.map (length s.map) s.fresh
   pub next : s.cursor.next ≤ s.cursor.slots
 
+-- A state that isn't void, of an image that lies in a store of so many sectors.
+pub record IsReadable (sectors : ℕ) (s : State) : Type 0 where
+  pub sized : IsSized s
+  pub full : s.void ≡ false
+  pub room : need_of s.header ≤ sectors
+
+-- What is opened, whatever the store tells.
+pub record IsOpened (sectors : ℕ) (s : State) : Type 0 where
+  pub readable : IsReadable sectors s
+  pub whole : IsWhole s
+
 -- the chunk has this entry in the state, and its mapping in the image is that of this entry
 pub record IsEntryOf (h : Header) (image : Image) (map : List Entry) (chunk : ℕ) : Type 0 where
   pub entry : Entry

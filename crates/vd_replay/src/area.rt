@@ -6,7 +6,7 @@ ghost use Rattle.vd_reading.specs.Quiet.{IsReady, OnlyReads, IsStoreFault, secto
 ghost use Rattle.vd_format.specs.Numbers.{are_zeros};
 ghost use Rattle.vd_format.specs.Layouts.{sectors_of};
 ghost use Rattle.vd_replay.specs.Fresh.{are_empty, is_empty_area};
-ghost use Rattle.vd_replay.specs.Looking.{IsEmptyPiece};
+ghost use Rattle.vd_replay.specs.Looking.{IsArea, IsEmptyPiece};
 
 use vd_device::Store;
 use vd_format::numbers::are_zeros;
@@ -43,10 +43,10 @@ fn is_empty_piece<S: Store>(
     first: u64,
     bytes: u64,
 ) -> Result<bool, u64>
-    requires ready { IsReady (S.flies store.old []) (S.depth store.old) (S.tells store.old) (S.disk store.old) }
+    requires ready { IsReady S.Store store.old }
     requires range { IsRange (S.sectors store.old) first (length room.old) }
-    ensures fault { IfErr result (λ number. IsStoreFault number (S.last store.new) (S.faults store.old) (S.faults store.new) (S.tells store.new) (S.disk store.old) (S.disk store.new)) }
-    ensures quiet { OnlyReads (S.flies store.new []) (S.sectors store.old) (S.sectors store.new) (S.depth store.old) (S.depth store.new) (S.faults store.old) (S.faults store.new) (S.tells store.old) (S.tells store.new) (S.records store.old) (S.records store.new) (S.disk store.old) (S.disk store.new) }
+    ensures fault { IfErr result (IsStoreFault S.Store store.old store.new) }
+    ensures quiet { OnlyReads S.Store store.old store.new }
     ensures read { IfOk result (λ empty. S.tells store.new → IsEmptyPiece (S.disk store.new).held first (length room.old) bytes empty) }
 {
     read_only(store, first, room)?;
@@ -60,13 +60,12 @@ pub fn is_empty_area<S: Store>(
     from: u64,
     bytes: u64,
 ) -> Result<bool, u64>
-    requires ready { IsReady (S.flies store.old []) (S.depth store.old) (S.tells store.old) (S.disk store.old) }
+    requires ready { IsReady S.Store store.old }
     requires room { length room.old ≡ MOST }
-    requires range { from + sectors_of bytes ≤ S.sectors store.old }
+    requires area { IsArea (S.sectors store.old) from (sectors_of bytes) }
     requires few { bytes < 2 ^ 32 }
-    requires near { from < 2 ^ 32 }
-    ensures fault { IfErr result (λ number. IsStoreFault number (S.last store.new) (S.faults store.old) (S.faults store.new) (S.tells store.new) (S.disk store.old) (S.disk store.new)) }
-    ensures quiet { OnlyReads (S.flies store.new []) (S.sectors store.old) (S.sectors store.new) (S.depth store.old) (S.depth store.new) (S.faults store.old) (S.faults store.new) (S.tells store.old) (S.tells store.new) (S.records store.old) (S.records store.new) (S.disk store.old) (S.disk store.new) }
+    ensures fault { IfErr result (IsStoreFault S.Store store.old store.new) }
+    ensures quiet { OnlyReads S.Store store.old store.new }
     ensures read { IfOk result (λ empty. S.tells store.new → empty ≡ is_empty_area (S.disk store.new).held from bytes) }
 {
     let count = (bytes + 511) / 512;

@@ -1,13 +1,14 @@
 //! Reading the guest's disk by a state.
 
-ghost use Rattle.std.specs.Prelude.{ℕ, ◌≡◌, ◌+◌, ◌^◌, ◌<◌, ◌≤◌, [], false, length, replicate, IfErr, IsTrue, OnOk};
+ghost use Rattle.std.specs.Prelude.{ℕ, ◌≡◌, ◌+◌, ◌^◌, ◌<◌, ◌≤◌, [], length, replicate, IfErr, IsTrue, OnOk};
+ghost use Rattle.vd_reading.specs.Background.{count_in_base};
 ghost use Rattle.vd_reading.specs.Quiet.{IsReady, OnlyReads, OnlyReadsBase, IsFault, IsStoreFault};
 ghost use Rattle.vd_format.specs.Headers.{IsValid};
-ghost use Rattle.vd_format.specs.Layouts.{storage_start, need_of};
 ghost use Rattle.vd_image.specs.Layouts.{layout_of as places};
 ghost use Rattle.vd_image.specs.Made.{zero_sector};
-ghost use Rattle.vd_replay.specs.States.{IsSized, Says};
-ghost use Rattle.vd_replay.specs.Disks.{IsSource, further, IsNear, IsInside, ReadRun, IsDisk, ForDevice};
+ghost use Rattle.vd_replay.specs.States.{IsSized, IsReadable, Says};
+ghost use Rattle.vd_replay.specs.Disks.{IsSource, IsStorageAt, further, IsNear, IsInside, ReadRun, IsDisk};
+ghost use Rattle.vd_replay.specs.Disks.{ForDevice, ForSource, HasLocal, HasOfBase, NeedsBase, Spares, AsksOwn};
 
 use crate::state::State;
 use vd_device::{Base, Store};
@@ -49,9 +50,8 @@ impl Source {
 /// Where sector `sector` of the guest's disk stands in storage chunk `p`.
 fn place(header: &Header, storage_at: u64, p: u32, sector: u64) -> u64
     requires valid { IsValid header.now }
-    requires storage { storage_at ≡ storage_start header.now }
+    requires storage { IsStorageAt header.now storage_at }
     requires inside { p < header.now.storage }
-    requires near { need_of header.now < 2 ^ 32 }
     ensures place { result ≡ (places header.now).place p sector }
     ensures near { result < 2 ^ 32 }
 {
@@ -62,8 +62,7 @@ fn place(header: &Header, storage_at: u64, p: u32, sector: u64) -> u64
 /// Where this sector of the guest's disk comes from.
 fn source_of(state: &State, storage_at: u64, sector: u64) -> Source
     requires sized { IsSized state.now }
-    requires storage { storage_at ≡ storage_start state.now.header }
-    requires small { need_of state.now.header < 2 ^ 32 }
+    requires storage { IsStorageAt state.now.header storage_at }
     requires inside { sector < state.now.header.size }
     ensures source { IsSource state.now sector result }
     ensures near { IsNear result }
@@ -86,8 +85,7 @@ fn source_of(state: &State, storage_at: u64, sector: u64) -> Source
 /// Whether this sector comes from there.
 fn comes_from(state: &State, storage_at: u64, source: Source, sector: u64) -> bool
     requires sized { IsSized state.now }
-    requires storage { storage_at ≡ storage_start state.now.header }
-    requires small { need_of state.now.header < 2 ^ 32 }
+    requires storage { IsStorageAt state.now.header storage_at }
     requires inside { sector < state.now.header.size }
     ensures { IsTrue result → IsSource state.now sector source }
 {
@@ -97,8 +95,7 @@ fn comes_from(state: &State, storage_at: u64, source: Source, sector: u64) -> bo
 /// How many sectors from `first` on, at most `most`, come from one device at neighbouring places.
 fn run_from(state: &State, storage_at: u64, source: Source, first: u64, most: u64) -> u64
     requires sized { IsSized state.now }
-    requires storage { storage_at ≡ storage_start state.now.header }
-    requires small { need_of state.now.header < 2 ^ 32 }
+    requires storage { IsStorageAt state.now.header storage_at }
     requires source { IsSource state.now first source }
     requires near { IsNear source }
     requires some { 0 < most }
@@ -122,7 +119,8 @@ fn clear(out: &mut [Sector])
     out.fill(Sector::filled(0));
 }
 
-/// Fills `out` with the sectors from `first` on, which come from one source, by at most one ticket.
+/// Fills `out` with the sectors from `first` on, which come from one source, by at most one ticket. A device from which
+/// the source doesn't read is left alone.
 fn read_run<S: Store, B: Base>(
     store: &mut S,
     base: &mut B,
@@ -131,14 +129,14 @@ fn read_run<S: Store, B: Base>(
     first: u64,
     out: &mut [Sector],
 ) -> Result<(), DiskFault>
-    requires ready { IsReady (S.flies store.old []) (S.depth store.old) (S.tells store.old) (S.disk store.old) }
+    requires ready { IsReady S.Store store.old }
     requires base { B.flies base.old [] }
-    requires some { 0 < length out.old }
-    requires most { length out.old ≤ 2048 }
     requires inside { IsInside source (length out.old) (S.sectors store.old) }
-    ensures fault { IfErr result (ForDevice (λ number. IsStoreFault number (S.last store.new) (S.faults store.old) (S.faults store.new) (S.tells store.new) (S.disk store.old) (S.disk store.new)) (λ number. IsFault number (B.last base.new) (B.faults base.old) (B.faults base.new))) }
-    ensures quiet { OnlyReads (S.flies store.new []) (S.sectors store.old) (S.sectors store.new) (S.depth store.old) (S.depth store.new) (S.faults store.old) (S.faults store.new) (S.tells store.old) (S.tells store.new) (S.records store.old) (S.records store.new) (S.disk store.old) (S.disk store.new) }
-    ensures base_quiet { OnlyReadsBase (B.flies base.new []) (B.sectors base.old) (B.sectors base.new) (B.faults base.old) (B.faults base.new) (B.tells base.old) (B.tells base.new) (B.content base.old) (B.content base.new) }
+    ensures fault { IfErr result (ForSource source (IsStoreFault S.Store store.old store.new) (IsFault B.Base base.old base.new)) }
+    ensures needed { IfErr result (NeedsBase (count_in_base (B.sectors base.old) tracked first (length out.old))) }
+    ensures spared { Spares source (count_in_base (B.sectors base.old) tracked first (length out.old)) (store.new ≡ store.old) (base.new ≡ base.old) }
+    ensures quiet { OnlyReads S.Store store.old store.new }
+    ensures base_quiet { OnlyReadsBase B.Base base.old base.new }
     ensures size { length out.new ≡ length out.old }
     ensures read { OnOk result (S.tells store.new → B.tells base.new → ReadRun (S.disk store.new).held (B.content base.new) tracked source first out.new) }
 {
@@ -160,8 +158,8 @@ fn read_run<S: Store, B: Base>(
 
 /// Fills `out` with the sectors of the guest's disk from `first` on: a local block's from its storage, else the base's below
 /// `tracked`, else zeros. There is one ticket for each run of neighbouring sectors that come from one device at
-/// neighbouring places, of at most 2,048 sectors each. The first failed ticket ends it; where the store tells and the ticket is
-/// its own, that call ended in its log by a Reply that isn't Ok.
+/// neighbouring places, of at most 2,048 sectors each, and a device that has no sector of the range is left alone. The first
+/// failed ticket ends it; where the store tells and the ticket is its own, that call ended in its log by a Reply that isn't Ok.
 pub fn read_disk<S: Store, B: Base>(
     store: &mut S,
     base: &mut B,
@@ -171,15 +169,16 @@ pub fn read_disk<S: Store, B: Base>(
 ) -> Result<(), DiskFault>
     requires store { S.flies store.old [] }
     requires base { B.flies base.old [] }
-    requires sized { IsSized state.now }
-    requires full { state.now.void ≡ false }
-    requires room { need_of state.now.header ≤ S.sectors store.old }
+    requires readable { IsReadable (S.sectors store.old) state.now }
     requires range { first + length out.old ≤ state.now.header.size }
-    ensures fault { IfErr result (ForDevice (λ number. IsStoreFault number (S.last store.new) (S.faults store.old) (S.faults store.new) (S.tells store.new) (S.disk store.old) (S.disk store.new)) (λ number. IsFault number (B.last base.new) (B.faults base.old) (B.faults base.new))) }
-    ensures quiet { OnlyReads (S.flies store.new []) (S.sectors store.old) (S.sectors store.new) (S.depth store.old) (S.depth store.new) (S.faults store.old) (S.faults store.new) (S.tells store.old) (S.tells store.new) (S.records store.old) (S.records store.new) (S.disk store.old) (S.disk store.new) }
-    ensures base_quiet { OnlyReadsBase (B.flies base.new []) (B.sectors base.old) (B.sectors base.new) (B.faults base.old) (B.faults base.new) (B.tells base.old) (B.tells base.new) (B.content base.old) (B.content base.new) }
+    ensures fault { IfErr result (ForDevice (IsStoreFault S.Store store.old store.new) (IsFault B.Base base.old base.new)) }
+    ensures asks { AsksOwn (HasLocal state.now first (length out.old)) (HasOfBase state.now (B.sectors base.old) first (length out.old)) result
+        store.old store.new base.old base.new }
+    ensures quiet { OnlyReads S.Store store.old store.new }
+    ensures base_quiet { OnlyReadsBase B.Base base.old base.new }
     ensures size { length out.new ≡ length out.old }
-    ensures read { OnOk result (S.tells store.new → B.tells base.new → Says (S.disk store.new).held state.now → IsDisk (S.disk store.new).held (B.content base.new) state.now first out.new) }
+    ensures read { OnOk result (S.tells store.new → B.tells base.new → Says (S.disk store.new).held state.now
+        → IsDisk (S.disk store.new).held (B.content base.new) state.now first out.new) }
 {
     let _sectors = sectors_at_rest(store);
     let storage_at = layout_of(&state.header).storage_at;

@@ -14,13 +14,13 @@ use vd_law::entry::Sector;
 
 /// Whether no chunk has an entry: the table and the bitmap are zeros.
 fn is_map_empty<S: Store>(store: &mut S, room: &mut [Sector], header: &Header) -> Result<bool, u64>
-    requires ready { IsReady (S.flies store.old []) (S.depth store.old) (S.tells store.old) (S.disk store.old) }
+    requires ready { IsReady S.Store store.old }
     requires room { length room.old ≡ MOST }
     requires valid { IsValid header.now }
     requires version { header.now.version ≡ 1 }
     requires large { need_of header.now ≤ S.sectors store.old }
-    ensures fault { IfErr result (λ number. IsStoreFault number (S.last store.new) (S.faults store.old) (S.faults store.new) (S.tells store.new) (S.disk store.old) (S.disk store.new)) }
-    ensures quiet { OnlyReads (S.flies store.new []) (S.sectors store.old) (S.sectors store.new) (S.depth store.old) (S.depth store.new) (S.faults store.old) (S.faults store.new) (S.tells store.old) (S.tells store.new) (S.records store.old) (S.records store.new) (S.disk store.old) (S.disk store.new) }
+    ensures fault { IfErr result (IsStoreFault S.Store store.old store.new) }
+    ensures quiet { OnlyReads S.Store store.old store.new }
     ensures read { IfOk result (λ empty. S.tells store.new → empty ≡ is_map_empty header.now (S.disk store.new).held) }
 {
     let layout = layout_of(header);
@@ -33,13 +33,13 @@ fn is_map_empty<S: Store>(store: &mut S, room: &mut [Sector], header: &Header) -
 /// Whether the image is as it was made: no chunk has an entry, and no record counts.
 #[tactic(auto, unfolding(crate::specs::Fresh::is_fresh))]
 pub fn is_fresh<S: Store>(store: &mut S, room: &mut [Sector], header: &Header) -> Result<bool, u64>
-    requires ready { IsReady (S.flies store.old []) (S.depth store.old) (S.tells store.old) (S.disk store.old) }
+    requires ready { IsReady S.Store store.old }
     requires room { length room.old ≡ MOST }
     requires valid { IsValid header.now }
     requires version { header.now.version ≡ 1 }
     requires large { need_of header.now ≤ S.sectors store.old }
-    ensures fault { IfErr result (λ number. IsStoreFault number (S.last store.new) (S.faults store.old) (S.faults store.new) (S.tells store.new) (S.disk store.old) (S.disk store.new)) }
-    ensures quiet { OnlyReads (S.flies store.new []) (S.sectors store.old) (S.sectors store.new) (S.depth store.old) (S.depth store.new) (S.faults store.old) (S.faults store.new) (S.tells store.old) (S.tells store.new) (S.records store.old) (S.records store.new) (S.disk store.old) (S.disk store.new) }
+    ensures fault { IfErr result (IsStoreFault S.Store store.old store.new) }
+    ensures quiet { OnlyReads S.Store store.old store.new }
     ensures read { IfOk result (λ fresh. S.tells store.new → fresh ≡ is_fresh header.now (S.disk store.new).held) }
 {
     let empty = is_map_empty(store, room, header)?;

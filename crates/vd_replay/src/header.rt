@@ -5,7 +5,7 @@ ghost use Rattle.vd_reading.specs.Quiet.{IsReady, OnlyReads, AddsFlush, IsStoreF
 ghost use Rattle.vd_format.specs.Headers.{IsValid};
 ghost use Rattle.vd_format.specs.Layouts.{need_of};
 ghost use Rattle.vd_replay.specs.Headers.{first_changed};
-ghost use Rattle.vd_replay.specs.Finding.{Agrees, IsWrong, Found, NotFound, IsOfHeader, ForStore};
+ghost use Rattle.vd_replay.specs.Finding.{Agrees, IsWrong, Found, NotFound, IsOfHeader};
 
 use crate::error::OpenError;
 use vd_device::Store;
@@ -63,13 +63,12 @@ fn judge(header: Header, kept: Option<Header>, have: u64) -> Result<Header, Open
 /// differ.
 pub fn find_header<S: Store>(store: &mut S, kept: Option<Header>) -> Result<Header, OpenError>
     requires idle { S.flies store.old [] }
-    ensures fault { IfErr result (ForStore (λ number. IsStoreFault number (S.last store.new) (S.faults store.old) (S.faults store.new) (S.tells store.new) (S.disk store.old) (S.disk store.new))) }
-    ensures quiet { OnlyReads (S.flies store.new []) (S.sectors store.old) (S.sectors store.new) (S.depth store.old) (S.depth store.new) (S.faults store.old) (S.faults store.new) (S.tells store.old) (S.tells store.new) (S.records store.old) (S.records store.new) (S.disk store.old) (S.disk store.new) }
-    ensures ready { IfOk result (λ h. IsReady (S.flies store.new []) (S.depth store.new) (S.tells store.new) (S.disk store.new)) }
+    ensures errors { IfErr result (IsOfHeader (IsStoreFault S.Store store.old store.new)) }
+    ensures quiet { OnlyReads S.Store store.old store.new }
+    ensures ready { IfOk result (λ h. IsReady S.Store store.new) }
     ensures valid { IfOk result IsValid }
     ensures agrees { IfOk result (Agrees kept) }
     ensures room { IfOk result (λ h. need_of h ≤ S.sectors store.new) }
-    ensures errors { IfErr result IsOfHeader }
     ensures flushed { IfOk result (λ h. S.tells store.new → AddsFlush (S.disk store.old) (S.disk store.new)) }
     ensures found { IfOk result (λ h. S.tells store.new → Found (S.disk store.new).held h) }
     ensures not_found { IfErr result (λ e. S.tells store.new → NotFound kept (S.disk store.new).held e) }

@@ -10,8 +10,9 @@ ghost use Rattle.vd_format.specs.Records.{AreFacts};
 ghost use Rattle.vd_device.specs.Tickets.{IsRange};
 ghost use Rattle.vd_reading.specs.Quiet.{IsReady, OnlyReads, IsStoreFault};
 ghost use Rattle.vd_image.specs.Made.{zero_sector};
-ghost use Rattle.vd_replay.specs.Pages.{area_at, AreEntries};
-ghost use Rattle.vd_replay.specs.Journal.{put_facts, AreReplayed, Replayed};
+ghost use Rattle.vd_replay.specs.Looking.{IsArea};
+ghost use Rattle.vd_replay.specs.Pages.{area_at, AreAt, AreEntries, IsMap};
+ghost use Rattle.vd_replay.specs.Journal.{put_facts, AreReplayed, AreTaken, Replayed};
 
 use crate::area::MOST;
 use vd_device::Store;
@@ -46,7 +47,8 @@ fn take_slot(
     ensures size { length map.new ≡ length map.old }
     ensures within { IfOk result (λ after. after ≤ slot + 1) }
     ensures grammar { AreEntries shape.now shape.now.chunks map.old → OnOk result (AreEntries shape.now shape.now.chunks map.new) }
-    ensures replayed { (at : ℕ → AnySector) (pages : List AnyEntry) → at slot ≡ sector.now → AreReplayed shape.now at slot pages map.old next → Replayed shape.now at (slot + 1) pages map.new result }
+    ensures replayed { (at : ℕ → AnySector) (pages : List AnyEntry) → at slot ≡ sector.now → AreReplayed shape.now at slot pages map.old next
+        → Replayed shape.now at (slot + 1) pages map.new result }
 {
     match read_record2(sector, shape) {
         Slot2::Other => Ok(next),
@@ -58,61 +60,30 @@ fn take_slot(
     }
 }
 
-/// Takes over what these slots say, from the one with the number `slot` on. The first bad one ends it.
+/// Takes over what these slots say, from the one with the number `slot` on, where all before them were good: `so_far` is one
+/// past the highest of those that counts. The first bad one ends it.
 fn take_slots(
     sectors: &[Sector],
     slot: u32,
     shape: &Shape2,
     map: &mut Map,
-    before: u32,
+    so_far: Result<u32, u32>,
 ) -> Result<u32, u32>
     requires chunks { length map.old ≡ shape.now.chunks }
     requires slots { slot + length sectors.now ≤ 4096 }
-    requires within { before ≤ slot }
+    requires so_far { IfOk so_far (λ next. AreTaken shape.now slot next map.old) }
     ensures size { length map.new ≡ length map.old }
-    ensures within { IfOk result (λ after. after ≤ slot + length sectors.now) }
-    ensures grammar { AreEntries shape.now shape.now.chunks map.old → OnOk result (AreEntries shape.now shape.now.chunks map.new) }
-    ensures replayed { (at : ℕ → AnySector) (pages : List AnyEntry) → ((i : ℕ) → i < length sectors.now → at (slot + i) ≡ slice_index_or sectors.now i zero_sector) → AreReplayed shape.now at slot pages map.old before → Replayed shape.now at (slot + length sectors.now) pages map.new result }
+    ensures taken { IfOk result (λ next. AreTaken shape.now (slot + length sectors.now) next map.new) }
+    ensures replayed { (at : ℕ → AnySector) (pages : List AnyEntry) → AreAt at slot sectors.now → Replayed shape.now at slot pages map.old so_far
+        → Replayed shape.now at (slot + length sectors.now) pages map.new result }
 {
     let mut number = slot;
-    let mut next = before;
+    let mut next = so_far?;
     for sector in sectors {
         next = take_slot(sector, number, shape, map, next)?;
         number += 1;
     }
     Ok(next)
-}
-
-/// Reads slots from the one with the number `slot` on, and takes over what they say where all before them were good.
-fn read_slots<S: Store>(
-    store: &mut S,
-    room: &mut [Sector],
-    from: u64,
-    slot: u32,
-    shape: &Shape2,
-    map: &mut Map,
-    so_far: Result<u32, u32>,
-) -> Result<Result<u32, u32>, u64>
-    requires ready { IsReady (S.flies store.old []) (S.depth store.old) (S.tells store.old) (S.disk store.old) }
-    requires range { IsRange (S.sectors store.old) (from + slot) (length room.old) }
-    requires near { from < 2 ^ 32 }
-    requires chunks { length map.old ≡ shape.now.chunks }
-    requires slots { slot + length room.old ≤ 4096 }
-    requires grammar { OnOk so_far (AreEntries shape.now shape.now.chunks map.old) }
-    requires within { IfOk so_far (λ next. next ≤ slot) }
-    ensures fault { IfErr result (λ number. IsStoreFault number (S.last store.new) (S.faults store.old) (S.faults store.new) (S.tells store.new) (S.disk store.old) (S.disk store.new)) }
-    ensures quiet { OnlyReads (S.flies store.new []) (S.sectors store.old) (S.sectors store.new) (S.depth store.old) (S.depth store.new) (S.faults store.old) (S.faults store.new) (S.tells store.old) (S.tells store.new) (S.records store.old) (S.records store.new) (S.disk store.old) (S.disk store.new) }
-    ensures size { length map.new ≡ length map.old }
-    ensures grammar { IfOk result (λ after. OnOk after (AreEntries shape.now shape.now.chunks map.new)) }
-    ensures within { IfOk result (λ after. IfOk after (λ next. next ≤ slot + length room.old)) }
-    ensures replayed { IfOk result (λ after. S.tells store.new → (pages : List AnyEntry) → Replayed shape.now (area_at (S.disk store.new).held from) slot pages map.old so_far
-        → Replayed shape.now (area_at (S.disk store.new).held from) (slot + length room.old) pages map.new after) }
-{
-    read_only(store, from + u64::from(slot), room)?;
-    match so_far {
-        Ok(next) => Ok(take_slots(room, slot, shape, map, next)),
-        Err(bad) => Ok(Err(bad)),
-    }
 }
 
 /// Reads all `count` slots, which begin at sector `from`, and applies their facts. What it answers is one past the highest slot
@@ -125,33 +96,24 @@ pub fn replay<S: Store>(
     shape: &Shape2,
     map: &mut Map,
 ) -> Result<Result<u32, u32>, u64>
-    requires ready { IsReady (S.flies store.old []) (S.depth store.old) (S.tells store.old) (S.disk store.old) }
+    requires ready { IsReady S.Store store.old }
     requires room { length room.old ≡ MOST }
-    requires near { from < 2 ^ 32 }
-    requires chunks { length map.old ≡ shape.now.chunks }
+    requires area { IsArea (S.sectors store.old) from count }
     requires count { count ≤ 4096 }
-    requires range { from + count ≤ S.sectors store.old }
-    requires grammar { AreEntries shape.now shape.now.chunks map.old }
-    ensures fault { IfErr result (λ number. IsStoreFault number (S.last store.new) (S.faults store.old) (S.faults store.new) (S.tells store.new) (S.disk store.old) (S.disk store.new)) }
-    ensures quiet { OnlyReads (S.flies store.new []) (S.sectors store.old) (S.sectors store.new) (S.depth store.old) (S.depth store.new) (S.faults store.old) (S.faults store.new) (S.tells store.old) (S.tells store.new) (S.records store.old) (S.records store.new) (S.disk store.old) (S.disk store.new) }
+    requires map { IsMap shape.now map.old }
+    ensures fault { IfErr result (IsStoreFault S.Store store.old store.new) }
+    ensures quiet { OnlyReads S.Store store.old store.new }
     ensures size { length map.new ≡ length map.old }
-    ensures grammar { IfOk result (λ after. OnOk after (AreEntries shape.now shape.now.chunks map.new)) }
-    ensures within { IfOk result (λ after. IfOk after (λ next. next ≤ count)) }
+    ensures taken { IfOk result (λ after. IfOk after (λ next. AreTaken shape.now count next map.new)) }
     ensures replayed { IfOk result (λ after. S.tells store.new → Replayed shape.now (area_at (S.disk store.new).held from) count map.old map.new after) }
 {
     let mut done = 0;
     let mut so_far = Ok(0);
     while done < count {
         let some = (count - done).min(2048);
-        so_far = read_slots(
-            store,
-            &mut room[..some as usize],
-            from,
-            done,
-            shape,
-            map,
-            so_far,
-        )?;
+        let slots = &mut room[..some as usize];
+        read_only(store, from + u64::from(done), slots)?;
+        so_far = take_slots(slots, done, shape, map, so_far);
         done += some;
     }
     Ok(so_far)

@@ -4,7 +4,7 @@ ghost use Rattle.std.specs.Prelude.{ℕ, ◌≡◌, ◌+◌, ◌-◌, ◌*◌, �
 ghost use Rattle.vd_format.specs.Entries.{empty_entry};
 ghost use Rattle.vd_bits.specs.Blocks.{bits_in};
 ghost use Rattle.vd_replay.specs.Pages.{AreEntries};
-ghost use Rattle.vd_replay.specs.Placing.{IsShape, Places, IsTwin, Placed, AreMarked, Differs};
+ghost use Rattle.vd_replay.specs.Placing.{IsShape, AreSized, Places, IsTwin, Placed, AreMarked, Differs};
 
 use vd_bits::bits::Bits;
 use vd_bits::marked::Marked;
@@ -76,14 +76,8 @@ pub fn place_all(
     requires map { length map.now ≡ shape.now.chunks }
     requires entries { AreEntries shape.now shape.now.chunks map.now }
     requires shape { IsShape shape.now }
-    requires table { length table.old.chunks ≡ shape.now.chunks }
-    requires storage { table.old.storage ≡ shape.now.storage }
-    requires chunk { fresh.old.chunk ≡ shape.now.chunk }
-    requires fresh { length fresh.old.bits ≡ shape.now.blocks }
-    ensures table { length table.new.chunks ≡ length table.old.chunks }
-    ensures storage { table.new.storage ≡ table.old.storage }
-    ensures chunk { fresh.new.chunk ≡ fresh.old.chunk }
-    ensures fresh { length fresh.new.bits ≡ length fresh.old.bits }
+    requires sizes { AreSized shape.now table.old fresh.old }
+    ensures sizes { AreSized shape.now table.new fresh.new }
     ensures placed { Placed map.now table.new fresh.new result }
 {
     table.reset();

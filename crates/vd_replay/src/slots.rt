@@ -4,7 +4,7 @@ ghost use Rattle.std.specs.Prelude.{◌≡◌, ◌+◌, ◌^◌, ◌<◌, ◌≤
 ghost use Rattle.vd_device.specs.Tickets.{IsRange};
 ghost use Rattle.vd_reading.specs.Quiet.{IsReady, OnlyReads, IsStoreFault, sectors_from};
 ghost use Rattle.vd_replay.specs.Fresh.{counts, none_counts};
-ghost use Rattle.vd_replay.specs.Looking.{IsFreePiece};
+ghost use Rattle.vd_replay.specs.Looking.{IsArea, IsFreePiece};
 
 use crate::area::MOST;
 use vd_device::Store;
@@ -46,11 +46,11 @@ fn is_free_piece<S: Store>(
     version: u32,
     generation: u64,
 ) -> Result<bool, u64>
-    requires ready { IsReady (S.flies store.old []) (S.depth store.old) (S.tells store.old) (S.disk store.old) }
+    requires ready { IsReady S.Store store.old }
     requires range { IsRange (S.sectors store.old) first (length room.old) }
     requires version { 1 ≤ version }
-    ensures fault { IfErr result (λ number. IsStoreFault number (S.last store.new) (S.faults store.old) (S.faults store.new) (S.tells store.new) (S.disk store.old) (S.disk store.new)) }
-    ensures quiet { OnlyReads (S.flies store.new []) (S.sectors store.old) (S.sectors store.new) (S.depth store.old) (S.depth store.new) (S.faults store.old) (S.faults store.new) (S.tells store.old) (S.tells store.new) (S.records store.old) (S.records store.new) (S.disk store.old) (S.disk store.new) }
+    ensures fault { IfErr result (IsStoreFault S.Store store.old store.new) }
+    ensures quiet { OnlyReads S.Store store.old store.new }
     ensures read { IfOk result (λ free. S.tells store.new → IsFreePiece (S.disk store.new).held first (length room.old) version generation free) }
 {
     read_only(store, first, room)?;
@@ -66,14 +66,13 @@ pub fn are_slots_free<S: Store>(
     version: u32,
     generation: u64,
 ) -> Result<bool, u64>
-    requires ready { IsReady (S.flies store.old []) (S.depth store.old) (S.tells store.old) (S.disk store.old) }
+    requires ready { IsReady S.Store store.old }
     requires room { length room.old ≡ MOST }
-    requires range { from + count ≤ S.sectors store.old }
+    requires area { IsArea (S.sectors store.old) from count }
     requires few { count < 2 ^ 32 }
-    requires near { from < 2 ^ 32 }
     requires version { 1 ≤ version }
-    ensures fault { IfErr result (λ number. IsStoreFault number (S.last store.new) (S.faults store.old) (S.faults store.new) (S.tells store.new) (S.disk store.old) (S.disk store.new)) }
-    ensures quiet { OnlyReads (S.flies store.new []) (S.sectors store.old) (S.sectors store.new) (S.depth store.old) (S.depth store.new) (S.faults store.old) (S.faults store.new) (S.tells store.old) (S.tells store.new) (S.records store.old) (S.records store.new) (S.disk store.old) (S.disk store.new) }
+    ensures fault { IfErr result (IsStoreFault S.Store store.old store.new) }
+    ensures quiet { OnlyReads S.Store store.old store.new }
     ensures read { IfOk result (λ free. S.tells store.new → free ≡ none_counts version generation (sectors_from (S.disk store.new).held from count)) }
 {
     let mut done = 0;

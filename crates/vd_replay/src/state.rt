@@ -1,16 +1,16 @@
 //! A state: what an image says, as a disk goes on from it.
 
-ghost use Rattle.std.specs.Prelude.{◌≡◌, ◌⊎◌, ◌^◌, ◌<◌, ◌≤◌, [], false, true, length, None, Some, IfOk, IfErr, OnOk, OnErr};
+ghost use Rattle.std.specs.Prelude.{◌≡◌, ◌⊎◌, ◌^◌, ◌<◌, ◌≤◌, [], true, is_err, length, None, Some, IfOk, IfErr, OnOk, OnErr};
 ghost use Rattle.vd_reading.specs.Quiet.{IsReady, OnlyReads, AddsFlush, IsStoreFault};
 ghost use Rattle.vd_format.specs.Headers.{IsValid};
-ghost use Rattle.vd_format.specs.Layouts.{chunks_of, need_of};
+ghost use Rattle.vd_format.specs.Layouts.{need_of};
 ghost use Rattle.vd_image.specs.Image.{geometry_of};
 ghost use Rattle.vd_image.specs.Decoders.{shape_of};
-ghost use Rattle.vd_replay.specs.Pages.{AreEntries};
+ghost use Rattle.vd_replay.specs.Journal.{AreTaken};
 ghost use Rattle.vd_replay.specs.Placing.{IsShape};
-ghost use Rattle.vd_replay.specs.Filling.{AreApplied, Keeps, IsSettled, AreDouble, IsOfReading};
+ghost use Rattle.vd_replay.specs.Filling.{AreApplied, KeepsSizes, IsSettled, AreDouble, IsOfReading};
 ghost use Rattle.vd_replay.specs.Finding.{Found, ForStore};
-ghost use Rattle.vd_replay.specs.States.{IsSized, IsWhole, Says};
+ghost use Rattle.vd_replay.specs.States.{IsSized, IsWhole, IsOpened, Says};
 ghost use Rattle.vd_replay.specs.Refusals.{Unfilled, Refused, RefusedAgain, IsOfReload};
 
 use crate::buffer::ReadBuffer;
@@ -25,7 +25,7 @@ use vd_bits::bits::Bits;
 use vd_bits::marked::Marked;
 use vd_device::Store;
 use vd_header::{Header, layout_of};
-use vd_law::entry::{NoMemory, Sector};
+use vd_law::entry::NoMemory;
 use vd_map2::{Map, Shape2};
 use vd_table::table::Table;
 
@@ -73,50 +73,6 @@ fn shape_of(header: &Header) -> Shape2
     }
 }
 
-/// Reads the map and applies the journal. What it answers is one past the highest slot that counts.
-fn read_entries<S: Store>(
-    store: &mut S,
-    room: &mut [Sector],
-    header: &Header,
-    pages: &mut Map,
-    map: &mut Map,
-) -> Result<u32, OpenError>
-    requires ready { IsReady (S.flies store.old []) (S.depth store.old) (S.tells store.old) (S.disk store.old) }
-    requires room { length room.old ≡ 2048 }
-    requires valid { IsValid header.now }
-    requires large { need_of header.now ≤ S.sectors store.old }
-    requires pages { length pages.old ≡ chunks_of header.now }
-    requires map { length map.old ≡ chunks_of header.now }
-    ensures fault { IfErr result (ForStore (λ number. IsStoreFault number (S.last store.new) (S.faults store.old) (S.faults store.new) (S.tells store.new) (S.disk store.old) (S.disk store.new))) }
-    ensures quiet { OnlyReads (S.flies store.new []) (S.sectors store.old) (S.sectors store.new) (S.depth store.old) (S.depth store.new) (S.faults store.old) (S.faults store.new) (S.tells store.old) (S.tells store.new) (S.records store.old) (S.records store.new) (S.disk store.old) (S.disk store.new) }
-    ensures pages { length pages.new ≡ length pages.old }
-    ensures map { length map.new ≡ length map.old }
-    ensures grammar { OnOk result (AreEntries (shape_of header.now) (chunks_of header.now) map.new) }
-    ensures within { IfOk result (λ next. next ≤ header.now.slots) }
-    ensures errors { IfErr result IsOfReading }
-    ensures read { IfOk result (λ next. S.tells store.new → AreApplied header.now (S.disk store.new).held pages.new map.new next) }
-    ensures wrong { IfErr result (λ e. S.tells store.new → header.now.version ≡ 2 → Found (S.disk store.new).held header.now → Unfilled (S.disk store.new).held e) }
-{
-    let layout = layout_of(header);
-    let shape = shape_of(header);
-    match read_map(store, room, layout.spare_at, &shape, pages) {
-        Ok(Ok(())) => {}
-        Ok(Err(bad)) => {
-            return Err(OpenError::BadEntry {
-                chunk: bad.chunk,
-                value: bad.value,
-            });
-        }
-        Err(ticket) => return Err(OpenError::Store(ticket)),
-    }
-    copy(map, pages, shape.chunks);
-    match replay(store, room, layout.slots_at, header.slots, &shape, map) {
-        Ok(Ok(next)) => Ok(next),
-        Ok(Err(slot)) => Err(OpenError::BadRecord { slot }),
-        Err(ticket) => Err(OpenError::Store(ticket)),
-    }
-}
-
 impl State {
     /// A void state for an image with this header.
     fn empty(alloc: Global, header: Header) -> Result<State, NoMemory>
@@ -145,12 +101,10 @@ impl State {
     /// Goes on from the entries that were read, with the next record in slot `next`.
     fn settle(&mut self, next: u32) -> Result<(), OpenError>
         requires sized { IsSized self.old }
-        requires grammar { AreEntries (shape_of self.old.header) (chunks_of self.old.header) self.old.map }
-        requires within { next ≤ self.old.header.slots }
-        ensures kept { Keeps self.old self.new }
+        requires taken { AreTaken (shape_of self.old.header) self.old.header.slots next self.old.map }
+        ensures kept { KeepsSizes self.old self.new }
         ensures pages { self.new.pages ≡ self.old.pages }
         ensures map { self.new.map ≡ self.old.map }
-        ensures sized { IsSized self.new }
         ensures settled { OnOk result (IsSettled self.new next) }
         ensures whole { OnOk result (IsWhole self.new) }
         ensures twins { IfErr result (AreDouble self.new.map) }
@@ -170,18 +124,59 @@ impl State {
         Ok(())
     }
 
+    /// Reads the map and applies the journal. What it answers is one past the highest slot that counts.
+    fn read_entries<S: Store>(&mut self, store: &mut S) -> Result<u32, OpenError>
+        requires ready { IsReady S.Store store.old }
+        requires sized { IsSized self.old }
+        requires large { need_of self.old.header ≤ S.sectors store.old }
+        ensures errors { IfErr result (IsOfReading (IsStoreFault S.Store store.old store.new)) }
+        ensures quiet { OnlyReads S.Store store.old store.new }
+        ensures kept { KeepsSizes self.old self.new }
+        ensures taken { IfOk result (λ next. AreTaken (shape_of self.old.header) self.old.header.slots next self.new.map) }
+        ensures read { IfOk result (λ next. S.tells store.new → AreApplied self.old.header (S.disk store.new).held self.new.pages self.new.map next) }
+        ensures wrong { IfErr result (λ e. S.tells store.new → self.old.header.version ≡ 2 → Found (S.disk store.new).held self.old.header
+            → Unfilled (S.disk store.new).held e) }
+    {
+        let header = self.header;
+        let layout = layout_of(&header);
+        let shape = shape_of(&header);
+        let buffer = &mut self.buffer;
+        let room = &mut buffer.sectors;
+        match read_map(store, room, layout.spare_at, &shape, &mut self.pages) {
+            Ok(Ok(())) => {}
+            Ok(Err(bad)) => {
+                return Err(OpenError::BadEntry {
+                    chunk: bad.chunk,
+                    value: bad.value,
+                });
+            }
+            Err(ticket) => return Err(OpenError::Store(ticket)),
+        }
+        copy(&mut self.map, &self.pages, shape.chunks);
+        match replay(
+            store,
+            room,
+            layout.slots_at,
+            header.slots,
+            &shape,
+            &mut self.map,
+        ) {
+            Ok(Ok(next)) => Ok(next),
+            Ok(Err(slot)) => Err(OpenError::BadRecord { slot }),
+            Err(ticket) => Err(OpenError::Store(ticket)),
+        }
+    }
+
     /// Reads an image of version 1, which must be as it was made.
     fn read_old<S: Store>(&mut self, store: &mut S) -> Result<(), OpenError>
-        requires ready { IsReady (S.flies store.old []) (S.depth store.old) (S.tells store.old) (S.disk store.old) }
+        requires ready { IsReady S.Store store.old }
         requires sized { IsSized self.old }
         requires version { self.old.header.version ≡ 1 }
         requires large { need_of self.old.header ≤ S.sectors store.old }
-        ensures fault { IfErr result (ForStore (λ number. IsStoreFault number (S.last store.new) (S.faults store.old) (S.faults store.new) (S.tells store.new) (S.disk store.old) (S.disk store.new))) }
-        ensures quiet { OnlyReads (S.flies store.new []) (S.sectors store.old) (S.sectors store.new) (S.depth store.old) (S.depth store.new) (S.faults store.old) (S.faults store.new) (S.tells store.old) (S.tells store.new) (S.records store.old) (S.records store.new) (S.disk store.old) (S.disk store.new) }
-        ensures kept { Keeps self.old self.new }
-        ensures sized { IsSized self.new }
+        ensures errors { IfErr result (IsOfReading (IsStoreFault S.Store store.old store.new)) }
+        ensures quiet { OnlyReads S.Store store.old store.new }
+        ensures kept { KeepsSizes self.old self.new }
         ensures whole { OnOk result (IsWhole self.new) }
-        ensures errors { IfErr result IsOfReading }
         ensures says { OnOk result (S.tells store.new → Found (S.disk store.new).held self.new.header → Says (S.disk store.new).held self.new) }
         ensures wrong { IfErr result (λ e. S.tells store.new → Found (S.disk store.new).held self.new.header → Unfilled (S.disk store.new).held e) }
     {
@@ -200,42 +195,30 @@ impl State {
 
     /// Reads an image of version 2.
     fn read_current<S: Store>(&mut self, store: &mut S) -> Result<(), OpenError>
-        requires ready { IsReady (S.flies store.old []) (S.depth store.old) (S.tells store.old) (S.disk store.old) }
+        requires ready { IsReady S.Store store.old }
         requires sized { IsSized self.old }
         requires version { self.old.header.version ≡ 2 }
         requires large { need_of self.old.header ≤ S.sectors store.old }
-        ensures fault { IfErr result (ForStore (λ number. IsStoreFault number (S.last store.new) (S.faults store.old) (S.faults store.new) (S.tells store.new) (S.disk store.old) (S.disk store.new))) }
-        ensures quiet { OnlyReads (S.flies store.new []) (S.sectors store.old) (S.sectors store.new) (S.depth store.old) (S.depth store.new) (S.faults store.old) (S.faults store.new) (S.tells store.old) (S.tells store.new) (S.records store.old) (S.records store.new) (S.disk store.old) (S.disk store.new) }
-        ensures kept { Keeps self.old self.new }
-        ensures sized { IsSized self.new }
+        ensures errors { IfErr result (IsOfReading (IsStoreFault S.Store store.old store.new)) }
+        ensures quiet { OnlyReads S.Store store.old store.new }
+        ensures kept { KeepsSizes self.old self.new }
         ensures whole { OnOk result (IsWhole self.new) }
-        ensures errors { IfErr result IsOfReading }
         ensures says { OnOk result (S.tells store.new → Found (S.disk store.new).held self.new.header → Says (S.disk store.new).held self.new) }
         ensures wrong { IfErr result (λ e. S.tells store.new → Found (S.disk store.new).held self.new.header → Unfilled (S.disk store.new).held e) }
     {
-        let header = self.header;
-        let buffer = &mut self.buffer;
-        let next = read_entries(
-            store,
-            &mut buffer.sectors,
-            &header,
-            &mut self.pages,
-            &mut self.map,
-        )?;
+        let next = self.read_entries(store)?;
         self.settle(next)
     }
 
     /// Reads what its version has.
     fn read<S: Store>(&mut self, store: &mut S) -> Result<(), OpenError>
-        requires ready { IsReady (S.flies store.old []) (S.depth store.old) (S.tells store.old) (S.disk store.old) }
+        requires ready { IsReady S.Store store.old }
         requires sized { IsSized self.old }
         requires large { need_of self.old.header ≤ S.sectors store.old }
-        ensures fault { IfErr result (ForStore (λ number. IsStoreFault number (S.last store.new) (S.faults store.old) (S.faults store.new) (S.tells store.new) (S.disk store.old) (S.disk store.new))) }
-        ensures quiet { OnlyReads (S.flies store.new []) (S.sectors store.old) (S.sectors store.new) (S.depth store.old) (S.depth store.new) (S.faults store.old) (S.faults store.new) (S.tells store.old) (S.tells store.new) (S.records store.old) (S.records store.new) (S.disk store.old) (S.disk store.new) }
-        ensures kept { Keeps self.old self.new }
-        ensures sized { IsSized self.new }
+        ensures errors { IfErr result (IsOfReading (IsStoreFault S.Store store.old store.new)) }
+        ensures quiet { OnlyReads S.Store store.old store.new }
+        ensures kept { KeepsSizes self.old self.new }
         ensures whole { OnOk result (IsWhole self.new) }
-        ensures errors { IfErr result IsOfReading }
         ensures says { OnOk result (S.tells store.new → Found (S.disk store.new).held self.new.header → Says (S.disk store.new).held self.new) }
         ensures wrong { IfErr result (λ e. S.tells store.new → Found (S.disk store.new).held self.new.header → Unfilled (S.disk store.new).held e) }
     {
@@ -246,26 +229,22 @@ impl State {
         }
     }
 
-    /// Reads the image of this state's header.
+    /// Reads the image of this state's header. The state is void where that fails.
     fn fill<S: Store>(&mut self, store: &mut S) -> Result<(), OpenError>
-        requires ready { IsReady (S.flies store.old []) (S.depth store.old) (S.tells store.old) (S.disk store.old) }
+        requires ready { IsReady S.Store store.old }
         requires sized { IsSized self.old }
-        requires void { self.old.void ≡ true }
         requires large { need_of self.old.header ≤ S.sectors store.old }
-        ensures fault { IfErr result (ForStore (λ number. IsStoreFault number (S.last store.new) (S.faults store.old) (S.faults store.new) (S.tells store.new) (S.disk store.old) (S.disk store.new))) }
-        ensures quiet { OnlyReads (S.flies store.new []) (S.sectors store.old) (S.sectors store.new) (S.depth store.old) (S.depth store.new) (S.faults store.old) (S.faults store.new) (S.tells store.old) (S.tells store.new) (S.records store.old) (S.records store.new) (S.disk store.old) (S.disk store.new) }
-        ensures header { self.new.header ≡ self.old.header }
-        ensures full { OnOk result (self.new.void ≡ false) }
-        ensures void { OnErr result (self.new.void ≡ true) }
-        ensures sized { IsSized self.new }
+        ensures errors { IfErr result (IsOfReading (IsStoreFault S.Store store.old store.new)) }
+        ensures quiet { OnlyReads S.Store store.old store.new }
+        ensures kept { KeepsSizes self.old self.new }
+        ensures void { self.new.void ≡ is_err result }
         ensures whole { OnOk result (IsWhole self.new) }
-        ensures errors { IfErr result IsOfReading }
         ensures says { OnOk result (S.tells store.new → Found (S.disk store.new).held self.new.header → Says (S.disk store.new).held self.new) }
         ensures wrong { IfErr result (λ e. S.tells store.new → Found (S.disk store.new).held self.new.header → Unfilled (S.disk store.new).held e) }
     {
-        self.read(store)?;
-        self.void = false;
-        Ok(())
+        let read = self.read(store);
+        self.void = read.is_err();
+        read
     }
 
     /// Reads the image again, into this state: as `recover`, but for memory, which is never taken, and the version, which is that
@@ -275,16 +254,13 @@ impl State {
     pub fn reload<S: Store>(&mut self, store: &mut S) -> Result<(), OpenError>
         requires idle { S.flies store.old [] }
         requires sized { IsSized self.old }
-        ensures fault { IfErr result (ForStore (λ number. IsStoreFault number (S.last store.new) (S.faults store.old) (S.faults store.new) (S.tells store.new) (S.disk store.old) (S.disk store.new))) }
-        ensures quiet { OnlyReads (S.flies store.new []) (S.sectors store.old) (S.sectors store.new) (S.depth store.old) (S.depth store.new) (S.faults store.old) (S.faults store.new) (S.tells store.old) (S.tells store.new) (S.records store.old) (S.records store.new) (S.disk store.old) (S.disk store.new) }
-        ensures sized { IsSized self.new }
-        ensures whole { OnOk result (IsWhole self.new) }
-        ensures same { geometry_of self.new.header ≡ geometry_of self.old.header }
-        ensures full { OnOk result (self.new.void ≡ false) }
-        ensures void { OnErr result (self.new.void ≡ true) }
-        ensures room { OnOk result (need_of self.new.header ≤ S.sectors store.new) }
         // Neither OldVersion nor NoMemory comes.
-        ensures errors { IfErr result IsOfReload }
+        ensures errors { IfErr result (IsOfReload (IsStoreFault S.Store store.old store.new)) }
+        ensures quiet { OnlyReads S.Store store.old store.new }
+        ensures sized { IsSized self.new }
+        ensures same { geometry_of self.new.header ≡ geometry_of self.old.header }
+        ensures opened { OnOk result (IsOpened (S.sectors store.new) self.new) }
+        ensures void { OnErr result (self.new.void ≡ true) }
         ensures says { OnOk result (S.tells store.new → Says (S.disk store.new).held self.new) }
         ensures refused { IfErr result (λ e. S.tells store.new → RefusedAgain self.old.header (S.disk store.new).held e) }
     {
@@ -312,13 +288,10 @@ impl State {
 pub fn recover<S: Store>(alloc: Global, store: &mut S, oldest: u32) -> Result<State, OpenError>
     requires idle { S.flies store.old [] }
     requires oldest { (oldest ≡ 1) ⊎ (oldest ≡ 2) }
-    ensures fault { IfErr result (ForStore (λ number. IsStoreFault number (S.last store.new) (S.faults store.old) (S.faults store.new) (S.tells store.new) (S.disk store.old) (S.disk store.new))) }
-    ensures quiet { OnlyReads (S.flies store.new []) (S.sectors store.old) (S.sectors store.new) (S.depth store.old) (S.depth store.new) (S.faults store.old) (S.faults store.new) (S.tells store.old) (S.tells store.new) (S.records store.old) (S.records store.new) (S.disk store.old) (S.disk store.new) }
-    ensures sized { IfOk result IsSized }
-    ensures whole { IfOk result IsWhole }
-    ensures full { IfOk result (λ state. state.void ≡ false) }
+    ensures fault { IfErr result (ForStore (IsStoreFault S.Store store.old store.new)) }
+    ensures quiet { OnlyReads S.Store store.old store.new }
+    ensures opened { IfOk result (IsOpened (S.sectors store.new)) }
     ensures version { IfOk result (λ state. oldest ≤ state.header.version) }
-    ensures room { IfOk result (λ state. need_of state.header ≤ S.sectors store.new) }
     ensures flushed { IfOk result (λ state. S.tells store.new → AddsFlush (S.disk store.old) (S.disk store.new)) }
     ensures says { IfOk result (λ state. S.tells store.new → Says (S.disk store.new).held state) }
     ensures refused { IfErr result (λ e. S.tells store.new → Refused oldest (S.disk store.new).held e) }

@@ -256,11 +256,13 @@ fn shown(
 
 #[test]
 fn disks(rt: HostRuntime) -> Result<(), Fail> {
-    let rows: [(u64, u64, u64, Result<[u8; 6], DiskFault>); 6] = [
+    let rows: [(u64, u64, u64, Result<[u8; 6], DiskFault>); 7] = [
         (38, 0, 0, Ok([38, 39, 7, 0, 0, 0])),
         (46, 0, 0, Ok([0, 0, 48, 49, 50, 51])),
         (93, 0, 0, Ok([93, 94, 95, 0, 0, 0])),
         (96, 0, 1, Ok([0, 0, 0, 0, 0, 0])),
+        // A local block alone, while the base is away.
+        (40, 0, 1, Ok([7, 0, 0, 0, 0, 0])),
         // One ticket of the base, and then the fifth of the store.
         (38, 5, 2, Err(DiskFault::Store(5))),
         (38, 0, 1, Err(DiskFault::Base(1))),

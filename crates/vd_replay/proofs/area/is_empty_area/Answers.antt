@@ -8,14 +8,14 @@ use Rattle.vd_replay.proofs.AreaLaws.{more_read, nothing_read}
 use Rattle.vd_replay.proofs.area.is_empty_area.Goals as goal
 
 pub loop-done-init : goal.loop-done-init
-loop-done-init g c = (reads_nothing c.requires.ready.idle_is, λ told. nothing_read _ _ _, omega arith)
+loop-done-init g c = (reads_nothing c.requires.ready, λ told. nothing_read _ _ _, omega arith)
 
 pub is_empty_piece-requires-clause-ready : goal.is_empty_piece-requires-clause-ready
 is_empty_piece-requires-clause-ready g c = ready_again c.requires.ready c.loop-done.invariant.0
 
 pub is_empty_piece-requires-clause-range : goal.is_empty_piece-requires-clause-range
 is_empty_piece-requires-clause-range g c =
-    let same = c.loop-done.invariant.0.sectors_same in
+    let same = c.loop-done.invariant.0.keeps.counts.sectors in
     let n : length (take c.min-some.result c.loop-done.room) ≡ c.min-some.result = length-take-le c.min-some.result c.loop-done.room (omega arith) in
     (omega arith, omega arith, omega arith)
 
@@ -30,7 +30,7 @@ returns-in_err-piece-clause-quiet g c = reads_twice c.loop-done.invariant.0 c.is
 pub loop-done-preserved : goal.loop-done-preserved
 loop-done-preserved g c = (
   reads_twice c.loop-done.invariant.0 c.is_empty_piece.ensures.quiet,
-  (λ told. (let before = c.is_empty_piece.ensures.quiet.told_before told in
+  (λ told. (let before = c.is_empty_piece.ensures.quiet.keeps.telling.told_before told in
       let n : length (take c.min-some.result c.loop-done.room) ≡ c.min-some.result = length-take-le c.min-some.result c.loop-done.room (omega arith) in
       more_read (g.S.Store.disk c.loop-done.store).held (g.S.Store.disk c.is_empty_piece.new.store).held c.args.from c.args.bytes c.loop-done.done c.min-some.result _ c.loop-done.empty c.in_ok-piece.piece
       n (c.is_empty_piece.ensures.quiet.held told) (c.loop-done.invariant.1 before) (c.in_ok-piece.ensures.read told))),

@@ -1,4 +1,4 @@
-use Rattle.std.proofs.Common.{◌≡◌, ap, ◌∙◌, replicate, length}
+use Rattle.std.proofs.Common.{ap, ◌∙◌, replicate, length}
 use Rattle.vd_law.specs.declared.entry.Sector.{Sector}
 use Rattle.vd_replay.proofs.DiskLaws.{zero_filled}
 use Rattle.vd_replay.proofs.disk.clear.Goals as goal

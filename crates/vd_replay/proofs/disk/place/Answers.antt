@@ -1,4 +1,4 @@
-use Rattle.std.proofs.Common.{◌+◌, ◌*◌, ◌%◌, ◌<◌, ◌≡◌, arith}
+use Rattle.std.proofs.Common.{◌+◌, ◌*◌, ◌%◌, ◌<◌, arith}
 use Rattle.vd_format.specs.Layouts.{storage_start, need_of}
 use Rattle.vd_image.proofs.Layouts.{parts_inside}
 use Rattle.vd_replay.proofs.disk.place.Goals as goal

@@ -1,6 +1,5 @@
-use Rattle.std.proofs.Common.{ℕ, ◌≡◌, ◌<◌, length, Ok, refl, ap, sym, ◌∙◌, arith}
+use Rattle.std.proofs.Common.{◌≡◌, ◌<◌, length, Ok, refl, ap, sym, ◌∙◌, arith}
 use Rattle.vd_format.specs.Headers.{header_of}
-use Rattle.vd_reading.specs.Quiet.{IsReady}
 use Rattle.vd_reading.proofs.QuietLaws.{reads_twice, ready_again, flush_first}
 use Rattle.vd_replay.specs.Images.{image_of}
 use Rattle.vd_replay.proofs.FindingLaws.{no_sectors, first_sector, bad_header, found_header, not_found_header, valid_header, on_good}
@@ -12,6 +11,9 @@ returns-then-have-eq0-clause-not_found g c told = no_sectors c.args.kept (g.S.St
 
 pub judge-requires : goal.judge-requires
 judge-requires g c = let spells = (c.in-Ok.ensures.ok c.in-Ok.header).0 refl in spells.valid
+
+pub returns-in-Err-read_only-clause-quiet : goal.returns-in-Err-read_only-clause-quiet
+returns-in-Err-read_only-clause-quiet g c = reads_twice c.flush_only.ensures.quiet c.read_only.ensures.quiet
 
 pub returns-in-Ok-clause-quiet : goal.returns-in-Ok-clause-quiet
 returns-in-Ok-clause-quiet g c = reads_twice c.flush_only.ensures.quiet c.read_only.ensures.quiet
@@ -25,8 +27,8 @@ returns-in-Ok-clause-valid g c = let spells = (c.in-Ok.ensures.ok c.in-Ok.header
 known : (g : Over) (c : goal.After-judge g) → g.S.Store.tells c.read_only.new.store
     → (c.sectors_at_rest-have.result ≡ length (g.S.Store.disk c.read_only.new.store).held) × (0 < length (g.S.Store.disk c.read_only.new.store).held) × (header_of (image_of (g.S.Store.disk c.read_only.new.store).held 0) ≡ Ok c.in-Ok.header)
 known g c told =
-    let after_flush = c.in_default-read_only.ensures.quiet.told_before told in
-    let before = c.flush_only.ensures.quiet.told_before after_flush in
+    let after_flush = c.in_default-read_only.ensures.quiet.keeps.telling.told_before told in
+    let before = c.flush_only.ensures.quiet.keeps.telling.told_before after_flush in
     let size : length (g.S.Store.disk c.read_only.new.store).held ≡ c.sectors_at_rest-have.result =
     ap length (c.read_only.ensures.quiet.held told ∙ c.flush_only.ensures.quiet.held after_flush) ∙ c.sectors_at_rest-have.ensures.held before in
     let some : 0 < length (g.S.Store.disk c.read_only.new.store).held = (let k = c.if-have-eq0.false in omega arith) in
@@ -45,8 +47,8 @@ returns-in-Err-read_header-clause-quiet g c = reads_twice c.flush_only.ensures.q
 
 pub returns-in-Err-read_header-clause-not_found : goal.returns-in-Err-read_header-clause-not_found
 returns-in-Err-read_header-clause-not_found g c told =
-    let after_flush = c.in_default-read_only.ensures.quiet.told_before told in
-    let before = c.flush_only.ensures.quiet.told_before after_flush in
+    let after_flush = c.in_default-read_only.ensures.quiet.keeps.telling.told_before told in
+    let before = c.flush_only.ensures.quiet.keeps.telling.told_before after_flush in
     let size : length (g.S.Store.disk c.read_only.new.store).held ≡ c.sectors_at_rest-have.result =
     ap length (c.read_only.ensures.quiet.held told ∙ c.flush_only.ensures.quiet.held after_flush) ∙ c.sectors_at_rest-have.ensures.held before in
     let some : 0 < length (g.S.Store.disk c.read_only.new.store).held = (let k = c.if-have-eq0.false in omega arith) in
@@ -56,4 +58,4 @@ returns-in-Err-read_header-clause-not_found g c told =
 pub returns-in-Ok-clause-flushed : goal.returns-in-Ok-clause-flushed
 returns-in-Ok-clause-flushed g c = on_good _ c.judge.result (λ told.
     let recorded = c.in_flight-telling.ensures.recorded told in let quiet = c.read_only.ensures.quiet in
-    flush_first (g.S.Store.last c.flush_only.new.store) (c.flush_only.ensures.quiet.recorded (quiet.recorded_before recorded)).start (c.in_default.ensures.flushed (quiet.told_before told)) (quiet.recorded recorded))
+    flush_first (g.S.Store.last c.flush_only.new.store) (c.flush_only.ensures.quiet.recorded (quiet.keeps.telling.recorded_before recorded)).start (c.in_default.ensures.flushed (quiet.keeps.telling.told_before told)) (quiet.recorded recorded))

@@ -1,4 +1,4 @@
-use Rattle.std.proofs.Common.{ℕ, ◌≡◌, length, take}
+use Rattle.std.proofs.Common.{◌≡◌, length, take}
 use Rattle.vd_format.specs.declared.map.Shape2.{Shape2}
 use Rattle.vd_format.specs.Records.{AreFacts}
 use Rattle.vd_replay.specs.Pages.{AreEntries}

@@ -1,5 +1,5 @@
-use Rattle.std.proofs.Common.{ℕ, ◌+◌, ◌≡◌, List, ap, sym, ◌∙◌, subst}
-use Rattle.vd_format.specs.Records.{Said, slot_of}
+use Rattle.std.proofs.Common.{ap, sym, ◌∙◌}
+use Rattle.vd_format.specs.Records.{slot_of}
 use Rattle.vd_replay.proofs.JournalLaws.{said_other, said_facts, said_bad, replay_other, replay_facts, replay_bad}
 use Rattle.vd_replay.proofs.journal.take_slot.Goals as goal
 

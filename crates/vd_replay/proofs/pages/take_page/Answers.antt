@@ -1,5 +1,4 @@
-use Rattle.std.proofs.Common.{ℕ, ◌+◌, ◌-◌, ◌/◌, ◌%◌, ◌≡◌, ◌<◌, length, ap, sym, ◌∙◌, subst, refl, arith, List}
-use Rattle.std.specs.Prelude.{slice_set}
+use Rattle.std.proofs.Common.{◌+◌, ◌-◌, ◌/◌, ◌<◌, length, ap, sym, ◌∙◌, subst, arith, List}
 use Rattle.std.proofs.lemmas.List.{length-set}
 use Rattle.vd_format.specs.declared.map.Entry.{Entry}
 use Rattle.vd_replay.specs.Pages.{AreRead, AreEntries}

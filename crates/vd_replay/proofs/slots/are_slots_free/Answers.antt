@@ -7,14 +7,14 @@ use Rattle.vd_replay.proofs.SlotLaws.{more_free, none_read}
 use Rattle.vd_replay.proofs.slots.are_slots_free.Goals as goal
 
 pub loop-done-init : goal.loop-done-init
-loop-done-init g c = (reads_nothing c.requires.ready.idle_is, λ told. none_read _ _ _ _, omega arith)
+loop-done-init g c = (reads_nothing c.requires.ready, λ told. none_read _ _ _ _, omega arith)
 
 pub is_free_piece-requires-clause-ready : goal.is_free_piece-requires-clause-ready
 is_free_piece-requires-clause-ready g c = ready_again c.requires.ready c.loop-done.invariant.0
 
 pub is_free_piece-requires-clause-range : goal.is_free_piece-requires-clause-range
 is_free_piece-requires-clause-range g c =
-    let same = c.loop-done.invariant.0.sectors_same in
+    let same = c.loop-done.invariant.0.keeps.counts.sectors in
     let n : length (take c.min-some.result c.loop-done.room) ≡ c.min-some.result = length-take-le c.min-some.result c.loop-done.room (omega arith) in
     (omega arith, omega arith, omega arith)
 
@@ -29,7 +29,7 @@ returns-in_err-piece-clause-quiet g c = reads_twice c.loop-done.invariant.0 c.is
 pub loop-done-preserved : goal.loop-done-preserved
 loop-done-preserved g c = (
   reads_twice c.loop-done.invariant.0 c.is_free_piece.ensures.quiet,
-  (λ told. (let before = c.is_free_piece.ensures.quiet.told_before told in
+  (λ told. (let before = c.is_free_piece.ensures.quiet.keeps.telling.told_before told in
       let n : length (take c.min-some.result c.loop-done.room) ≡ c.min-some.result = length-take-le c.min-some.result c.loop-done.room (omega arith) in
       more_free (g.S.Store.disk c.loop-done.store).held (g.S.Store.disk c.is_free_piece.new.store).held c.args.from c.args.version c.args.generation c.loop-done.done c.min-some.result _ c.loop-done.free c.in_ok-piece.piece
       n (c.is_free_piece.ensures.quiet.held told) (c.loop-done.invariant.1 before) (c.in_ok-piece.ensures.read told))),

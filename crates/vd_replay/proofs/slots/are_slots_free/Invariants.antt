@@ -1,12 +1,11 @@
-use Rattle.std.proofs.Common.{◌-◌, ◌≤◌, []}
+use Rattle.std.proofs.Common.{◌-◌, ◌≤◌}
 use Rattle.vd_reading.specs.Quiet.{OnlyReads}
 use Rattle.vd_replay.specs.Looking.{IsFreePiece}
 use Rattle.vd_replay.proofs.slots.are_slots_free.Given as goal
 
 abbrev pub invariant-loop-done : goal.invariant-loop-done
 invariant-loop-done g l =
-    OnlyReads (g.S.Store.flies l.store []) (g.S.Store.sectors l.fn.store) (g.S.Store.sectors l.store) (g.S.Store.depth l.fn.store) (g.S.Store.depth l.store) (g.S.Store.faults l.fn.store) (g.S.Store.faults l.store)
-    (g.S.Store.tells l.fn.store) (g.S.Store.tells l.store) (g.S.Store.records l.fn.store) (g.S.Store.records l.store) (g.S.Store.disk l.fn.store) (g.S.Store.disk l.store)
+    OnlyReads g.S.Store l.fn.store l.store
     × (g.S.Store.tells l.store → IsFreePiece (g.S.Store.disk l.store).held l.from l.done l.version l.generation l.free)
     × (l.done ≤ l.count)
 
