@@ -49,16 +49,16 @@ seen_as g s b shape state keeping flusher passes history spare store_faults base
 
 within : {S : Type 0} (g : store.Ghosts S) (s : S) {passes : List Pass} {history : Numbered} → (g.tells s → IsLogged passes history (g.disk s)) → IsTold g s
     → g.records s → (history.opened ≤ length (g.disk s).log) ⊎ HasStopped (g.events s) (g.disk s)
-within g s logged told log = elim (told log) [ | inl tells ↦ inl (logged tells).since | inr stop ↦ inr stop ]
+within g s logged told log = elim (told log) [ inl tells ↦ inl (logged tells).since | inr stop ↦ inr stop ]
 
 module _ {S B : Type 0} (g : store.Ghosts S) (h : base.Ghosts B) (s : S) (b : B) {shape : Shape} {state : State} {keeping : Keeping} {flusher : Option ℕ} {passes : List Pass} {history : Numbered} {spare : Room} {store_faults base_faults : ℕ}
     {regions : List (Option Region)}
-    (kept : IsKept shape state.table state.fresh.bits regions passes history spare (g.sectors s) (g.depth s) (g.events s) (h.sectors b) (h.depth b) (g.flies s) (h.flies b))
-    (faithful : g.tells s → h.tells b → IsFaithfullyKept shape state.header state.table state.fresh.bits passes history (g.disk s) (g.last s) (h.content b) (h.sectors b))
-    (accounted : IsAccounted shape state.map state.table state.fresh.bits passes history.log.entries (g.last s) store_faults (g.faults s) (h.last b) base_faults (h.faults b))
+    (kept : IsKept g h shape state regions passes history spare s b)
+    (faithful : g.tells s → h.tells b → IsFaithfullyKept g h shape state passes history s b)
+    (accounted : IsAccounted g h shape state passes history store_faults base_faults s b)
     (logged : g.tells s → IsLogged passes history (g.disk s))
     (recorded : IsRecorded shape state passes flusher keeping)
-    (safely : g.tells s → h.tells b → IsSafelyKept state.header state.map state.table state.fresh.bits keeping flusher passes history (g.disk s) (h.content b) (g.sectors s))
+    (safely : g.tells s → h.tells b → IsSafelyKept g h state keeping flusher passes history s b)
     (stopped : g.records s → h.tells b → g.tells s ⊎ IsSafelyStopped state.header history (g.events s) (g.disk s) (h.content b))
     (told : IsTold g s) where
   pub has-opening : HasOpening g (seen_as g s b shape state keeping flusher passes history spare store_faults base_faults)
@@ -76,7 +76,7 @@ module _ {S B : Type 0} (g : store.Ghosts S) (h : base.Ghosts B) (s : S) (b : B)
     stored = accounted.stored;
     local = accounted.local;
     safe = λ log base_tells start is safe. (still-safe safely stopped log base_tells start is safe).crash_safe;
-    agrees = λ tells base_tells. told-agrees kept.coherent (faithful tells base_tells);
+    agrees = λ tells base_tells. told-agrees kept (faithful tells base_tells);
     apart = kept.coherent.placed;
   }
 

@@ -5,14 +5,14 @@ use Rattle.std.proofs.Math.Nat.{mod-lt}
 use Rattle.std.proofs.lemmas.Nat.{div-add-mod'}
 use Rattle.std.proofs.lemmas.Bool.{cases_lt}
 use Rattle.std.proofs.lemmas.Option.{slice_get-get_or, get_or_from_slice_get}
+use Rattle.vd_device.specs.declared.store.Store as store
+use Rattle.vd_device.specs.declared.base.Base as base
 use Rattle.vd_law.specs.declared.entry.Sector.{Sector}
 use Rattle.vd_law.specs.declared.entry.CallId.{CallId}
 use Rattle.vd_law.specs.declared.entry.Room.{Room}
 use Rattle.vd_law.specs.Entries.{Flush, Entry, Done, nothing, past}
 use Rattle.vd_law.specs.Contents.{could, last_done}
 use Rattle.vd_law.specs.Histories.{Numbered}
-use Rattle.vd_device.specs.declared.ticket.Ticket.{Ticket}
-use Rattle.vd_device.specs.Disks.{Disk}
 use Rattle.vd_format.specs.declared.header.Header.{Header}
 use Rattle.vd_format.specs.Layouts.{blocks_of}
 use Rattle.vd_image.specs.Log.{Writes, Ends, Flushes, NoneSureFrom}
@@ -67,13 +67,13 @@ sure-write log a flushes none_done s some none = elim (done_is (past log) s) [
       ]
 ]
 
-module _ {shape : Shape} {state : State} {regions : List (Option Region)} {passes : List Pass} {history : Numbered} {spare : Room} {sectors depth events base_sectors base_depth last : ℕ} {flies base_flies : List Ticket → Type 0} {flusher : Option ℕ} {k : Keeping} {disk : Disk} {base : List Sector}
-    (kept : IsKept shape state.table state.fresh.bits regions passes history spare sectors depth events base_sectors base_depth flies base_flies)
-    (told : IsFaithfullyKept shape state.header state.table state.fresh.bits passes history disk last base base_sectors)
+module _ {shape : Shape} {state : State} {regions : List (Option Region)} {passes : List Pass} {history : Numbered} {spare : Room} {S B : Type 0} {sg : store.Ghosts S} {bg : base.Ghosts B} {the_store : S} {the_base : B} {flusher : Option ℕ} {k : Keeping}
+    (kept : IsKept sg bg shape state regions passes history spare the_store the_base)
+    (told : IsFaithfullyKept sg bg shape state passes history the_store the_base)
     (local : AreLocalBy shape state.map state.fresh.bits history.log.entries) (recorded : IsRecorded shape state passes flusher k)
-    (was : IsSafelyKept state.header state.map state.table state.fresh.bits k flusher passes history disk base sectors)
-    (start : List Sector) (is : IsStart (opening_at history.opened disk) base state.header start) (safe : WasSafe (opening_at history.opened disk) state.header)
-    (ends : EndsFlushed history.log.entries) (held : List Sector) (may : MayHold disk held) where
+    (was : IsSafelyKept sg bg state k flusher passes history the_store the_base)
+    (start : List Sector) (is : IsStart (opening_at history.opened (sg.disk the_store)) (bg.content the_base) state.header start) (safe : WasSafe (opening_at history.opened (sg.disk the_store)) state.header)
+    (ends : EndsFlushed history.log.entries) (held : List Sector) (may : MayHold (sg.disk the_store) held) where
   abbrev h : Header
   h = state.header
 
@@ -93,11 +93,11 @@ module _ {shape : Shape} {state : State} {regions : List (Option Region)} {passe
     later = ends.later;
   }
 
-  agrees : AgreesWith shape state.table fresh start base history.log.entries disk
-  agrees = told-agrees kept.coherent told start is
+  agrees : AgreesWith shape state.table state.fresh.bits start (bg.content the_base) history.log.entries (sg.disk the_store)
+  agrees = told-agrees kept told start is
 
-  found : (s : ℕ) (v : Sector) → s < h.size → DiskHas (format_of h) (layout_of h) (base_at zero_sector base) zero_sector (image_of held) s v → IsFound h base state.table fresh k held s v
-  found = held-found h state.map disk.start (was.secured start is safe).0 base start history.opened state.table fresh k flusher passes history disk.log held (was.secured start is safe).1
+  found : (s : ℕ) (v : Sector) → s < h.size → DiskHas (format_of h) (layout_of h) (base_at zero_sector (bg.content the_base)) zero_sector (image_of held) s v → IsFound h (bg.content the_base) state.table state.fresh.bits k held s v
+  found = held-found h state.map (sg.disk the_store).start (was.secured start is safe).0 (bg.content the_base) start history.opened state.table state.fresh.bits k flusher passes history (sg.disk the_store).log held (was.secured start is safe).1
       (record { size = may.left.size; each = may.left.sectors; inside = all-inside was start is safe })
 
   -- The shape's numbers are the header's.
@@ -131,7 +131,7 @@ module _ {shape : Shape} {state : State} {regions : List (Option Region)} {passe
     in_start = let size = is.size in omega arith
 
     -- the block is local, with this storage: the store may hold the sector in its place
-    stored : (p : ℕ) → storage_of state.table (b / h.chunk) ≡ Some p → bit_of fresh b ≡ true → v ≡ image_of held ((layout_of h).place p s) → Contains (could start history.log.entries s) v
+    stored : (p : ℕ) → storage_of state.table (b / h.chunk) ≡ Some p → bit_of state.fresh.bits b ≡ true → v ≡ image_of held ((layout_of h).place p s) → Contains (could start history.log.entries s) v
     stored p given up value =
         let there : slice_get chunks (b / shape.chunk) ≡ Some (Some p) = ap (λ (n : ℕ). slice_get chunks (b / n)) chunk-same ∙ stored_has state.table (b / h.chunk) p given in
         let placed = place-some shape chunks b p there in
@@ -140,8 +140,8 @@ module _ {shape : Shape} {state : State} {regions : List (Option Region)} {passe
         let inside = (kept.coherent.placed.inside b x placed).1 in let size = may.left.size in let long = was.size in
         let reached : a < length held = (let block = in_block in omega (arith, inside, size, long, block)) in
         let content : v ≡ image_of held a = value ∙ ap (image_of held) (sym (place-is p)) in
-        agrees.held b x s v in_start in_block (up_there fresh b up) placed
-        (subst (λ (w : Sector). Contains (could disk.start disk.log a) w) (sym content) (may.now a (image_of held a) (slice_get-get_or held a zero_sector reached)))
+        agrees.held b x s v in_start in_block (up_there state.fresh.bits b up) placed
+        (subst (λ (w : Sector). Contains (could (sg.disk the_store).start (sg.disk the_store).log a) w) (sym content) (may.now a (image_of held a) (slice_get-get_or held a zero_sector reached)))
       where
         spread : (low p c n m r rest : ℕ) → rest ≡ m * n + r → low + (p * c + m) * n + r ≡ low + (p * (n * c) + rest)
         spread low p c n m r rest near = omega arith
@@ -155,9 +155,9 @@ module _ {shape : Shape} {state : State} {regions : List (Option Region)} {passe
             ∙ ap (λ (l : Layout). l.place p s) layout-same
 
     -- the block isn't in every image: then no write in it is done, and it isn't local
-    unstale-other : bit_of k.stale b ≡ false → slice_get fresh b ≡ Some false
+    unstale-other : bit_of k.stale b ≡ false → slice_get state.fresh.bits b ≡ Some false
     unstale-other unstale =
-        let bit = get_some fresh b (let size = kept.coherent.size in let inside = in_disk in omega arith) in
+        let bit = get_some state.fresh.bits b (let size = kept.coherent.size in let inside = in_disk in omega arith) in
         by bit.0 bit.1
       where
         unwritten : IsWrittenIn shape history.log.entries b → ⊥
@@ -165,33 +165,33 @@ module _ {shape : Shape} {state : State} {regions : List (Option Region)} {passe
             let near : w.0 / h.block ≡ b = (sector-place h.block h.chunk b w.0 some (subst (λ (n : ℕ). IsIn n b w.0) block-same w.1)).0 in
             let secured = was.secured start is safe in
             sure-write history.log.entries ends.ask flushes ends.none_done w.0 w.2
-            (unstale-unsure (opening_for h state.map disk.start secured.0 base start history.opened) state.table fresh k flusher passes history disk.log secured.1 w.0 (ap (bit_of k.stale) near ∙ unstale))
+            (unstale-unsure (opening_for h state.map (sg.disk the_store).start secured.0 (bg.content the_base) start history.opened) state.table state.fresh.bits k flusher passes history (sg.disk the_store).log secured.1 w.0 (ap (bit_of k.stale) near ∙ unstale))
 
-        by : (bit : Bool) → slice_get fresh b ≡ Some bit → slice_get fresh b ≡ Some false
+        by : (bit : Bool) → slice_get state.fresh.bits b ≡ Some bit → slice_get state.fresh.bits b ≡ Some false
         by false at = at
         by true at = absurd (elim ((local.each b in_disk).0 at) [
           | inl old ↦ (let marked = get_or_from_slice_get k.stale b true false (recorded.stale b in_disk old) in cc)
           | inr w ↦ unwritten w
         ])
 
-    behind : bit_of k.stale b ≡ false → v ≡ image_background (base_at zero_sector base) zero_sector k.header.tracked s → Contains (could start history.log.entries s) v
+    behind : bit_of k.stale b ≡ false → v ≡ image_background (base_at zero_sector (bg.content the_base)) zero_sector k.header.tracked s → Contains (could start history.log.entries s) v
     behind unstale value =
-        let same : v ≡ background base shape.tracked s = value
-        ∙ ap (λ (z : Sector). image_background (base_at z base) z k.header.tracked s) zeros-same
-        ∙ background-same base k.header.tracked s
-        ∙ ap (λ (t : ℕ). background base t s) (sym recorded.attended.tracked) in
+        let same : v ≡ background (bg.content the_base) shape.tracked s = value
+        ∙ ap (λ (z : Sector). image_background (base_at z (bg.content the_base)) z k.header.tracked s) zeros-same
+        ∙ background-same (bg.content the_base) k.header.tracked s
+        ∙ ap (λ (t : ℕ). background (bg.content the_base) t s) (sym recorded.attended.tracked) in
         subst (λ (w : Sector). Contains (could start history.log.entries s) w) (sym same) (agrees.behind b s in_start in_block (unstale-other unstale))
 
-    shown : DiskHas (format_of h) (layout_of h) (base_at zero_sector base) zero_sector (image_of held) s v → Contains (could start history.log.entries s) v
+    shown : DiskHas (format_of h) (layout_of h) (base_at zero_sector (bg.content the_base)) zero_sector (image_of held) s v → Contains (could start history.log.entries s) v
     shown has = elim (found s v within has) [
       | inl here ↦ stored here.0 here.1 here.2 here.3
       | inr other ↦ behind other.0 other.1
     ]
 
-  pub shows-could : ShowsCould h base start history.log.entries held
+  pub shows-could : ShowsCould h (bg.content the_base) start history.log.entries held
   shows-could = record {
     each = λ g same s v within has.
         shown s v (let size = ap (λ (z : Geometry). z.size) same in omega arith)
-        (subst (λ (f : Format). DiskHas f (layout_of h) (base_at zero_sector base) zero_sector (image_of held) s v) (same_format g h same)
-        (subst (λ (l : Layout). DiskHas (format_of g) l (base_at zero_sector base) zero_sector (image_of held) s v) (same_layout g h same) has));
+        (subst (λ (f : Format). DiskHas f (layout_of h) (base_at zero_sector (bg.content the_base)) zero_sector (image_of held) s v) (same_format g h same)
+        (subst (λ (l : Layout). DiskHas (format_of g) l (base_at zero_sector (bg.content the_base)) zero_sector (image_of held) s v) (same_layout g h same) has));
   }

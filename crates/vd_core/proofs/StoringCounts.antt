@@ -1,6 +1,6 @@
 -- Which chunks are counted as having storage, and why each Full was given, after further entries of the history.
 use Rattle.std.proofs.Common.{◌≡◌, ℕ, zero, suc, ◌+◌, ◌<◌, ◌≤◌, Bool, false, not, ◌&&◌, ◌||◌, List, [], ◌∷◌, ◌++◌, length, take, refl, sym, subst, ◌∙◌, ap, inl, inr, arith, length-append, Some, slice_get}
-use Rattle.std.specs.List.{AllByRecursion, list_any, count_by, range_with_len}
+use Rattle.std.specs.List.{AllByRecursion, list_any}
 use Rattle.std.proofs.Math.Path.{fun_ext}
 use Rattle.std.proofs.Math.Bool.{or-false}
 use Rattle.std.proofs.lemmas.Bool.{cases_lt}
@@ -15,7 +15,6 @@ use Rattle.vd_law.specs.Entries.{Asked, Write, Entry, Ask, Reply}
 use Rattle.vd_passes.specs.declared.shape.Shape.{Shape}
 use Rattle.vd_passes.proofs.Lists.{some-inj}
 use Rattle.vd_passes.proofs.Answered.{IsOfAnother}
-use Rattle.vd_core.specs.Asking.{run_from, run_count}
 use Rattle.vd_core.specs.Storing.{touches, is_full_to, is_answered_full, counts_for, gives_storage, is_counted, IsFullCaused, AreFullsCaused}
 
 -- Members of two lists in a row.

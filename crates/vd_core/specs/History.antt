@@ -1,5 +1,5 @@
 -- What the history of a core is known to be.
-use Rattle.std.specs.Prelude.{ℕ, ◌≡◌, ◌⊎◌, ◌*◌, ◌≤◌, List, length}
+use Rattle.std.specs.Prelude.{◌≡◌, ◌⊎◌, ◌*◌, ◌≤◌, List, length}
 use Rattle.vd_law.specs.declared.entry.Sector.{Sector}
 use Rattle.vd_law.specs.Rules.{IsRegular, IsLegal}
 use Rattle.vd_device.specs.declared.store.Store as store

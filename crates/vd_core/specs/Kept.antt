@@ -5,7 +5,8 @@ use Rattle.vd_law.specs.declared.entry.Sector.{Sector}
 use Rattle.vd_law.specs.declared.entry.Room.{Room}
 use Rattle.vd_law.specs.Entries.{Entry}
 use Rattle.vd_law.specs.Histories.{Numbered, IsRising, last_number}
-use Rattle.vd_device.specs.declared.ticket.Ticket.{Ticket}
+use Rattle.vd_device.specs.declared.store.Store as store
+use Rattle.vd_device.specs.declared.base.Base as base
 use Rattle.vd_device.specs.Disks.{Disk, HasStopped}
 use Rattle.vd_regions.specs.declared.regions.Region.{Region}
 use Rattle.vd_format.specs.declared.header.Header.{Header}
@@ -52,20 +53,20 @@ pub record IsStorage (shape : Shape) (table : Given) (sectors : ℕ) : Type 0 wh
   pub one_to_one : IsOneToOne table
   pub inside : shape.storage_at + table.storage * (shape.chunk * shape.block) ≤ sectors
 
--- what is kept whatever the devices tell
-pub record IsKept (shape : Shape) (table : Given) (fresh : List Bool) (regions : List (Option Region)) (passes : List Pass) (history : Numbered) (spare : Room)
-    (sectors depth events base_sectors base_depth : ℕ) (flies base_flies : List Ticket → Type 0) : Type 0 where
-  pub coherent : IsCoherent shape fresh (place_of shape table.chunks) passes history.log.entries sectors depth base_sectors base_depth flies base_flies
-  pub held : regions ≡ map region_of passes
-  pub roomy : IsRoomy shape.block passes history spare events
-  pub storage : IsStorage shape table sectors
+-- What a device has counted: the number of its last ticket, and how often it had failed at opening and has failed now.
+pub record Counted : Type 0 where
+  pub last : ℕ
+  pub at_opening : ℕ
+  pub faults : ℕ
+
+abbrev pub counted : (last at_opening faults : ℕ) → Counted
+counted last at_opening faults = record { last = last; at_opening = at_opening; faults = faults }
 
 -- Why the answers of a history are as they are: each fault names a ticket of its device, which has failed as often, a Full is due
 -- to what writes have taken, and each entry is of one of the passes. And why the local blocks are those that they are.
-pub record IsAccounted (shape : Shape) (had : List MapEntry) (table : Given) (fresh : List Bool) (passes : List Pass) (history : List Entry)
-    (last faults_at_opening faults base_last base_faults_at_opening base_faults : ℕ) : Type 0 where
-  pub of_store : IsBlamed OfStore passes history last faults_at_opening faults
-  pub of_base : IsBlamed OfBase passes history base_last base_faults_at_opening base_faults
+pub record IsExplained (shape : Shape) (had : List MapEntry) (table : Given) (fresh : List Bool) (passes : List Pass) (history : List Entry) (store base : Counted) : Type 0 where
+  pub of_store : IsBlamed OfStore passes history store.last store.at_opening store.faults
+  pub of_base : IsBlamed OfBase passes history base.last base.at_opening base.faults
   pub stored : IsStoredBy shape had table history
   pub local : AreLocalBy shape had fresh history
   pub of_passes : AreOfPasses passes history
@@ -75,13 +76,6 @@ pub record IsLogged (passes : List Pass) (history : Numbered) (disk : Disk) : Ty
   pub since : history.opened ≤ length disk.log
   pub followed : IsFollowed passes history.log.entries history.numbers disk.log
 
--- And what is kept where both devices tell: from whatever the guest's disk was when the core was made, by the store's first `opened`
--- events, each read saw what could stand there, and the store agrees with the history.
-pub record IsFaithfullyKept (shape : Shape) (h : Header) (table : Given) (fresh : List Bool) (passes : List Pass) (history : Numbered) (disk : Disk) (last : ℕ) (base : List Sector) (base_sectors : ℕ) : Type 0 where
-  pub base_size : length base ≡ base_sectors
-  pub faithful : (start : List Sector) → IsStart (opening_at history.opened disk) base h start
-      → IsFaithful start (background base shape.tracked) shape fresh (place_of shape table.chunks) passes history.log.entries disk last
-
 -- The metadata: the keeper and the pass that flushes are attended to, the state from which the core was opened can be read again, and
 -- the blocks that were local then are so in every image.
 pub record IsRecorded (shape : Shape) (state : State) (passes : List Pass) (flusher : Option ℕ) (k : Keeping) : Type 0 where
@@ -89,14 +83,6 @@ pub record IsRecorded (shape : Shape) (state : State) (passes : List Pass) (flus
   pub sized : IsSized state
   pub same : geometry_of k.header ≡ geometry_of state.header
   pub stale : HaveMarks shape state.map k.stale
-
--- What is kept where both devices tell so that each image that a crash may leave is safe, if that was so when the core was made: each
--- write since then lies in the store; and from whatever the guest's disk was then, the laws of crash safety know the core.
-pub record IsSafelyKept (h : Header) (entries : List MapEntry) (table : Given) (fresh : List Bool) (k : Keeping) (flusher : Option ℕ) (passes : List Pass) (history : Numbered) (disk : Disk) (base : List Sector) (sectors : ℕ) : Type 0 where
-  pub size : length disk.start ≡ sectors
-  pub inside : (i a : ℕ) (v : Sector) → history.opened ≤ i → Writes disk.log i a v → a < sectors
-  pub secured : (start : List Sector) → IsStart (opening_at history.opened disk) base h start → WasSafe (opening_at history.opened disk) h
-      → (held : ℕ → Sector) × IsSecured (opening_for h entries disk.start held base start history.opened) table fresh k flusher passes history disk.log
 
 -- The history is crash safe from this disk of the guest, by the store's log as it stands. Its numbers rise, so that no later entry
 -- speaks of an earlier moment.
@@ -110,3 +96,31 @@ pub record IsStillSafe (h : Header) (base start : List Sector) (disk : Disk) (hi
 pub record IsSafelyStopped (h : Header) (history : Numbered) (events : ℕ) (disk : Disk) (base : List Sector) : Type 0 where
   pub stopped : HasStopped events disk
   pub safe : (start : List Sector) → IsStart (opening_at history.opened disk) base h start → WasSafe (opening_at history.opened disk) h → IsStillSafe h base start disk history
+
+module _ {S B : Type 0} (g : store.Ghosts S) (h : base.Ghosts B) where
+  -- what is kept whatever the devices tell
+  pub record IsKept (shape : Shape) (state : State) (regions : List (Option Region)) (passes : List Pass) (history : Numbered) (spare : Room) (s : S) (b : B) : Type 0 where
+    pub coherent : IsCoherent shape state.fresh.bits (place_of shape state.table.chunks) passes history.log.entries (g.sectors s) (g.depth s) (h.sectors b) (h.depth b) (g.flies s) (h.flies b)
+    pub held : regions ≡ map region_of passes
+    pub roomy : IsRoomy shape.block passes history spare (g.events s)
+    pub storage : IsStorage shape state.table (g.sectors s)
+
+  -- Why the answers and the local blocks are as they are, while the devices had failed so often at opening.
+  abbrev pub IsAccounted : Shape → State → List Pass → Numbered → (store_faults base_faults : ℕ) → S → B → Type 0
+  IsAccounted shape state passes history store_faults base_faults s b =
+      IsExplained shape state.map state.table state.fresh.bits passes history.log.entries (counted (g.last s) store_faults (g.faults s)) (counted (h.last b) base_faults (h.faults b))
+
+  -- What is kept where both devices tell: from whatever the guest's disk was when the core was made, by the store's first `opened`
+  -- events, each read saw what could stand there, and the store agrees with the history.
+  pub record IsFaithfullyKept (shape : Shape) (state : State) (passes : List Pass) (history : Numbered) (s : S) (b : B) : Type 0 where
+    pub base_size : length (h.content b) ≡ h.sectors b
+    pub faithful : (start : List Sector) → IsStart (opening_at history.opened (g.disk s)) (h.content b) state.header start
+        → IsFaithful start (background (h.content b) shape.tracked) shape state.fresh.bits (place_of shape state.table.chunks) passes history.log.entries (g.disk s) (g.last s)
+
+  -- What is kept where both devices tell so that each image that a crash may leave is safe, if that was so when the core was made: each
+  -- write since then lies in the store; and from whatever the guest's disk was then, the laws of crash safety know the core.
+  pub record IsSafelyKept (state : State) (k : Keeping) (flusher : Option ℕ) (passes : List Pass) (history : Numbered) (s : S) (b : B) : Type 0 where
+    pub size : length (g.disk s).start ≡ g.sectors s
+    pub inside : (i a : ℕ) (v : Sector) → history.opened ≤ i → Writes (g.disk s).log i a v → a < g.sectors s
+    pub secured : (start : List Sector) → IsStart (opening_at history.opened (g.disk s)) (h.content b) state.header start → WasSafe (opening_at history.opened (g.disk s)) state.header
+        → (held : ℕ → Sector) × IsSecured (opening_for state.header state.map (g.disk s).start held (h.content b) start history.opened) state.table state.fresh.bits k flusher passes history (g.disk s).log

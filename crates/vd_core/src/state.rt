@@ -71,13 +71,12 @@ impl<S: Store, B: Base> Model for Core<S, B> {
       base_faults = c.base_faults;
     } };
 
-    ghost invariant = { λ c. IsKept c.shape c.state.table c.state.fresh.bits c.regions c.passes.items c.history c.spare
-        (S.sectors c.store) (S.depth c.store) (S.events c.store) (B.sectors c.base) (B.depth c.base) (S.flies c.store) (B.flies c.base)
-        × (S.tells c.store → B.tells c.base → IsFaithfullyKept c.shape c.state.header c.state.table c.state.fresh.bits c.passes.items c.history (S.disk c.store) (S.last c.store) (B.content c.base) (B.sectors c.base))
-        × IsAccounted c.shape c.state.map c.state.table c.state.fresh.bits c.passes.items c.history.log.entries (S.last c.store) c.store_faults (S.faults c.store) (B.last c.base) c.base_faults (B.faults c.base)
+    ghost invariant = { λ c. IsKept S.Store B.Base c.shape c.state c.regions c.passes.items c.history c.spare c.store c.base
+        × (S.tells c.store → B.tells c.base → IsFaithfullyKept S.Store B.Base c.shape c.state c.passes.items c.history c.store c.base)
+        × IsAccounted S.Store B.Base c.shape c.state c.passes.items c.history c.store_faults c.base_faults c.store c.base
         × (S.tells c.store → IsLogged c.passes.items c.history (S.disk c.store))
         × IsRecorded c.shape c.state c.passes.items c.flusher c.keeper
-        × (S.tells c.store → B.tells c.base → IsSafelyKept c.state.header c.state.map c.state.table c.state.fresh.bits c.keeper c.flusher c.passes.items c.history (S.disk c.store) (B.content c.base) (S.sectors c.store))
+        × (S.tells c.store → B.tells c.base → IsSafelyKept S.Store B.Base c.state c.keeper c.flusher c.passes.items c.history c.store c.base)
         × (S.records c.store → B.tells c.base → S.tells c.store ⊎ IsSafelyStopped c.state.header c.history (S.events c.store) (S.disk c.store) (B.content c.base))
         × IsTold S.Store c.store };
 }

@@ -26,6 +26,7 @@ for_store (error.Changed field) more is = tt
 for_store error.NotBuilt more is = tt
 for_store error.NoMemory more is = tt
 
+-- the same, of an error of a reading
 pub reading_fault : {P Q : ℕ → Type 0} (e : OpenError) → ((ticket : ℕ) → P ticket → Q ticket) → IsOfReading P e → ForStore Q e
 reading_fault (error.Store ticket) more is = more ticket is
 reading_fault (error.Header e) more is = absurd is

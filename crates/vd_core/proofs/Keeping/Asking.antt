@@ -1,15 +1,14 @@
 -- Asking a request keeps a core.
-use Rattle.std.proofs.Common.{◌≡◌, ℕ, ◌+◌, ◌-◌, ◌*◌, ◌^◌, Bool, false, List, length, refl, sym, ◌∙◌, ap, inl, inr, arith, Option, Some, slice_get}
-use Rattle.vd_law.specs.declared.entry.Sector.{Sector}
+use Rattle.std.proofs.Common.{◌≡◌, ℕ, ◌+◌, ◌-◌, ◌*◌, ◌^◌, false, List, length, refl, sym, ◌∙◌, ap, inl, inr, arith, Option, Some, slice_get}
+use Rattle.vd_device.specs.declared.store.Store as store
+use Rattle.vd_device.specs.declared.base.Base as base
+use Rattle.vd_replay.specs.declared.state.State.{State}
 use Rattle.vd_law.specs.declared.entry.Room.{Room}
 use Rattle.vd_law.specs.declared.entry.Answer.{Answer}
 use Rattle.vd_law.specs.Entries.{Asked, Read, Write, Flush}
 use Rattle.vd_law.specs.Histories.{Numbered}
 use Rattle.vd_law.specs.Logs.{asked_content}
 use Rattle.vd_law.specs.Rules.{IsInside}
-use Rattle.vd_device.specs.declared.ticket.Ticket.{Ticket}
-use Rattle.vd_device.specs.Disks.{Disk}
-use Rattle.vd_format.specs.declared.header.Header.{Header}
 use Rattle.vd_regions.specs.declared.regions.Region.{Region}
 use Rattle.vd_table.specs.Tables.{Given}
 use Rattle.vd_passes.specs.declared.shape.Shape.{Shape}
@@ -36,10 +35,10 @@ asked-has p (Read first count) events sectors = (refl, refl, refl)
 asked-has p (Write first content) events sectors = (refl, refl, refl)
 asked-has p Flush events sectors = (refl, refl, refl)
 
-module _ {shape : Shape} {table : Given} {fresh : List Bool} {regions : List (Option Region)} {passes : List Pass} {history : Numbered} {spare : Room} {sectors depth events base_sectors base_depth : ℕ} {flies base_flies : List Ticket → Type 0}
-    (request : Asked) (i : ℕ) (kept : IsKept shape table fresh regions passes history spare sectors depth events base_sectors base_depth flies base_flies)
+module _ {shape : Shape} {state : State} {regions : List (Option Region)} {passes : List Pass} {history : Numbered} {spare : Room} {S B : Type 0} {g : store.Ghosts S} {h : base.Ghosts B} {s : S} {b : B}
+    (request : Asked) (i : ℕ) (kept : IsKept g h shape state regions passes history spare s b)
     (at : IsAt passes i (λ p. p.phase ≡ Idle)) (size : HasSize request) (inside : IsInside (shape.block * shape.blocks) request) where
-  pub can-ask : CanAsk shape table passes history spare events request i
+  pub can-ask : CanAsk shape state.table passes history spare (g.events s) request i
   can-ask = record {
     some_block = kept.coherent.shaped.some;
     small_block = kept.coherent.shaped.small;
@@ -48,7 +47,7 @@ module _ {shape : Shape} {table : Given} {fresh : List Bool} {regions : List (Op
     there = (at.0, at.1, (let h = kept.roomy.calls i at.0 at.1 in let b = kept.roomy.bounded in omega (arith, h, b)));
     size = size;
     range = inside-more request (shape.block * shape.blocks) (2 ^ 26) kept.coherent.shaped.size inside;
-    run = run-inside shape request (length table.chunks) kept.storage.chunks kept.coherent.shaped.some kept.coherent.shaped.some_blocks size inside;
+    run = run-inside shape request (length state.table.chunks) kept.storage.chunks kept.coherent.shaped.some kept.coherent.shaped.some_blocks size inside;
     spare_events = let h = kept.roomy.spare_events in omega (arith, h);
     spare_sectors = let h = kept.roomy.spare_sectors in omega (arith, h);
     later = kept.roomy.later;
@@ -65,8 +64,8 @@ module _ {shape : Shape} {table : Given} {fresh : List Bool} {regions : List (Op
   none-held = phase-at false Idle passes i refl at
 
   -- A write is answered Full.
-  module _ {needed free : ℕ} {table' : Given} {passes' : List Pass} {history' : Numbered} {spare' : Room} (ends : EndsFull request needed free events i (asking shape table passes history spare) (asking shape table' passes' history' spare')) where
-    full-roomy : IsRoomy shape.block passes' history' spare' events
+  module _ {needed free : ℕ} {table' : Given} {passes' : List Pass} {history' : Numbered} {spare' : Room} (ends : EndsFull request needed free (g.events s) i (asking shape state.table passes history spare) (asking shape table' passes' history' spare')) where
+    full-roomy : IsRoomy shape.block passes' history' spare' (g.events s)
     full-roomy =
         let step = ends.asks in let none = none-left step.there in
         let few = need-events shape.block request in let told = need-sectors shape.block request in
@@ -76,8 +75,8 @@ module _ {shape : Shape} {table : Given} {fresh : List Bool} {regions : List (Op
         (omega (arith, few, a, c)) (omega (arith, told, b, d)) (omega arith) (omega arith)
 
   -- The request is asked.
-  module _ {table' : Given} {passes' : List Pass} {history' : Numbered} {spare' : Room} (ends : EndsAsked request events i (asking shape table passes history spare) (asking shape table' passes' history' spare')) where
-    asked-roomy : IsRoomy shape.block passes' history' spare' events
+  module _ {table' : Given} {passes' : List Pass} {history' : Numbered} {spare' : Room} (ends : EndsAsked request (g.events s) i (asking shape state.table passes history spare) (asking shape table' passes' history' spare')) where
+    asked-roomy : IsRoomy shape.block passes' history' spare' (g.events s)
     asked-roomy =
         let step = ends.asks in let none = none-left step.there in
         let few = need-events shape.block request in let told = need-sectors shape.block request in
@@ -87,16 +86,16 @@ module _ {shape : Shape} {table : Given} {fresh : List Bool} {regions : List (Op
         room-shared kept.roomy i step.there step.after ends.extends (room-asked shape.block step.pass request _ _ (omega (arith, few)) (omega (arith, told))) spare'
         (omega (arith, few, a, c, own.0, none.0)) (omega (arith, told, b, d, own.1, none.1)) (omega (arith, own.2)) (omega arith)
 
-    asked-extends : Extends (place_of shape table.chunks) (place_of shape table'.chunks)
-    asked-extends = claim-extends shape table table' ends.claims.kept
+    asked-extends : Extends (place_of shape state.table.chunks) (place_of shape table'.chunks)
+    asked-extends = claim-extends shape state.table table' ends.claims.kept
 
-    asked-places : ArePlaces shape.block shape.storage_at sectors (place_of shape table'.chunks)
+    asked-places : ArePlaces shape.block shape.storage_at (g.sectors s) (place_of shape table'.chunks)
     asked-places = let s = claim-storage kept.storage ends.claims in are-places shape table' s.one_to_one kept.coherent.shaped.some_blocks s.inside
 
     asked-placed : IsPlaced shape.block (place_of shape table'.chunks) request
     asked-placed = run-placed shape table' request kept.coherent.shaped.some kept.coherent.shaped.some_blocks ends.claims.all
 
-    asked-kept : IsKept shape table' fresh regions passes' history' spare' sectors depth events base_sectors base_depth flies base_flies
+    asked-kept : IsKept g h shape (record state { table = table' }) regions passes' history' spare' s b
     asked-kept = record {
       coherent = asks-coherent request kept.coherent at (some-sectors request size) inside asked-extends asked-places asked-placed ends.asks;
       held = kept.held ∙ sym (asks-regions none-held ends.asks);
@@ -104,15 +103,15 @@ module _ {shape : Shape} {table : Given} {fresh : List Bool} {regions : List (Op
       storage = claim-storage kept.storage ends.claims;
     }
 
-    asked-told : {h : Header} {disk : Disk} {last : ℕ} {base : List Sector} → IsFaithfullyKept shape h table fresh passes history disk last base base_sectors → IsFaithfullyKept shape h table' fresh passes' history' disk last base base_sectors
-    asked-told {h} {disk} {last} {base} told = told-here told ends.extends.opened (λ start faithful. asks-faithful request kept.coherent at (some-sectors request size) inside asked-extends asked-places asked-placed ends.asks faithful)
+    asked-told : IsFaithfullyKept g h shape state passes history s b → IsFaithfullyKept g h shape (record state { table = table' }) passes' history' s b
+    asked-told told = told-here told ends.extends.opened (λ start faithful. asks-faithful request kept.coherent at (some-sectors request size) inside asked-extends asked-places asked-placed ends.asks faithful)
 
 -- Only a write is answered Full.
-module _ {shape : Shape} {table : Given} {fresh : List Bool} {regions : List (Option Region)} {passes : List Pass} {history : Numbered} {spare : Room} {sectors depth events base_sectors base_depth : ℕ} {flies base_flies : List Ticket → Type 0} where
-  full-kept : (request : Asked) (i : ℕ) → IsKept shape table fresh regions passes history spare sectors depth events base_sectors base_depth flies base_flies → IsAt passes i (λ p. p.phase ≡ Idle)
+module _ {shape : Shape} {state : State} {regions : List (Option Region)} {passes : List Pass} {history : Numbered} {spare : Room} {S B : Type 0} {g : store.Ghosts S} {h : base.Ghosts B} {s : S} {b : B} where
+  full-kept : (request : Asked) (i : ℕ) → IsKept g h shape state regions passes history spare s b → IsAt passes i (λ p. p.phase ≡ Idle)
       → HasSize request → IsInside (shape.block * shape.blocks) request → {needed free : ℕ} {table' : Given} {passes' : List Pass} {history' : Numbered} {spare' : Room}
-      → EndsFull request needed free events i (asking shape table passes history spare) (asking shape table' passes' history' spare')
-      → IsKept shape table' fresh regions passes' history' spare' sectors depth events base_sectors base_depth flies base_flies
+      → EndsFull request needed free (g.events s) i (asking shape state.table passes history spare) (asking shape table' passes' history' spare')
+      → IsKept g h shape (record state { table = table' }) regions passes' history' spare' s b
   full-kept (Read first count) i kept at size inside {needed} ends = let none : needed ≡ 0 = ends.needed_is in absurd (let less = ends.fewer in omega arith)
   full-kept (Write first content) i kept at size inside ends = record {
     coherent = rw ends.table_same (asks_full-coherent first content kept.coherent at size.0 inside ends.asks);
@@ -122,21 +121,21 @@ module _ {shape : Shape} {table : Given} {fresh : List Bool} {regions : List (Op
   }
   full-kept Flush i kept at size inside {needed} ends = let none : needed ≡ 0 = ends.needed_is in absurd (let less = ends.fewer in omega arith)
 
-  full-told : (request : Asked) (i : ℕ) → IsKept shape table fresh regions passes history spare sectors depth events base_sectors base_depth flies base_flies → IsAt passes i (λ p. p.phase ≡ Idle)
+  full-told : (request : Asked) (i : ℕ) → IsKept g h shape state regions passes history spare s b → IsAt passes i (λ p. p.phase ≡ Idle)
       → HasSize request → IsInside (shape.block * shape.blocks) request → {needed free : ℕ} {table' : Given} {passes' : List Pass} {history' : Numbered} {spare' : Room}
-      → EndsFull request needed free events i (asking shape table passes history spare) (asking shape table' passes' history' spare')
-      → {h : Header} {disk : Disk} {last : ℕ} {base : List Sector} → IsFaithfullyKept shape h table fresh passes history disk last base base_sectors → IsFaithfullyKept shape h table' fresh passes' history' disk last base base_sectors
+      → EndsFull request needed free (g.events s) i (asking shape state.table passes history spare) (asking shape table' passes' history' spare')
+      → IsFaithfullyKept g h shape state passes history s b → IsFaithfullyKept g h shape (record state { table = table' }) passes' history' s b
   full-told (Read first count) i kept at size inside {needed} ends told = let none : needed ≡ 0 = ends.needed_is in absurd (let less = ends.fewer in omega arith)
   full-told (Write first content) i kept at size inside ends told =
       told-here told ends.extends.opened (λ start faithful. rw ends.table_same (asks_full-faithful first content kept.coherent at size.0 inside ends.asks faithful))
   full-told Flush i kept at size inside {needed} ends told = let none : needed ≡ 0 = ends.needed_is in absurd (let less = ends.fewer in omega arith)
 
 -- However an ask ends.
-module _ {shape : Shape} {table : Given} {fresh : List Bool} {regions : List (Option Region)} {passes : List Pass} {history : Numbered} {spare : Room} {sectors depth events base_sectors base_depth : ℕ} {flies base_flies : List Ticket → Type 0}
-    (request : Asked) (i : ℕ) (kept : IsKept shape table fresh regions passes history spare sectors depth events base_sectors base_depth flies base_flies)
+module _ {shape : Shape} {state : State} {regions : List (Option Region)} {passes : List Pass} {history : Numbered} {spare : Room} {S B : Type 0} {g : store.Ghosts S} {h : base.Ghosts B} {s : S} {b : B}
+    (request : Asked) (i : ℕ) (kept : IsKept g h shape state regions passes history spare s b)
     (at : IsAt passes i (λ p. p.phase ≡ Idle)) (size : HasSize request) (inside : IsInside (shape.block * shape.blocks) request)
-    {result : Option Answer} {table' : Given} {passes' : List Pass} {history' : Numbered} {spare' : Room} (ends : AskEnds result request events i (asking shape table passes history spare) (asking shape table' passes' history' spare')) where
-  pub ask-kept : IsKept shape table' fresh regions passes' history' spare' sectors depth events base_sectors base_depth flies base_flies
+    {result : Option Answer} {table' : Given} {passes' : List Pass} {history' : Numbered} {spare' : Room} (ends : AskEnds result request (g.events s) i (asking shape state.table passes history spare) (asking shape table' passes' history' spare')) where
+  pub ask-kept : IsKept g h shape (record state { table = table' }) regions passes' history' spare' s b
   ask-kept = elim ends [
     | inl none ↦ let same = none.2 in rw (same.table_same, same.passes_same, same.history_same, same.left_same) kept
     | inr more ↦ elim more [
@@ -145,8 +144,8 @@ module _ {shape : Shape} {table : Given} {fresh : List Bool} {regions : List (Op
     ]
   ]
 
-  pub ask-told : {h : Header} {disk : Disk} {last : ℕ} {base : List Sector} → IsFaithfullyKept shape h table fresh passes history disk last base base_sectors → IsFaithfullyKept shape h table' fresh passes' history' disk last base base_sectors
-  ask-told {h} {disk} {last} {base} told = elim ends [
+  pub ask-told : IsFaithfullyKept g h shape state passes history s b → IsFaithfullyKept g h shape (record state { table = table' }) passes' history' s b
+  ask-told told = elim ends [
     | inl none ↦ let same = none.2 in rw (same.table_same, same.passes_same, same.history_same) told
     | inr more ↦ elim more [
       | inl full ↦ full-told request i kept at size inside full.3 told

@@ -1,17 +1,15 @@
 -- Entering a block keeps a core.
-use Rattle.std.proofs.Common.{◌≡◌, ℕ, ◌+◌, ◌*◌, ◌<◌, ◌≤◌, Bool, false, List, [], ◌∷◌, zero, suc, map, refl, sym, ◌∙◌, ap, subst, inl, inr, arith, Option, Some, None, slice_get}
+use Rattle.std.proofs.Common.{◌≡◌, ℕ, ◌+◌, ◌*◌, ◌<◌, ◌≤◌, false, List, [], ◌∷◌, zero, suc, map, refl, sym, ◌∙◌, ap, subst, inl, inr, arith, Option, Some, None, slice_get}
 use Rattle.std.specs.Prelude.{if◌then◌else◌, Result, Ok, Err, IfErr, OnOk}
 use Rattle.std.proofs.Math.Nat.{mul-le-mul_left}
 use Rattle.std.proofs.lemmas.Bool.{cases_lt}
+use Rattle.vd_device.specs.declared.store.Store as store
+use Rattle.vd_device.specs.declared.base.Base as base
+use Rattle.vd_replay.specs.declared.state.State.{State}
 use Rattle.vd_law.specs.declared.entry.Room.{Room}
 use Rattle.vd_law.specs.Histories.{Numbered}
-use Rattle.vd_device.specs.declared.ticket.Ticket.{Ticket}
-use Rattle.vd_device.specs.Disks.{Disk}
-use Rattle.vd_law.specs.declared.entry.Sector.{Sector}
-use Rattle.vd_format.specs.declared.header.Header.{Header}
 use Rattle.vd_regions.specs.declared.regions.Region.{Region}
 use Rattle.vd_regions.specs.declared.regions.Busy.{Busy}
-use Rattle.vd_table.specs.Tables.{Given}
 use Rattle.vd_passes.specs.declared.shape.Shape.{Shape}
 use Rattle.vd_passes.specs.declared.pass.Pass.{Pass}
 use Rattle.vd_passes.specs.declared.pass.Phase.TheVariants.{Asked as HasAsked}
@@ -41,9 +39,9 @@ map-there (q ∷ qs) (suc i) p there = map-there qs i p there
 none-held : (p : Pass) → p.phase ≡ HasAsked → region_of p ≡ None
 none-held p is = ap (λ ph. if has_region ph then Some (region_on p.block p.write) else None) is
 
-module _ {shape : Shape} {table : Given} {fresh : List Bool} {regions : List (Option Region)} {passes : List Pass} {history : Numbered} {spare : Room} {sectors depth events base_sectors base_depth : ℕ} {flies base_flies : List Ticket → Type 0}
-    (kept : IsKept shape table fresh regions passes history spare sectors depth events base_sectors base_depth flies base_flies) (i : ℕ) (at : IsAt passes i (λ p. (p.phase ≡ HasAsked) × (p.flush ≡ false))) where
-  pub can-enter : IsAt passes i (CanEnter shape table.chunks)
+module _ {shape : Shape} {state : State} {regions : List (Option Region)} {passes : List Pass} {history : Numbered} {spare : Room} {S B : Type 0} {g : store.Ghosts S} {h : base.Ghosts B} {s : S} {b : B}
+    (kept : IsKept g h shape state regions passes history spare s b) (i : ℕ) (at : IsAt passes i (λ p. (p.phase ≡ HasAsked) × (p.flush ≡ false))) where
+  pub can-enter : IsAt passes i (CanEnter shape state.table.chunks)
   can-enter =
       let p = at.0 in let co = kept.coherent in let stands = co.each i p at.1 in let is = at.2.0 in
       let range = stands.range (λ e. absurd (cc)) in let left = stands.left is at.2.1 in (
@@ -65,31 +63,31 @@ module _ {shape : Shape} {table : Given} {fresh : List Bool} {regions : List (Op
   holds-nothing = ap (λ (rs : List (Option Region)). slice_get rs i) kept.held ∙ map-there passes i at.0 at.1 ∙ ap Some (none-held at.0 at.2.0)
 
   module _ {regions' : List (Option Region)} {passes' : List Pass} where
-    entered-kept : EntersBlock shape table.chunks regions regions' i passes passes' → IsKept shape table fresh regions' passes' history spare sectors depth events base_sectors base_depth flies base_flies
+    entered-kept : EntersBlock shape state.table.chunks regions regions' i passes passes' → IsKept g h shape state regions' passes' history spare s b
     entered-kept step =
         let e = step.enters in let p = e.pass in let is = ap (λ (x : Pass). x.phase) (some-inj (sym e.there ∙ at.1)) ∙ at.2.0 in
         record {
           coherent = enters-coherent kept.coherent (at.0, at.1, at.2.0) e regions kept.held step.free;
           held = step.regions_after ∙ sym (enters-regions kept.coherent (at.0, at.1, at.2.0) e regions kept.held step.free);
-          roomy = room-same kept.roomy i events e.there e.after (room-entered (kept.roomy.reserved i p e.there) (ap is_before_event is) e.block e.piece e.at) refl refl refl (omega arith);
+          roomy = room-same kept.roomy i (g.events s) e.there e.after (room-entered (kept.roomy.reserved i p e.there) (ap is_before_event is) e.block e.piece e.at) refl refl refl (omega arith);
           storage = kept.storage;
         }
 
-    kept-out-kept : (by : ℕ) → IsKeptOut shape regions regions' i passes passes' by → IsKept shape table fresh regions' passes' history spare sectors depth events base_sectors base_depth flies base_flies
+    kept-out-kept : (by : ℕ) → IsKeptOut shape regions regions' i passes passes' by → IsKept g h shape state regions' passes' history spare s b
     kept-out-kept by out = rw (out.regions_same, out.passes_same) kept
 
-    pub enter-kept : (result : Result Unit Busy) → IfErr result (λ busy. IsKeptOut shape regions regions' i passes passes' busy.by) → OnOk result (EntersBlock shape table.chunks regions regions' i passes passes')
-        → IsKept shape table fresh regions' passes' history spare sectors depth events base_sectors base_depth flies base_flies
+    pub enter-kept : (result : Result Unit Busy) → IfErr result (λ busy. IsKeptOut shape regions regions' i passes passes' busy.by) → OnOk result (EntersBlock shape state.table.chunks regions regions' i passes passes')
+        → IsKept g h shape state regions' passes' history spare s b
     enter-kept (Ok v) busy enters = entered-kept enters
     enter-kept (Err busy) out enters = kept-out-kept busy.by out
 
-  module _ {passes' : List Pass} {h : Header} {tells base_tells : Type 0} {disk : Disk} {last : ℕ} {base : List Sector} (was : tells → base_tells → IsFaithfullyKept shape h table fresh passes history disk last base base_sectors) (regions' : List (Option Region)) where
-    entered-told : EntersBlock shape table.chunks regions regions' i passes passes' → tells → base_tells → IsFaithfullyKept shape h table fresh passes' history disk last base base_sectors
+  module _ {passes' : List Pass} (was : g.tells s → h.tells b → IsFaithfullyKept g h shape state passes history s b) (regions' : List (Option Region)) where
+    entered-told : EntersBlock shape state.table.chunks regions regions' i passes passes' → g.tells s → h.tells b → IsFaithfullyKept g h shape state passes' history s b
     entered-told step told base_told =
         told-here (was told base_told) refl (λ start faithful. enters-faithful kept.coherent (at.0, at.1, at.2.0) step.enters regions kept.held step.free faithful)
 
-    pub enter-told : (result : Result Unit Busy) → IfErr result (λ busy. IsKeptOut shape regions regions' i passes passes' busy.by) → OnOk result (EntersBlock shape table.chunks regions regions' i passes passes')
-        → tells → base_tells → IsFaithfullyKept shape h table fresh passes' history disk last base base_sectors
+    pub enter-told : (result : Result Unit Busy) → IfErr result (λ busy. IsKeptOut shape regions regions' i passes passes' busy.by) → OnOk result (EntersBlock shape state.table.chunks regions regions' i passes passes')
+        → g.tells s → h.tells b → IsFaithfullyKept g h shape state passes' history s b
     enter-told (Ok v) busy enters told base_told = entered-told enters told base_told
     enter-told (Err busy) out enters told base_told = rw out.passes_same (was told base_told)
 

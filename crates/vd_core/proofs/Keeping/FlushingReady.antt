@@ -1,6 +1,7 @@
 -- What the steps of a flush require stands in what a core keeps; and they leave the metadata attended to.
 use Rattle.std.proofs.Common.{◌≡◌, ◌≢◌, ◌⊎◌, ℕ, ◌+◌, ◌≤◌, true, false, List, refl, sym, ◌∙◌, ap, subst, inl, inr, arith, length, Option, Some, None, slice_get}
 use Rattle.std.specs.Prelude.{IsSome}
+use Rattle.vd_device.specs.declared.base.Base as base
 use Rattle.vd_law.specs.Histories.{Numbered}
 use Rattle.vd_law.specs.declared.entry.Room.{Room}
 use Rattle.vd_device.specs.declared.ticket.Ticket.{Ticket}
@@ -59,12 +60,12 @@ meta-kind : (shape : Shape) (t : Ticket) → IsMeta shape t → (t.kind ≡ Writ
 meta-kind shape t (inl flush) = inr flush
 meta-kind shape t (inr write) = inl write.0
 
-module _ {shape : Shape} {state : State} {regions : List (Option Region)} {passes : List Pass} {history : Numbered} {spare : Room} {sectors depth events base_sectors base_depth : ℕ} {flies base_flies : List Ticket → Type 0} {flusher : Option ℕ} {k : Keeping}
-    (kept : IsKept shape state.table state.fresh.bits regions passes history spare sectors depth events base_sectors base_depth flies base_flies) (recorded : IsRecorded shape state passes flusher k) where
+module _ {shape : Shape} {state : State} {regions : List (Option Region)} {passes : List Pass} {history : Numbered} {spare : Room} {S B : Type 0} {g : store.Ghosts S} {h : base.Ghosts B} {s : S} {b : B} {flusher : Option ℕ} {k : Keeping}
+    (kept : IsKept g h shape state regions passes history spare s b) (recorded : IsRecorded shape state passes flusher k) where
   abbrev attends : IsAttended shape state.table state.fresh.bits passes flusher k
   attends = recorded.attended
 
-  pub flush-place : HasPlace flies depth
+  pub flush-place : HasPlace (g.flies s) (g.depth s)
   flush-place = store-place kept.coherent
 
   module _ (i : ℕ) where
@@ -74,7 +75,7 @@ module _ {shape : Shape} {state : State} {regions : List (Option Region)} {passe
     pub between-calls : IsAt passes i IsBetween → IsAt passes i (λ p. (p.phase ≡ Flushing) × (p.flush ≡ true) × (p.ticket ≡ None))
     between-calls at = (at.0, at.1, (at.2.phase, (kept.coherent.each i at.0 at.1).flush at.2.phase, at.2.none))
 
-    pub away-call : IsAt passes i IsAway → IsAt passes i (λ p. (p.phase ≡ Flushing) × IsWaitingMeta flies p)
+    pub away-call : IsAt passes i IsAway → IsAt passes i (λ p. (p.phase ≡ Flushing) × IsWaitingMeta (g.flies s) p)
     away-call at =
         let u = some-of at.0.ticket at.2.some in
         let its = flushing-ticket kept.coherent i (at.0, at.1, at.2.phase) u.0 u.1 in
@@ -91,7 +92,7 @@ module _ {shape : Shape} {state : State} {regions : List (Option Region)} {passe
         let mine = is-flusher attends i at.0 at.1 at.2.phase in let theirs = is-flusher attends j q there flushing in
         let e : Some j ≡ Some i = sym theirs ∙ mine in other (let same : j ≡ i = cc in same)
 
-    pub between-free : IsAt passes i IsBetween → (first : ℕ) → first + 1 ≤ storage_start k.header → IsFree flies depth first 1
+    pub between-free : IsAt passes i IsBetween → (first : ℕ) → first + 1 ≤ storage_start k.header → IsFree (g.flies s) (g.depth s) first 1
     between-free at first low = below-free kept.coherent i at.0 at.1 at.2.none (alone at) first 1 (let s = attends.storage_at in omega (arith, s, low))
 
   pub kept-storage : HasStorage state.table k
@@ -99,7 +100,7 @@ module _ {shape : Shape} {state : State} {regions : List (Option Region)} {passe
       let placed = kept.coherent.fresh_placed b is in let from = place-from shape state.table.chunks b placed.0 placed.1 in
       (from.0, from.1, kept.storage.one_to_one.inside _ from.0 from.1))
 
-  pub meta-inside : storage_start k.header ≤ sectors
+  pub meta-inside : storage_start k.header ≤ (g.sectors s)
   meta-inside = let s = attends.storage_at in let inside = kept.storage.inside in omega (arith, s, inside)
 
   pub blocks-same : length state.fresh.bits ≡ blocks_of k.header

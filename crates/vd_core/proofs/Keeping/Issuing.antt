@@ -1,14 +1,13 @@
 -- Issuing a piece keeps a core.
 use Rattle.std.proofs.Common.{◌≡◌, ◌≢◌, ℕ, ◌<◌, ◌≤◌, ◌⊎◌, Bool, true, List, [], ◌∷◌, refl, sym, ◌∙◌, ap, subst, inl, inr, arith, Option, Some, slice_get}
+use Rattle.vd_device.specs.declared.base.Base as base
+use Rattle.vd_device.specs.Stores.{KeepsStore}
+use Rattle.vd_replay.specs.declared.state.State.{State}
 use Rattle.vd_law.specs.declared.entry.Sector.{Sector}
 use Rattle.vd_law.specs.declared.entry.Room.{Room}
 use Rattle.vd_law.specs.Histories.{Numbered}
 use Rattle.vd_device.specs.declared.store.Store as store
-use Rattle.vd_device.specs.declared.ticket.Ticket.{Ticket}
-use Rattle.vd_device.specs.Disks.{Disk}
-use Rattle.vd_format.specs.declared.header.Header.{Header}
 use Rattle.vd_regions.specs.declared.regions.Region.{Region}
-use Rattle.vd_table.specs.Tables.{Given}
 use Rattle.vd_passes.specs.declared.shape.Shape.{Shape}
 use Rattle.vd_passes.specs.declared.pass.Pass.{Pass}
 use Rattle.vd_passes.specs.declared.pass.Phase.TheVariants.{Held, Filled, Flushing}
@@ -20,7 +19,7 @@ use Rattle.vd_passes.proofs.Ready.{IsHolding, holding-region, can-write-asked}
 use Rattle.vd_passes.proofs.Issuing.{issues-coherent, issues-faithful}
 use Rattle.vd_passes.proofs.Holding.{issues-regions}
 use Rattle.vd_core.specs.Adding.{Extends}
-use Rattle.vd_core.proofs.Keeping.Devices.{Stays, piece-short}
+use Rattle.vd_core.proofs.Keeping.Devices.{piece-short}
 use Rattle.vd_core.specs.Issuing.{CanIssue, IsWritable}
 use Rattle.vd_core.specs.Kept.{IsKept, IsLogged, IsFaithfullyKept}
 use Rattle.vd_core.proofs.Rooming.{can-add, room-used}
@@ -57,13 +56,12 @@ holding-sectors block p room (inl held) = let a = room.sectors in let e = ap (λ
 holding-sectors block p room (inr filled) = let a = room.sectors in let e = ap (λ ph. sectors_needed ph (sectors_left p) p.piece) filled in omega arith
 
 -- what is reserved suffices for the Issue of the piece
-pub can-issue : {shape : Shape} {table : Given} {fresh : List Bool} {regions : List (Option Region)} {passes : List Pass} {history : Numbered} {spare : Room} {base_sectors base_depth : ℕ} {base_flies : List Ticket → Type 0} {S : Type 0} (g : store.Ghosts S) (s : S)
-    → IsKept shape table fresh regions passes history spare (g.sectors s) (g.depth s) (g.events s) base_sectors base_depth (g.flies s) base_flies → (i : ℕ) (content : List Sector) → IsAt passes i (IsWritable shape fresh)
-    → HasAskedWrite history.log.entries i content → IsAt passes i (CanIssue g shape fresh content history s)
-can-issue {shape} {fresh = fresh} {passes = passes} g s kept i content at asked =
+pub can-issue : {shape : Shape} {state : State} {regions : List (Option Region)} {passes : List Pass} {history : Numbered} {spare : Room} {S B : Type 0} {g : store.Ghosts S} {h : base.Ghosts B} {s : S} {b : B} → IsKept g h shape state regions passes history spare s b
+    → (i : ℕ) (content : List Sector) → IsAt passes i (IsWritable shape state.fresh.bits) → HasAskedWrite history.log.entries i content → IsAt passes i (CanIssue g shape state.fresh.bits content history s)
+can-issue {shape} {state} {passes = passes} kept i content at asked =
     let can = can-write-asked kept.coherent i content asked (writing-at passes i at) in
     let p = can.0 in let holding = subst (λ (x : Pass). IsHolding x) (some-inj (sym at.1 ∙ can.1)) (writable-holding at.2) in
-    let way = subst (λ (x : Pass). IsWritable shape fresh x) (some-inj (sym at.1 ∙ can.1)) at.2 in
+    let way = subst (λ (x : Pass). IsWritable shape state.fresh.bits x) (some-inj (sym at.1 ∙ can.1)) at.2 in
     let piece = can.2.0.piece in let room = kept.roomy.reserved i p can.1 in (
       p,
       can.1,
@@ -75,27 +73,27 @@ can-issue {shape} {fresh = fresh} {passes = passes} g s kept i content at asked 
       },
     )
 
-module _ {shape : Shape} {table : Given} {fresh : List Bool} {regions : List (Option Region)} {passes : List Pass} {history : Numbered} {spare : Room} {sectors depth events base_sectors base_depth : ℕ} {flies base_flies : List Ticket → Type 0}
-    (kept : IsKept shape table fresh regions passes history spare sectors depth events base_sectors base_depth flies base_flies)
-    (i : ℕ) (content : List Sector) (at : IsAt passes i (IsWritable shape fresh)) (asked : HasAskedWrite history.log.entries i content) where
-  module _ {passes' : List Pass} {history' : Numbered} {last last' : ℕ} {flies' : List Ticket → Type 0} {tells tells' : Type 0} {disk disk' : Disk}
-      (step : Issues shape fresh content i passes passes' history.log.entries history'.log.entries flies flies' tells tells' disk disk' last last') where
-    pub issue-kept : {sectors' depth' events' : ℕ} → IsAt passes i (λ p. Extends (events ∷ []) p.piece history history') → Stays sectors sectors' depth depth' events events'
-        → IsKept shape table fresh regions passes' history' spare sectors' depth' events' base_sectors base_depth flies' base_flies
-    issue-kept {sectors'} {depth'} {events'} extends stays =
+module _ {shape : Shape} {state : State} {regions : List (Option Region)} {passes : List Pass} {history : Numbered} {spare : Room} {S B : Type 0} {g : store.Ghosts S} {h : base.Ghosts B} {s : S} {b : B}
+    (kept : IsKept g h shape state regions passes history spare s b)
+    (i : ℕ) (content : List Sector) (at : IsAt passes i (IsWritable shape state.fresh.bits)) (asked : HasAskedWrite history.log.entries i content) where
+  module _ {passes' : List Pass} {history' : Numbered} {s' : S}
+      (step : Issues shape state.fresh.bits content i passes passes' history.log.entries history'.log.entries (g.flies s) (g.flies s') (g.tells s) (g.tells s') (g.disk s) (g.disk s') (g.last s) (g.last s')) where
+    pub issue-kept : IsAt passes i (λ p. Extends (g.events s ∷ []) p.piece history history') → KeepsStore g s s'
+        → IsKept g h shape state regions passes' history' spare s' b
+    issue-kept extends stays =
         let p = step.pass in let there = step.there in
         let holding = subst (λ (x : Pass). IsHolding x) (some-inj (sym at.1 ∙ there)) (writable-holding at.2) in
         let piece = (kept.coherent.each i p there).piece (holding-region p holding) in
         let used = room-issued piece (kept.roomy.reserved i p there) (holding-before p holding) step.ticket step.buffer in
-        let more = subst (λ (x : Pass). Extends (events ∷ []) x.piece history history') (some-inj (sym extends.1 ∙ there)) extends.2 in
+        let more = subst (λ (x : Pass). Extends (g.events s ∷ []) x.piece history history') (some-inj (sym extends.1 ∙ there)) extends.2 in
         record {
-          coherent = rw (stays.sectors_same, stays.depth_same) (issues-coherent content kept.coherent (writing-at passes i at) asked step);
+          coherent = rw (stays.counts.sectors, stays.counts.depth) (issues-coherent content kept.coherent (writing-at passes i at) asked step);
           held = kept.held ∙ sym (issues-regions (at.0, at.1, holding-region at.0 (writable-holding at.2)) step);
-          roomy = room-used kept.roomy i events' there step.after more used.0 used.1 refl stays.events_rise;
-          storage = rw stays.sectors_same kept.storage;
+          roomy = room-used kept.roomy i (g.events s') there step.after more used.0 used.1 refl stays.telling.events;
+          storage = rw stays.counts.sectors kept.storage;
         }
 
-    pub issue-told : {h : Header} {base_tells : Type 0} {base : List Sector} → history'.opened ≡ history.opened → (tells → IsLogged passes history disk) → (tells → base_tells → IsFaithfullyKept shape h table fresh passes history disk last base base_sectors)
-        → tells' → base_tells → IsFaithfullyKept shape h table fresh passes' history' disk' last' base base_sectors
-    issue-told {h} {base_tells} {base} opened logged was told base_told = let before = step.told_before told in
+    pub issue-told : history'.opened ≡ history.opened → (g.tells s → IsLogged passes history (g.disk s)) → (g.tells s → h.tells b → IsFaithfullyKept g h shape state passes history s b)
+        → g.tells s' → h.tells b → IsFaithfullyKept g h shape state passes' history' s' b
+    issue-told opened logged was told base_told = let before = step.told_before told in
         told-on (was before base_told) (logged before) (_, (step.told told).0) opened (λ start faithful. issues-faithful content kept.coherent (writing-at passes i at) asked step (λ b. faithful) told)

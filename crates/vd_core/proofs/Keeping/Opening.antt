@@ -6,6 +6,8 @@ use Rattle.std.proofs.lemmas.List.Sums.{sum_by-cons}
 use Rattle.std.proofs.lemmas.List.{length-replicate}
 use Rattle.vd_law.specs.declared.entry.Sector.{Sector}
 use Rattle.vd_law.specs.declared.entry.Room.{Room}
+use Rattle.vd_device.specs.declared.store.Store as store
+use Rattle.vd_device.specs.declared.base.Base as base
 use Rattle.vd_device.specs.declared.ticket.Ticket.{Ticket}
 use Rattle.vd_format.specs.declared.header.Header.{Header}
 use Rattle.vd_format.specs.Headers.{IsValid}
@@ -178,10 +180,17 @@ module _ (s : State) (whole : IsWhole s) (passes : List Pass) (count sectors dep
     bounded = counted;
   }
 
-  pub opened-kept : IsKept shape table fresh (replicate count None) passes (empty_history room events) room sectors depth events base_sectors base_depth flies base_flies
-  opened-kept = record {
-    coherent = coherent;
-    held = ap (λ (n : ℕ). replicate n None) (sym new.many) ∙ sym (idle-regions passes is-idle);
-    roomy = roomy;
-    storage = storage;
-  }
+  opened-parts : IsCoherent shape fresh (place_of shape table.chunks) passes [] sectors depth base_sectors base_depth flies base_flies × IsRoomy h.block passes (empty_history room events) room events × IsStorage shape table sectors
+  opened-parts = (coherent, roomy, storage)
+
+pub opened-kept : {S B : Type 0} (g : store.Ghosts S) (h : base.Ghosts B) (x : S) (y : B) (s : State) → IsWhole s → (passes : List Pass) (count : ℕ) (room : Room) → need_of s.header ≤ g.sectors x → g.sectors x < 2 ^ 64 → 128 ≤ g.depth x → 128 ≤ h.depth y
+    → g.flies x [] → h.flies y [] → count ≤ 64 → AreNew count s.header.block passes → room.events < 2 ^ 64
+    → IsKept g h (shape_of s.header (h.sectors y)) s (replicate count None) passes (empty_history room (g.events x)) room x y
+opened-kept g h x y s whole passes count room fits bounded deep base_deep idle base_idle few new counted =
+    let made = opened-parts s whole passes count (g.sectors x) (g.depth x) (g.events x) (h.sectors y) (h.depth y) room (g.flies x) (h.flies y) fits bounded deep base_deep idle base_idle few new counted in
+    record {
+      coherent = made.0;
+      held = ap (λ (n : ℕ). replicate n None) (sym new.many) ∙ sym (idle-regions passes (λ i p there. (new.each i p there).phase));
+      roomy = made.1;
+      storage = made.2;
+    }

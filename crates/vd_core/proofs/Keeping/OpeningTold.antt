@@ -1,7 +1,8 @@
 -- What a core as it is made keeps of its devices and of the metadata.
 use Rattle.std.proofs.Common.{◌≡◌, ℕ, List, length, refl, sym, ◌∙◌, ap, inl, arith, None}
-use Rattle.vd_law.specs.declared.entry.Sector.{Sector}
 use Rattle.vd_law.specs.declared.entry.Room.{Room}
+use Rattle.vd_device.specs.declared.store.Store as store
+use Rattle.vd_device.specs.declared.base.Base as base
 use Rattle.vd_device.specs.Disks.{Disk, IsHonest}
 use Rattle.vd_replay.specs.declared.state.State.{State}
 use Rattle.vd_replay.specs.States.{IsWhole, Says}
@@ -20,16 +21,16 @@ pub opened-logged : {passes : List Pass} {count block events : ℕ} (room : Room
 opened-logged room disk new all = record { since = omega arith; followed = new-followed new.each disk.log }
 
 -- whatever the guest's disk was, the store agrees with it where blocks are local, and the base elsewhere
-pub opened-told : (s : State) → IsWhole s → s.header.version ≡ 2 → {passes : List Pass} {count events base_sectors : ℕ} (room : Room) (disk : Disk) (last : ℕ) (base : List Sector) → AreNew count s.header.block passes
-    → length base ≡ base_sectors → events ≡ length disk.log → IsHonest disk → Says disk.held s → IsFaithfullyKept (shape_of s.header base_sectors) s.header s.table s.fresh.bits passes (empty_history room events) disk last base base_sectors
-opened-told s whole version {passes} {count} {events} {base_sectors} room disk last base new base_size all honest says = record {
+pub opened-told : {S B : Type 0} (g : store.Ghosts S) (h : base.Ghosts B) (x : S) (y : B) (s : State) → IsWhole s → s.header.version ≡ 2 → {passes : List Pass} {count events : ℕ} (room : Room) → AreNew count s.header.block passes
+    → length (h.content y) ≡ h.sectors y → events ≡ length (g.disk x).log → IsHonest (g.disk x) → Says (g.disk x).held s → IsFaithfullyKept g h (shape_of s.header (h.sectors y)) s passes (empty_history room events) x y
+opened-told g h x y s whole version {passes} {count} {events} room new base_size all honest says = let disk = g.disk x in record {
   base_size = base_size;
   faithful = λ start is. record {
     size = is.size ∙ sym (whole-blocks s.header whole.sized.valid);
     shown = tt;
     numbers = λ i p t there has. absurd (let none = sym (new.each i p there).ticket ∙ has in cc);
     distinct = λ i j p q t u there_p there_q other has_t. absurd (let none = sym (new.each i p there_p).ticket ∙ has_t in cc);
-    stands = λ x inside. stands-at s whole version disk events all honest says base start is base_sectors x inside;
+    stands = λ at inside. stands-at s whole version disk events all honest says (h.content y) start is (h.sectors y) at inside;
     filling = λ a above. inl (record {
       nobody = λ i p there w. let phase = w.phase in let other = sym (new.each i p there).phase ∙ phase in cc;
       none = ap (λ log. (track disk.start log a).writes) (sym (all-told disk events all)) ∙ (is.clean a).none;

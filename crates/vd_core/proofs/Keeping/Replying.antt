@@ -1,17 +1,15 @@
 -- A reply keeps a core.
 use Rattle.std.proofs.Common.{◌≡◌, ℕ, Bool, false, List, [], ◌∷◌, refl, sym, ◌∙◌, ap, subst, inl, inr, arith, Option, Some, None, slice_get}
 use Rattle.std.specs.Prelude.{◌↔◌}
-use Rattle.vd_law.specs.declared.entry.Sector.{Sector}
+use Rattle.vd_device.specs.declared.store.Store as store
+use Rattle.vd_device.specs.declared.base.Base as base
+use Rattle.vd_replay.specs.declared.state.State.{State}
 use Rattle.vd_law.specs.declared.entry.Room.{Room}
 use Rattle.vd_law.specs.declared.entry.Answer.{Answer}
 use Rattle.vd_law.specs.declared.entry.Answer.TheVariants.{Ok}
 use Rattle.vd_law.specs.Entries.{Entry}
 use Rattle.vd_law.specs.Histories.{Numbered}
-use Rattle.vd_device.specs.declared.ticket.Ticket.{Ticket}
-use Rattle.vd_device.specs.Disks.{Disk}
-use Rattle.vd_format.specs.declared.header.Header.{Header}
 use Rattle.vd_regions.specs.declared.regions.Region.{Region}
-use Rattle.vd_table.specs.Tables.{Given}
 use Rattle.vd_passes.specs.declared.shape.Shape.{Shape}
 use Rattle.vd_passes.specs.declared.pass.Pass.{Pass}
 use Rattle.vd_passes.specs.declared.pass.Phase.TheVariants.{Ready}
@@ -36,9 +34,9 @@ ok-where p broken (Some (fault.Store ticket)) outcome data_call = (λ is. absurd
 ok-where p broken (Some (fault.Base ticket)) outcome data_call = (λ is. absurd (cc), λ is. absurd (let less = outcome.0 in omega arith))
 ok-where p broken (Some (fault.Worn generation)) outcome data_call = absurd (let f = sym outcome.0 ∙ data_call in cc)
 
-module _ {shape : Shape} {table : Given} {fresh : List Bool} {regions : List (Option Region)} {passes : List Pass} {history : Numbered} {spare : Room} {sectors depth events base_sectors base_depth : ℕ} {flies base_flies : List Ticket → Type 0}
-    (i : ℕ) (kept : IsKept shape table fresh regions passes history spare sectors depth events base_sectors base_depth flies base_flies) (at : IsAt passes i (λ p. p.phase ≡ Ready)) where
-  pub can-reply : IsAt passes i (CanReply passes history spare events)
+module _ {shape : Shape} {state : State} {regions : List (Option Region)} {passes : List Pass} {history : Numbered} {spare : Room} {S B : Type 0} {g : store.Ghosts S} {h : base.Ghosts B} {s : S} {b : B}
+    (i : ℕ) (kept : IsKept g h shape state regions passes history spare s b) (at : IsAt passes i (λ p. p.phase ≡ Ready)) where
+  pub can-reply : IsAt passes i (CanReply passes history spare (g.events s))
   can-reply =
       let p = at.0 in let a = sum-part (λ (q : Pass). q.events) passes i p at.1 in let b = sum-part (λ (q : Pass). q.sectors) passes i p at.1 in
       let c = kept.roomy.spare_events in let d = kept.roomy.spare_sectors in (
@@ -62,14 +60,14 @@ module _ {shape : Shape} {table : Given} {fresh : List Bool} {regions : List (Op
       (p, step.there, subst (λ (a : Answer). IsOkWhereDone a p) (sym step.is) (ok-where p _ p.fault ((kept.coherent.each i p step.there).ready (ready-is step.there))))
 
   module _ {answer : Answer} {passes' : List Pass} {history' : Numbered} (step : Replies answer i passes passes' history.log.entries history'.log.entries) where
-    replied-roomy : {spare' : Room} → Extends (events ∷ []) 0 history history' → IsAt passes i (λ p. spare' ≡ freed p spare) → IsRoomy shape.block passes' history' spare' events
+    replied-roomy : {spare' : Room} → Extends (g.events s ∷ []) 0 history history' → IsAt passes i (λ p. spare' ≡ freed p spare) → IsRoomy shape.block passes' history' spare' (g.events s)
     replied-roomy {spare'} extends left =
         let p = step.pass in let some = room-reply (kept.roomy.reserved i p step.there) (ready-is step.there) in
         let is : spare' ≡ freed p spare = left.2 ∙ ap (λ (x : Pass). freed x spare) (some-inj (sym left.1 ∙ step.there)) in
         let c = ap (λ (r : Room). r.events) is in let d = ap (λ (r : Room). r.sectors) is in
         room-shared kept.roomy i step.there step.after extends (room-replied shape.block p) spare' (omega (arith, c, some)) (omega (arith, d)) (omega arith) (omega arith)
 
-    pub reply-kept : {spare' : Room} → Extends (events ∷ []) 0 history history' → IsAt passes i (λ p. spare' ≡ freed p spare) → IsKept shape table fresh regions passes' history' spare' sectors depth events base_sectors base_depth flies base_flies
+    pub reply-kept : {spare' : Room} → Extends (g.events s ∷ []) 0 history history' → IsAt passes i (λ p. spare' ≡ freed p spare) → IsKept g h shape state regions passes' history' spare' s b
     reply-kept {spare'} extends left = record {
       coherent = replies-coherent kept.coherent at step;
       held = kept.held ∙ sym (replies-regions (phase-at false Ready passes i refl at) step);
@@ -77,5 +75,5 @@ module _ {shape : Shape} {table : Given} {fresh : List Bool} {regions : List (Op
       storage = kept.storage;
     }
 
-    pub reply-told : {h : Header} {disk : Disk} {last : ℕ} {base : List Sector} → history'.opened ≡ history.opened → IsFaithfullyKept shape h table fresh passes history disk last base base_sectors → IsFaithfullyKept shape h table fresh passes' history' disk last base base_sectors
-    reply-told {h} {disk} {last} {base} opened told = told-here told opened (λ start faithful. replies-faithful kept.coherent at step faithful)
+    pub reply-told : history'.opened ≡ history.opened → IsFaithfullyKept g h shape state passes history s b → IsFaithfullyKept g h shape state passes' history' s b
+    reply-told opened told = told-here told opened (λ start faithful. replies-faithful kept.coherent at step faithful)

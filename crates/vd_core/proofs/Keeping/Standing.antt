@@ -1,17 +1,18 @@
 -- How a pass of a core stands.
-use Rattle.std.proofs.Common.{◌≡◌, ℕ, Bool, List, Option, Some, slice_get}
+use Rattle.std.proofs.Common.{◌≡◌, ℕ, List, Option, Some, slice_get}
+use Rattle.vd_device.specs.declared.store.Store as store
+use Rattle.vd_device.specs.declared.base.Base as base
+use Rattle.vd_replay.specs.declared.state.State.{State}
 use Rattle.vd_law.specs.declared.entry.Room.{Room}
 use Rattle.vd_law.specs.Histories.{Numbered}
-use Rattle.vd_device.specs.declared.ticket.Ticket.{Ticket}
 use Rattle.vd_regions.specs.declared.regions.Region.{Region}
-use Rattle.vd_table.specs.Tables.{Given}
 use Rattle.vd_passes.specs.declared.shape.Shape.{Shape}
 use Rattle.vd_passes.specs.declared.pass.Pass.{Pass}
 use Rattle.vd_core.specs.Kept.{IsKept}
 use Rattle.vd_core.specs.Moves.{IsStanding}
 
-pub standing : {shape : Shape} {table : Given} {fresh : List Bool} {regions : List (Option Region)} {passes : List Pass} {history : Numbered} {spare : Room} {sectors depth events base_sectors base_depth : ℕ} {flies base_flies : List Ticket → Type 0}
-    → IsKept shape table fresh regions passes history spare sectors depth events base_sectors base_depth flies base_flies → (i : ℕ) (p : Pass) → slice_get passes i ≡ Some p → IsStanding shape p
+pub standing : {shape : Shape} {state : State} {regions : List (Option Region)} {passes : List Pass} {history : Numbered} {spare : Room} {S B : Type 0} {g : store.Ghosts S} {h : base.Ghosts B} {s : S} {b : B}
+    → IsKept g h shape state regions passes history spare s b → (i : ℕ) (p : Pass) → slice_get passes i ≡ Some p → IsStanding shape p
 standing kept i p there = let stands = kept.coherent.each i p there in record {
   some = kept.coherent.shaped.some;
   write = stands.write;

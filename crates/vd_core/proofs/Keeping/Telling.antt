@@ -1,10 +1,14 @@
 -- What is kept where the devices tell stays so while the store goes on: the opening stays as it was.
-use Rattle.std.proofs.Common.{◌≡◌, ℕ, ◌*◌, Bool, List, sym, ◌∙◌, ap, subst, arith}
+use Rattle.std.proofs.Common.{◌≡◌, ℕ, ◌*◌, List, length, sym, ◌∙◌, ap, subst, arith}
+use Rattle.vd_device.specs.declared.store.Store as store
+use Rattle.vd_device.specs.declared.base.Base as base
+use Rattle.vd_device.specs.Bases.{KeepsBase}
+use Rattle.vd_bits.specs.Blocks.{Blocks}
 use Rattle.vd_law.specs.declared.entry.Sector.{Sector}
 use Rattle.vd_law.specs.Histories.{Numbered}
 use Rattle.vd_law.specs.Rules.{IsRegular, IsLegal}
 use Rattle.vd_device.specs.Disks.{Disk}
-use Rattle.vd_format.specs.declared.header.Header.{Header}
+use Rattle.vd_replay.specs.declared.state.State.{State}
 use Rattle.vd_table.specs.Tables.{Given}
 use Rattle.vd_reading.specs.Background.{background}
 use Rattle.vd_passes.specs.declared.shape.Shape.{Shape}
@@ -30,30 +34,40 @@ pub logged-here : {passes passes' : List Pass} {history history' : Numbered} {di
     → IsFollowed passes' history'.log.entries history'.numbers disk.log → IsLogged passes' history' disk
 logged-here logged opened followed = record { since = let since = logged.since in omega (arith, since, opened); followed = followed }
 
-module _ {shape : Shape} {h : Header} {table table' : Given} {fresh fresh' : List Bool} {passes passes' : List Pass} {history history' : Numbered} {last last' : ℕ} {base : List Sector} {base_sectors : ℕ} where
-  pub told-on : {disk disk' : Disk} → IsFaithfullyKept shape h table fresh passes history disk last base base_sectors → IsLogged passes history disk → GoesOn disk disk' → history'.opened ≡ history.opened
-      → ((start : List Sector) → IsFaithful start (background base shape.tracked) shape fresh (place_of shape table.chunks) passes history.log.entries disk last
-      → IsFaithful start (background base shape.tracked) shape fresh' (place_of shape table'.chunks) passes' history'.log.entries disk' last')
-      → IsFaithfullyKept shape h table' fresh' passes' history' disk' last' base base_sectors
-  told-on {disk} {disk'} was logged on opened next = record {
+module _ {shape : Shape} {state : State} {table' : Given} {fresh' : Blocks} {passes passes' : List Pass} {history history' : Numbered} {S B : Type 0} {g : store.Ghosts S} {h : base.Ghosts B} {s : S} {b : B} where
+  pub told-on : {s' : S} → IsFaithfullyKept g h shape state passes history s b → IsLogged passes history (g.disk s) → GoesOn (g.disk s) (g.disk s') → history'.opened ≡ history.opened
+      → ((start : List Sector) → IsFaithful start (background (h.content b) shape.tracked) shape state.fresh.bits (place_of shape state.table.chunks) passes history.log.entries (g.disk s) (g.last s)
+      → IsFaithful start (background (h.content b) shape.tracked) shape fresh'.bits (place_of shape table'.chunks) passes' history'.log.entries (g.disk s') (g.last s'))
+      → IsFaithfullyKept g h shape (record state { table = table'; fresh = fresh' }) passes' history' s' b
+  told-on was logged on opened next = record {
     base_size = was.base_size;
-    faithful = λ start is. next start (was.faithful start (subst (λ (o : Opening). IsStart o base h start) (same-opening logged on opened) is));
+    faithful = λ start is. next start (was.faithful start (subst (λ (o : Opening). IsStart o (h.content b) state.header start) (same-opening logged on opened) is));
   }
 
   -- the store is as it was
-  pub told-here : {disk : Disk} → IsFaithfullyKept shape h table fresh passes history disk last base base_sectors → history'.opened ≡ history.opened
-      → ((start : List Sector) → IsFaithful start (background base shape.tracked) shape fresh (place_of shape table.chunks) passes history.log.entries disk last
-      → IsFaithful start (background base shape.tracked) shape fresh' (place_of shape table'.chunks) passes' history'.log.entries disk last')
-      → IsFaithfullyKept shape h table' fresh' passes' history' disk last' base base_sectors
-  told-here {disk} was opened next = record {
+  pub told-here : IsFaithfullyKept g h shape state passes history s b → history'.opened ≡ history.opened
+      → ((start : List Sector) → IsFaithful start (background (h.content b) shape.tracked) shape state.fresh.bits (place_of shape state.table.chunks) passes history.log.entries (g.disk s) (g.last s)
+      → IsFaithful start (background (h.content b) shape.tracked) shape fresh'.bits (place_of shape table'.chunks) passes' history'.log.entries (g.disk s) (g.last s))
+      → IsFaithfullyKept g h shape (record state { table = table'; fresh = fresh' }) passes' history' s b
+  told-here was opened next = record {
     base_size = was.base_size;
-    faithful = λ start is. next start (was.faithful start (subst (λ (n : ℕ). IsStart (opening_at n disk) base h start) opened is));
+    faithful = λ start is. next start (was.faithful start (subst (λ (n : ℕ). IsStart (opening_at n (g.disk s)) (h.content b) state.header start) opened is));
   }
 
--- Where the devices tell, the history is legal from whatever the guest's disk was at opening.
-pub told-legal : {shape : Shape} {h : Header} {table : Given} {fresh : List Bool} {passes : List Pass} {history : Numbered} {disk : Disk} {last : ℕ} {base : List Sector} {base_sectors : ℕ} → IsRegular (shape.block * shape.blocks) history.log.entries
-    → IsFaithfullyKept shape h table fresh passes history disk last base base_sectors → (start : List Sector) → IsStart (opening_at history.opened disk) base h start → IsLegal start history.log.entries
-told-legal {history = history} regular told start is = let faithful = told.faithful start is in record {
-  regular = subst (λ (n : ℕ). IsRegular n history.log.entries) (sym faithful.size) regular;
-  shown = faithful.shown;
-}
+module _ {shape : Shape} {state : State} {passes : List Pass} {history : Numbered} {S B : Type 0} {g : store.Ghosts S} {h : base.Ghosts B} {s : S} {b : B} where
+  -- The base has been called.
+  pub faithful-base : {b' : B} → KeepsBase h b b' → h.tells b' → IsFaithfullyKept g h shape state passes history s b → IsFaithfullyKept g h shape state passes history s b'
+  faithful-base {b'} keeps tells was = let content = keeps.telling.content tells in record {
+    base_size = ap length content ∙ was.base_size ∙ sym keeps.counts.sectors;
+    faithful = λ start is.
+        subst (λ (xs : List Sector). IsFaithful start (background xs shape.tracked) shape state.fresh.bits (place_of shape state.table.chunks) passes history.log.entries (g.disk s) (g.last s)) (sym content)
+        (was.faithful start (subst (λ (xs : List Sector). IsStart (opening_at history.opened (g.disk s)) xs state.header start) content is));
+  }
+
+  -- Where the devices tell, the history is legal from whatever the guest's disk was at opening.
+  pub told-legal : IsRegular (shape.block * shape.blocks) history.log.entries → IsFaithfullyKept g h shape state passes history s b
+      → (start : List Sector) → IsStart (opening_at history.opened (g.disk s)) (h.content b) state.header start → IsLegal start history.log.entries
+  told-legal regular told start is = let faithful = told.faithful start is in record {
+    regular = subst (λ (n : ℕ). IsRegular n history.log.entries) (sym faithful.size) regular;
+    shown = faithful.shown;
+  }

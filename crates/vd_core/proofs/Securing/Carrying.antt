@@ -1,14 +1,14 @@
 -- What is kept so that every image is safe goes on with the core, while the opening stays as it was.
 use Rattle.std.proofs.Common.{◌≡◌, ℕ, zero, suc, ◌-◌, ◌<◌, ◌≤◌, inl, inr, Bool, List, [], ◌∷◌, ◌++◌, length, refl, sym, ◌∙◌, ap, subst, arith, Option, Some, slice_get}
 use Rattle.std.proofs.lemmas.Bool.{cases_lt}
+use Rattle.vd_device.specs.declared.store.Store as store
+use Rattle.vd_device.specs.declared.base.Base as base
+use Rattle.vd_bits.specs.Blocks.{Blocks}
 use Rattle.vd_law.specs.declared.entry.Sector.{Sector}
 use Rattle.vd_law.specs.declared.entry.Room.{Room}
 use Rattle.vd_law.specs.Entries.{Entry}
 use Rattle.vd_law.specs.Histories.{Numbered}
-use Rattle.vd_device.specs.declared.ticket.Ticket.{Ticket}
 use Rattle.vd_device.specs.Disks.{Disk}
-use Rattle.vd_format.specs.declared.header.Header.{Header}
-use Rattle.vd_format.specs.declared.map.Entry.{Entry as MapEntry}
 use Rattle.vd_image.specs.Log.{Writes}
 use Rattle.vd_regions.specs.declared.regions.Region.{Region}
 use Rattle.vd_table.specs.Tables.{Given}
@@ -42,55 +42,55 @@ writes-inside log more opened sectors before added i a v since w = elim (cases_l
   | inr past ↦ added (i - length log) a v (record { event = w.event; stands = at-appended log more i w.event past w.stands; covers = w.covers })
 ]
 
-module _ {h : Header} {entries : List MapEntry} {table table' : Given} {fresh fresh' : List Bool} {k k' : Keeping} {flusher flusher' : Option ℕ} {passes passes' : List Pass} {history history' : Numbered} {disk : Disk} {base : List Sector} {sectors : ℕ}
-    (was : IsSafelyKept h entries table fresh k flusher passes history disk base sectors) where
-  next-secured : (disk' : Disk) (base' : List Sector) → opening_at history'.opened disk' ≡ opening_at history.opened disk → history'.opened ≡ history.opened → base' ≡ base
-      → ((start : List Sector) (held : ℕ → Sector) → IsStart (opening_at history.opened disk) base h start
-      → IsSecured (opening_for h entries disk.start held base start history.opened) table fresh k flusher passes history disk.log
-      → IsSecured (opening_for h entries disk.start held base start history.opened) table' fresh' k' flusher' passes' history' disk'.log)
-      → (start : List Sector) → IsStart (opening_at history'.opened disk') base' h start → WasSafe (opening_at history'.opened disk') h
-      → (held : ℕ → Sector) × IsSecured (opening_for h entries disk'.start held base' start history'.opened) table' fresh' k' flusher' passes' history' disk'.log
-  next-secured disk' base' same opened content next start is safe =
-      let is_before : IsStart (opening_at history.opened disk) base h start = subst (λ (o : Opening). IsStart o base h start) same (subst (λ (b : List Sector). IsStart (opening_at history'.opened disk') b h start) content is) in
-      let secured = was.secured start is_before (subst (λ (o : Opening). WasSafe o h) same safe) in
-      let now = next start secured.0 is_before secured.1 in
-      let begun : disk'.start ≡ disk.start = ap (λ (o : Opening). o.start) same in (
-        secured.0,
-        subst (λ (n : ℕ). IsSecured (opening_for h entries disk'.start secured.0 base' start n) table' fresh' k' flusher' passes' history' disk'.log) (sym opened)
-            (subst (λ (b : List Sector). IsSecured (opening_for h entries disk'.start secured.0 b start history.opened) table' fresh' k' flusher' passes' history' disk'.log) (sym content)
-            (subst (λ (b : List Sector). IsSecured (opening_for h entries b secured.0 base start history.opened) table' fresh' k' flusher' passes' history' disk'.log) (sym begun) now)),
+module _ {state : State} {table' : Given} {fresh' : List Bool} {k k' : Keeping} {flusher flusher' : Option ℕ} {passes passes' : List Pass} {history history' : Numbered} {S B : Type 0} {sg : store.Ghosts S} {bg : base.Ghosts B} {the_store : S} {the_base : B}
+    (was : IsSafelyKept sg bg state k flusher passes history the_store the_base) where
+  next-secured : (disk' : Disk) (base' : List Sector) → opening_at history'.opened disk' ≡ opening_at history.opened (sg.disk the_store) → history'.opened ≡ history.opened → base' ≡ bg.content the_base
+      → ((start : List Sector) (held : ℕ → Sector) → IsStart (opening_at history.opened (sg.disk the_store)) (bg.content the_base) state.header start → IsSecured (opening_for state.header state.map (sg.disk the_store).start held (bg.content the_base) start history.opened) state.table state.fresh.bits k flusher passes history (sg.disk the_store).log
+      → IsSecured (opening_for state.header state.map (sg.disk the_store).start held (bg.content the_base) start history.opened) table' fresh' k' flusher' passes' history' disk'.log)
+      → (start : List Sector) → IsStart (opening_at history'.opened disk') base' state.header start → WasSafe (opening_at history'.opened disk') state.header
+      → (held : ℕ → Sector) × IsSecured (opening_for state.header state.map disk'.start held base' start history'.opened) table' fresh' k' flusher' passes' history' disk'.log
+  next-secured disk' base' same earlier content next start is safe =
+      let is_before : IsStart (opening_at history.opened (sg.disk the_store)) (bg.content the_base) state.header start = subst (λ (o : Opening). IsStart o (bg.content the_base) state.header start) same (subst (λ (xs : List Sector). IsStart (opening_at history'.opened disk') xs state.header start) content is) in
+      let secured = was.secured start is_before (subst (λ (o : Opening). WasSafe o state.header) same safe) in
+      let held = secured.0 in let now = next start held is_before secured.1 in
+      let begun : disk'.start ≡ (sg.disk the_store).start = ap (λ (o : Opening). o.start) same in (
+        held,
+        subst (λ (n : ℕ). IsSecured (opening_for state.header state.map disk'.start held base' start n) table' fresh' k' flusher' passes' history' disk'.log) (sym earlier)
+            (subst (λ (xs : List Sector). IsSecured (opening_for state.header state.map disk'.start held xs start history.opened) table' fresh' k' flusher' passes' history' disk'.log) (sym content)
+            (subst (λ (xs : List Sector). IsSecured (opening_for state.header state.map xs held (bg.content the_base) start history.opened) table' fresh' k' flusher' passes' history' disk'.log) (sym begun) now)),
       )
 
+module _ {state : State} {table' : Given} {fresh' : Blocks} {k k' : Keeping} {flusher flusher' : Option ℕ} {passes passes' : List Pass} {history history' : Numbered} {S B : Type 0} {sg : store.Ghosts S} {bg : base.Ghosts B} {the_store : S} {the_base : B}
+    (was : IsSafelyKept sg bg state k flusher passes history the_store the_base) where
   -- the store is as it was
-  pub safely-here : {base' : List Sector} → history'.opened ≡ history.opened → base' ≡ base
-      → ((start : List Sector) (held : ℕ → Sector) → IsStart (opening_at history.opened disk) base h start
-      → IsSecured (opening_for h entries disk.start held base start history.opened) table fresh k flusher passes history disk.log
-      → IsSecured (opening_for h entries disk.start held base start history.opened) table' fresh' k' flusher' passes' history' disk.log)
-      → IsSafelyKept h entries table' fresh' k' flusher' passes' history' disk base' sectors
-  safely-here {base'} opened content next = record {
+  pub safely-here : {the_base' : B} → history'.opened ≡ history.opened → bg.content the_base' ≡ bg.content the_base
+      → ((start : List Sector) (held : ℕ → Sector) → IsStart (opening_at history.opened (sg.disk the_store)) (bg.content the_base) state.header start → IsSecured (opening_for state.header state.map (sg.disk the_store).start held (bg.content the_base) start history.opened) state.table state.fresh.bits k flusher passes history (sg.disk the_store).log
+      → IsSecured (opening_for state.header state.map (sg.disk the_store).start held (bg.content the_base) start history.opened) table' fresh'.bits k' flusher' passes' history' (sg.disk the_store).log)
+      → IsSafelyKept sg bg (record state { table = table'; fresh = fresh' }) k' flusher' passes' history' the_store the_base'
+  safely-here {the_base'} earlier content next = record {
     size = was.size;
-    inside = λ i a v since. was.inside i a v (subst (λ (n : ℕ). n ≤ i) opened since);
-    secured = next-secured disk base' (ap (λ (n : ℕ). opening_at n disk) opened) opened content next;
+    inside = λ i a v since. was.inside i a v (subst (λ (n : ℕ). n ≤ i) earlier since);
+    secured = next-secured was (sg.disk the_store) (bg.content the_base') (ap (λ (n : ℕ). opening_at n (sg.disk the_store)) earlier) earlier content next;
   }
 
   -- the store has gone on, by entries that write to its sectors alone
-  pub safely-on : {disk' : Disk} {sectors' : ℕ} → IsLogged passes history disk → (on : GoesOn disk disk') → ((j a : ℕ) (v : Sector) → Writes on.0 j a v → a < sectors) → sectors' ≡ sectors → history'.opened ≡ history.opened
-      → ((start : List Sector) (held : ℕ → Sector) → IsStart (opening_at history.opened disk) base h start
-      → IsSecured (opening_for h entries disk.start held base start history.opened) table fresh k flusher passes history disk.log
-      → IsSecured (opening_for h entries disk.start held base start history.opened) table' fresh' k' flusher' passes' history' disk'.log)
-      → IsSafelyKept h entries table' fresh' k' flusher' passes' history' disk' base sectors'
-  safely-on {disk'} {sectors'} logged on added same_size opened next = record {
+  pub safely-on : {the_store' : S} → IsLogged passes history (sg.disk the_store) → (on : GoesOn (sg.disk the_store) (sg.disk the_store')) → ((j a : ℕ) (v : Sector) → Writes on.0 j a v → a < sg.sectors the_store)
+      → sg.sectors the_store' ≡ sg.sectors the_store → history'.opened ≡ history.opened
+      → ((start : List Sector) (held : ℕ → Sector) → IsStart (opening_at history.opened (sg.disk the_store)) (bg.content the_base) state.header start → IsSecured (opening_for state.header state.map (sg.disk the_store).start held (bg.content the_base) start history.opened) state.table state.fresh.bits k flusher passes history (sg.disk the_store).log
+      → IsSecured (opening_for state.header state.map (sg.disk the_store).start held (bg.content the_base) start history.opened) table' fresh'.bits k' flusher' passes' history' (sg.disk the_store').log)
+      → IsSafelyKept sg bg (record state { table = table'; fresh = fresh' }) k' flusher' passes' history' the_store' the_base
+  safely-on {the_store'} logged on added same_size earlier next = record {
     size = ap length on.1.start ∙ was.size ∙ sym same_size;
     inside = λ i a v since w.
-        let earlier : history.opened ≤ i = subst (λ (n : ℕ). n ≤ i) opened since in
-        subst (λ (n : ℕ). a < n) (sym same_size) (writes-inside disk.log on.0 history.opened sectors was.inside added i a v earlier (subst (λ (l : List Entry). Writes l i a v) on.1.log w));
-    secured = next-secured disk' base (same-opening logged on opened) opened refl next;
+        let before : history.opened ≤ i = subst (λ (n : ℕ). n ≤ i) earlier since in
+        subst (λ (n : ℕ). a < n) (sym same_size) (writes-inside (sg.disk the_store).log on.0 history.opened (sg.sectors the_store) was.inside added i a v before (subst (λ (l : List Entry). Writes l i a v) on.1.log w));
+    secured = next-secured was (sg.disk the_store') (bg.content the_base) (same-opening logged on earlier) earlier refl next;
   }
 
 -- What else is known of the core, of what its type keeps.
-module _ {shape : Shape} {state : State} {regions : List (Option Region)} {passes : List Pass} {history : Numbered} {spare : Room} {sectors depth events base_sectors base_depth : ℕ} {flies base_flies : List Ticket → Type 0} {flusher : Option ℕ} {k : Keeping} {disk : Disk} {last : ℕ} {base : List Sector}
-    (kept : IsKept shape state.table state.fresh.bits regions passes history spare sectors depth events base_sectors base_depth flies base_flies) (recorded : IsRecorded shape state passes flusher k)
-    (told : IsFaithfullyKept shape state.header state.table state.fresh.bits passes history disk last base base_sectors)
-    (start : List Sector) (held : ℕ → Sector) (is : IsStart (opening_at history.opened disk) base state.header start) where
-  pub around : Surroundings state.header (opening_for state.header state.map disk.start held base start history.opened) shape state.table state.fresh.bits k flusher passes history.log.entries base last
+module _ {shape : Shape} {state : State} {regions : List (Option Region)} {passes : List Pass} {history : Numbered} {spare : Room} {S B : Type 0} {sg : store.Ghosts S} {bg : base.Ghosts B} {the_store : S} {the_base : B} {flusher : Option ℕ} {k : Keeping}
+    (kept : IsKept sg bg shape state regions passes history spare the_store the_base) (recorded : IsRecorded shape state passes flusher k)
+    (told : IsFaithfullyKept sg bg shape state passes history the_store the_base)
+    (start : List Sector) (held : ℕ → Sector) (is : IsStart (opening_at history.opened (sg.disk the_store)) (bg.content the_base) state.header start) where
+  pub around : Surroundings state.header (opening_for state.header state.map (sg.disk the_store).start held (bg.content the_base) start history.opened) shape state.table state.fresh.bits k flusher passes history.log.entries (bg.content the_base) (sg.last the_store)
   around = surroundings-of (record { format = refl; layout = refl; zeros = refl; same = recorded.same }) (λ s. refl) recorded.attended kept.coherent (told.faithful start is)

@@ -1,5 +1,6 @@
 -- The steps of a flush keep a core so that every image is safe.
 use Rattle.std.proofs.Common.{◌≡◌, ℕ, ◌+◌, ◌<◌, ◌≤◌, ◌⊎◌, List, [], ◌∷◌, length, refl, sym, ◌∙◌, subst, inl, inr, arith, Option, Some, None, slice_get}
+use Rattle.vd_device.specs.declared.base.Base as base
 use Rattle.vd_law.specs.declared.entry.Sector.{Sector}
 use Rattle.vd_law.specs.declared.entry.Room.{Room}
 use Rattle.vd_law.specs.Histories.{Numbered}
@@ -55,29 +56,27 @@ same-after settled.Done flusher = refl
 same-after (settled.NotYet same) flusher = refl
 same-after (settled.Failed number) flusher = refl
 
-module _ {shape : Shape} {state : State} {regions : List (Option Region)} {passes : List Pass} {history : Numbered} {spare : Room} {sectors depth events base_sectors base_depth : ℕ} {flies base_flies : List Ticket → Type 0} {flusher : Option ℕ} {k : Keeping}
-    {tells base_tells : Type 0} {disk : Disk} {last : ℕ} {base : List Sector}
-    (kept : IsKept shape state.table state.fresh.bits regions passes history spare sectors depth events base_sectors base_depth flies base_flies) (recorded : IsRecorded shape state passes flusher k)
-    (told : tells → base_tells → IsFaithfullyKept shape state.header state.table state.fresh.bits passes history disk last base base_sectors) (logged : tells → IsLogged passes history disk)
-    (was : tells → base_tells → IsSafelyKept state.header state.map state.table state.fresh.bits k flusher passes history disk base sectors) (i : ℕ) where
+module _ {shape : Shape} {state : State} {regions : List (Option Region)} {passes : List Pass} {history : Numbered} {spare : Room} {S B : Type 0} {g : store.Ghosts S} {h : base.Ghosts B} {s : S} {b : B} {flusher : Option ℕ} {k : Keeping}
+    (kept : IsKept g h shape state regions passes history spare s b) (recorded : IsRecorded shape state passes flusher k)
+    (told : g.tells s → h.tells b → IsFaithfullyKept g h shape state passes history s b) (logged : g.tells s → IsLogged passes history (g.disk s))
+    (was : g.tells s → h.tells b → IsSafelyKept g h state k flusher passes history s b) (i : ℕ) where
   -- A flush isn't begun, at the last generation.
-  pub worn-safely : {route : Route} {passes' : List Pass} → flusher ≡ None → IsWornOut route i k passes passes' → tells → base_tells → IsSafelyKept state.header state.map state.table state.fresh.bits k flusher passes' history disk base sectors
+  pub worn-safely : {route : Route} {passes' : List Pass} → flusher ≡ None → IsWornOut route i k passes passes' → g.tells s → h.tells b → IsSafelyKept g h state k flusher passes' history s b
   worn-safely none step now base_now = safely-here (was now base_now) refl refl (λ start held is secured. worn-secured step none secured)
 
   -- It is over.
-  pub seal-safely : {k' : Keeping} {passes' : List Pass} → k.stage ≡ Seals → SealsFlush i k k' passes passes' → tells → base_tells → IsSafelyKept state.header state.map state.table state.fresh.bits k' None passes' history disk base sectors
+  pub seal-safely : {k' : Keeping} {passes' : List Pass} → k.stage ≡ Seals → SealsFlush i k k' passes passes' → g.tells s → h.tells b → IsSafelyKept g h state k' None passes' history s b
   seal-safely stage step now base_now =
       safely-here (was now base_now) refl refl (λ start held is secured. seal-secured (flushing-of (around kept recorded (told now base_now) start held is) secured) step stage secured)
 
 -- its calls
-module _ {shape : Shape} {state : State} {regions : List (Option Region)} {passes : List Pass} {history : Numbered} {spare : Room} {base_sectors base_depth : ℕ} {base_flies : List Ticket → Type 0} {flusher : Option ℕ} {k : Keeping}
-    {S : Type 0} {g : store.Ghosts S} {s : S} {base_tells : Type 0} {base : List Sector}
-    (kept : IsKept shape state.table state.fresh.bits regions passes history spare (g.sectors s) (g.depth s) (g.events s) base_sectors base_depth (g.flies s) base_flies) (recorded : IsRecorded shape state passes flusher k)
-    (told : g.tells s → base_tells → IsFaithfullyKept shape state.header state.table state.fresh.bits passes history (g.disk s) (g.last s) base base_sectors) (logged : g.tells s → IsLogged passes history (g.disk s))
-    (was : g.tells s → base_tells → IsSafelyKept state.header state.map state.table state.fresh.bits k flusher passes history (g.disk s) base (g.sectors s)) (i : ℕ) {passes' : List Pass} {s' : S} where
+module _ {shape : Shape} {state : State} {regions : List (Option Region)} {passes : List Pass} {history : Numbered} {spare : Room} {S B : Type 0} {g : store.Ghosts S} {h : base.Ghosts B} {s : S} {b : B} {flusher : Option ℕ} {k : Keeping}
+    (kept : IsKept g h shape state regions passes history spare s b) (recorded : IsRecorded shape state passes flusher k)
+    (told : g.tells s → h.tells b → IsFaithfullyKept g h shape state passes history s b) (logged : g.tells s → IsLogged passes history (g.disk s))
+    (was : g.tells s → h.tells b → IsSafelyKept g h state k flusher passes history s b) (i : ℕ) {passes' : List Pass} {s' : S} where
   -- A flush is begun.
   pub begin-safely : {route : Route} {k' : Keeping} → flusher ≡ None → ((t : ℕ) → route ≡ Recycle t → t ≡ k.header.tracked) → BeginsFlush g route shape i (meta_state k passes) (meta_state k' passes') s s'
-      → g.sectors s' ≡ g.sectors s → g.tells s' → base_tells → IsSafelyKept state.header state.map state.table state.fresh.bits k' (Some i) passes' history (g.disk s') base (g.sectors s')
+      → g.sectors s' ≡ g.sectors s → g.tells s' → h.tells b → IsSafelyKept g h state k' (Some i) passes' history s' b
   begin-safely none tracked step same now base_now =
       let before = step.sends.told_before now in
       safely-on (was before base_now) (logged before) (_, (step.sends.told now).0) (submit-inside (let inside = kept.storage.inside in omega (arith, inside)) step.sends) same refl
@@ -87,7 +86,7 @@ module _ {shape : Shape} {state : State} {regions : List (Option Region)} {passe
 
   -- The next record, sector of the map or header is put.
   pub put-safely : {k' : Keeping} → k.stage ≡ Puts → PutsNext g state.table shape i (meta_state k passes) (meta_state k' passes') s s' → g.sectors s' ≡ g.sectors s
-      → g.tells s' → base_tells → IsSafelyKept state.header state.map state.table state.fresh.bits k' flusher passes' history (g.disk s') base (g.sectors s')
+      → g.tells s' → h.tells b → IsSafelyKept g h state k' flusher passes' history s' b
   put-safely stage step same now base_now =
       let before = step.sends.told_before now in
       safely-on (was before base_now) (logged before) (_, (step.sends.told now).0) (submit-inside (let inside = kept.storage.inside in omega (arith, inside)) step.sends) same refl
@@ -95,7 +94,7 @@ module _ {shape : Shape} {state : State} {regions : List (Option Region)} {passe
 
   -- What was put is flushed.
   pub sync-safely : k.stage ≡ Syncs → SyncsPuts g shape i passes passes' s s' → g.sectors s' ≡ g.sectors s
-      → g.tells s' → base_tells → IsSafelyKept state.header state.map state.table state.fresh.bits k flusher passes' history (g.disk s') base (g.sectors s')
+      → g.tells s' → h.tells b → IsSafelyKept g h state k flusher passes' history s' b
   sync-safely stage step same now base_now =
       let before = step.sends.told_before now in
       safely-on (was before base_now) (logged before) (_, (step.sends.told now).0) (submit-inside (let inside = kept.storage.inside in omega (arith, inside)) step.sends) same refl
@@ -103,22 +102,22 @@ module _ {shape : Shape} {state : State} {regions : List (Option Region)} {passe
 
   -- A call of it is settled.
   pub settle_meta-safely : {answer : Settled} {k' : Keeping} → SettlesMeta g answer i (meta_state k passes) (meta_state k' passes') s s' → g.sectors s' ≡ g.sectors s
-      → g.tells s' → base_tells → IsSafelyKept state.header state.map state.table state.fresh.bits k' (flusher_after answer flusher) passes' history (g.disk s') base (g.sectors s')
+      → g.tells s' → h.tells b → IsSafelyKept g h state k' (flusher_after answer flusher) passes' history s' b
   settle_meta-safely {answer} {k'} step same now base_now =
       let before = step.settles.told_before now in
-      subst (λ (f : Option ℕ). IsSafelyKept state.header state.map state.table state.fresh.bits k' f passes' history (g.disk s') base (g.sectors s')) (same-after answer flusher)
+      subst (λ (f : Option ℕ). IsSafelyKept g h state k' f passes' history s' b) (same-after answer flusher)
       (safely-on (was before base_now) (logged before) (_, (step.settles.told now).grows) (settled-inside answer step.settles.ticket _ (g.sectors s)) same refl
       (λ start held is secured. settle_meta-secured (flushing-of (around kept recorded (told before base_now) start held is) secured) step now secured))
 
-module _ {shape : Shape} {state : State} {passes : List Pass} {history : Numbered} {sectors : ℕ} {flusher : Option ℕ} {k : Keeping} {tells base_tells : Type 0} {disk : Disk} {base : List Sector}
-    (recorded : IsRecorded shape state passes flusher k) (was : tells → base_tells → IsSafelyKept state.header state.map state.table state.fresh.bits k flusher passes history disk base sectors) where
+module _ {shape : Shape} {state : State} {passes : List Pass} {history : Numbered} {S B : Type 0} {g : store.Ghosts S} {h : base.Ghosts B} {s : S} {b : B} {flusher : Option ℕ} {k : Keeping}
+    (recorded : IsRecorded shape state passes flusher k) (was : g.tells s → h.tells b → IsSafelyKept g h state k flusher passes history s b) where
   -- where all passes are idle no flush is under way
   idle-flusher : ((i : ℕ) (p : Pass) → slice_get passes i ≡ Some p → p.phase ≡ Idle) → (f : Option ℕ) → flusher ≡ f → flusher ≡ None
   idle-flusher idle None none = none
   idle-flusher idle (Some i) mine = absurd (let w = recorded.attended.working i mine in let flushing = (recorded.attended.flushing i w.0 w.1).1 mine in let e = sym (idle i w.0 w.1) ∙ flushing in cc)
 
   -- All local blocks are owed that not every image has.
-  pub adopt-safely : {k' : Keeping} → ((i : ℕ) (p : Pass) → slice_get passes i ≡ Some p → p.phase ≡ Idle) → k' ≡ adopting state.fresh.bits k → tells → base_tells → IsSafelyKept state.header state.map state.table state.fresh.bits k' flusher passes history disk base sectors
+  pub adopt-safely : {k' : Keeping} → ((i : ℕ) (p : Pass) → slice_get passes i ≡ Some p → p.phase ≡ Idle) → k' ≡ adopting state.fresh.bits k → g.tells s → h.tells b → IsSafelyKept g h state k' flusher passes history s b
   adopt-safely {k'} idle after now base_now =
-      subst (λ (x : Keeping). IsSafelyKept state.header state.map state.table state.fresh.bits x flusher passes history disk base sectors) (sym after)
+      subst (λ (x : Keeping). IsSafelyKept g h state x flusher passes history s b) (sym after)
       (safely-here (was now base_now) refl refl (λ start held is secured. adopt-secured (idle-flusher idle flusher refl) secured))

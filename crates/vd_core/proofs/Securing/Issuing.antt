@@ -1,6 +1,10 @@
 -- The steps of a write keep a core so that every image is safe.
-use Rattle.std.proofs.Common.{◌≡◌, ℕ, zero, suc, ◌+◌, ◌-◌, ◌*◌, ◌<◌, ◌≤◌, ◌⊎◌, Bool, List, [], ◌∷◌, ◌++◌, length, sym, ◌∙◌, ap, subst, inl, inr, arith, length-append, Option, Some}
+use Rattle.std.proofs.Common.{◌≡◌, ℕ, zero, suc, ◌+◌, ◌-◌, ◌*◌, ◌<◌, ◌≤◌, ◌⊎◌, List, [], ◌∷◌, ◌++◌, length, sym, ◌∙◌, ap, subst, inl, inr, arith, length-append, Option, Some}
 use Rattle.std.specs.Prelude.{slice_range}
+use Rattle.vd_device.specs.declared.store.Store as store
+use Rattle.vd_device.specs.declared.base.Base as base
+use Rattle.vd_device.specs.Stores.{KeepsStore}
+use Rattle.vd_bits.specs.Blocks.{Blocks}
 use Rattle.vd_law.specs.declared.entry.Sector.{Sector}
 use Rattle.vd_law.specs.declared.entry.Room.{Room}
 use Rattle.vd_law.specs.Entries.{Entry}
@@ -27,7 +31,6 @@ use Rattle.vd_passes.proofs.Ready.{can-write-asked}
 use Rattle.vd_safety.proofs.Ending.{IsOwedAfter, IsNumberedAfter, settle_issue-secured}
 use Rattle.vd_safety.proofs.Issuing.{issue-secured, part-long}
 use Rattle.vd_core.specs.Adding.{Extends}
-use Rattle.vd_core.proofs.Keeping.Devices.{Stays}
 use Rattle.vd_core.specs.Issuing.{IsWritable, owed_after}
 use Rattle.vd_core.specs.Outcomes.{numbers_of}
 use Rattle.vd_core.specs.Kept.{IsKept, IsFaithfullyKept, IsLogged, IsRecorded, IsSafelyKept}
@@ -85,20 +88,19 @@ numbered-as settled.Done history history' events disk is runs = number-now histo
 numbered-as (settled.NotYet same) history history' events disk is runs = is
 numbered-as (settled.Failed number) history history' events disk is runs = number-now history history' events disk is runs
 
-module _ {shape : Shape} {state : State} {regions : List (Option Region)} {passes : List Pass} {history : Numbered} {spare : Room} {sectors depth events base_sectors base_depth : ℕ} {flies base_flies : List Ticket → Type 0} {flusher : Option ℕ} {k : Keeping}
-    {tells base_tells : Type 0} {disk : Disk} {last : ℕ} {base : List Sector}
-    (kept : IsKept shape state.table state.fresh.bits regions passes history spare sectors depth events base_sectors base_depth flies base_flies) (recorded : IsRecorded shape state passes flusher k)
-    (told : tells → base_tells → IsFaithfullyKept shape state.header state.table state.fresh.bits passes history disk last base base_sectors) (logged : tells → IsLogged passes history disk)
-    (was : tells → base_tells → IsSafelyKept state.header state.map state.table state.fresh.bits k flusher passes history disk base sectors) (i : ℕ) where
+module _ {shape : Shape} {state : State} {regions : List (Option Region)} {passes : List Pass} {history : Numbered} {spare : Room} {S B : Type 0} {g : store.Ghosts S} {h : base.Ghosts B} {s : S} {b : B} {flusher : Option ℕ} {k : Keeping}
+    (kept : IsKept g h shape state regions passes history spare s b) (recorded : IsRecorded shape state passes flusher k)
+    (told : g.tells s → h.tells b → IsFaithfullyKept g h shape state passes history s b) (logged : g.tells s → IsLogged passes history (g.disk s))
+    (was : g.tells s → h.tells b → IsSafelyKept g h state k flusher passes history s b) (i : ℕ) where
   -- the piece, or the block, lies in the store
-  issued-inside : {content : List Sector} {passes' : List Pass} {history' : List Entry} {last' : ℕ} {flies' : List Ticket → Type 0} {tells' : Type 0} {disk' : Disk}
+  issued-inside : {content : List Sector} {passes' : List Pass} {history' : List Entry} {s' : S}
       → IsAt passes i (IsWritable shape state.fresh.bits) → HasAskedWrite history.log.entries i content
-      → (step : Issues shape state.fresh.bits content i passes passes' history.log.entries history' flies flies' tells tells' disk disk' last last') → step.ticket.first + length step.stored ≤ sectors
+      → (step : Issues shape state.fresh.bits content i passes passes' history.log.entries history' (g.flies s) (g.flies s') (g.tells s) (g.tells s') (g.disk s) (g.disk s') (g.last s) (g.last s')) → step.ticket.first + length step.stored ≤ (g.sectors s)
   issued-inside {content} at asked step =
       let p = step.pass in
       let can = can-write-asked kept.coherent i content asked (writing-at passes i at) in
       let same : can.0 ≡ p = some-inj (sym can.1 ∙ step.there) in
-      let ready : CanWrite shape sectors depth flies p = subst (λ (q : Pass). CanWrite shape sectors depth flies q) same can.2.0 in
+      let ready : CanWrite shape (g.sectors s) (g.depth s) (g.flies s) p = subst (λ (q : Pass). CanWrite shape (g.sectors s) (g.depth s) (g.flies s) q) same can.2.0 in
       let long : length content ≡ p.count = subst (λ (q : Pass). length content ≡ q.count) same can.2.1 in
       let piece = ready.piece in
       let from = piece.from in let to = piece.to in let room = ready.room in let few = piece.no_more in
@@ -113,23 +115,23 @@ module _ {shape : Shape} {state : State} {regions : List (Option Region)} {passe
       ]
 
   -- A piece is issued.
-  pub issue-safely : {content : List Sector} {passes' : List Pass} {history' : Numbered} {last' sectors' depth' events' : ℕ} {flies' : List Ticket → Type 0} {tells' : Type 0} {disk' : Disk}
+  pub issue-safely : {content : List Sector} {passes' : List Pass} {history' : Numbered} {s' : S}
       → IsAt passes i (IsWritable shape state.fresh.bits) → HasAskedWrite history.log.entries i content
-      → Issues shape state.fresh.bits content i passes passes' history.log.entries history'.log.entries flies flies' tells tells' disk disk' last last' → IsAt passes i (λ p. Extends (events ∷ []) p.piece history history')
-      → (tells → IsRunning events disk) → Stays sectors sectors' depth depth' events events' → tells' → base_tells → IsSafelyKept state.header state.map state.table state.fresh.bits k flusher passes' history' disk' base sectors'
+      → Issues shape state.fresh.bits content i passes passes' history.log.entries history'.log.entries (g.flies s) (g.flies s') (g.tells s) (g.tells s') (g.disk s) (g.disk s') (g.last s) (g.last s') → IsAt passes i (λ p. Extends (g.events s ∷ []) p.piece history history')
+      → (g.tells s → IsRunning (g.events s) (g.disk s)) → KeepsStore g s s' → g.tells s' → h.tells b → IsSafelyKept g h state k flusher passes' history' s' b
   issue-safely {content} {passes'} {history'} at asked step extends runs stays now base_now =
       let before = step.told_before now in
-      safely-on (was before base_now) (logged before) (_, (step.told now).0) (range-inside step.ticket step.stored sectors (issued-inside at asked step)) stays.sectors_same extends.2.opened
+      safely-on (was before base_now) (logged before) (_, (step.told now).0) (range-inside step.ticket step.stored (g.sectors s) (issued-inside at asked step)) stays.counts.sectors extends.2.opened
       (λ start held is secured. issue-secured history' (around kept recorded (told before base_now) start held is) (writing-at passes i at) asked step
       (extends.2.numbers ∙ ap (λ (n : ℕ). history.numbers ++ n ∷ []) (runs before)) now secured)
 
   -- Its end is settled.
-  pub settle_issue-safely : {answer : Settled} {fresh' : List Bool} {k' : Keeping} {passes' : List Pass} {history' : Numbered} {last' sectors' depth' events' : ℕ} {flies' : List Ticket → Type 0} {tells' : Type 0} {disk' : Disk}
-      → IsAt passes i (λ p. p.phase ≡ Issuing) → WriteSettled answer i state.fresh.bits fresh' passes passes' history.log.entries history'.log.entries flies flies' tells tells' disk disk' last last'
-      → Extends (numbers_of answer events') 0 history history' → IsAt passes i (λ p. k' ≡ owed_after answer p.block k) → (tells' → (history' ≡ history) ⊎ IsRunning events' disk') → Stays sectors sectors' depth depth' events events'
-      → tells' → base_tells → IsSafelyKept state.header state.map state.table fresh' k' flusher passes' history' disk' base sectors'
-  settle_issue-safely {answer} {fresh'} {k'} {passes'} {history'} {last'} {sectors'} {depth'} {events'} {flies'} {tells'} {disk'} at step extends owed runs stays now base_now =
+  pub settle_issue-safely : {answer : Settled} {fresh' : Blocks} {k' : Keeping} {passes' : List Pass} {history' : Numbered} {s' : S}
+      → IsAt passes i (λ p. p.phase ≡ Issuing) → WriteSettled answer i state.fresh.bits fresh'.bits passes passes' history.log.entries history'.log.entries (g.flies s) (g.flies s') (g.tells s) (g.tells s') (g.disk s) (g.disk s') (g.last s) (g.last s')
+      → Extends (numbers_of answer (g.events s')) 0 history history' → IsAt passes i (λ p. k' ≡ owed_after answer p.block k) → (g.tells s' → (history' ≡ history) ⊎ IsRunning (g.events s') (g.disk s')) → KeepsStore g s s'
+      → g.tells s' → h.tells b → IsSafelyKept g h (record state { fresh = fresh' }) k' flusher passes' history' s' b
+  settle_issue-safely {answer} {fresh'} {k'} {passes'} {history'} {s'} at step extends owed runs stays now base_now =
       let before = step.told_before now in
-      safely-on (was before base_now) (logged before) (_, (step.told now).grows) (settled-inside answer step.ticket [] sectors) stays.sectors_same extends.opened
+      safely-on (was before base_now) (logged before) (_, (step.told now).grows) (settled-inside answer step.ticket [] (g.sectors s)) stays.counts.sectors extends.opened
       (λ start held is secured. settle_issue-secured answer history' (around kept recorded (told before base_now) start held is) at step (owed.0, owed.1, owed-as answer owed.0.block k k' owed.2)
-      (numbered-as answer history history' events' disk' extends.numbers (runs now)) now secured)
+      (numbered-as answer history history' (g.events s') (g.disk s') extends.numbers (runs now)) now secured)

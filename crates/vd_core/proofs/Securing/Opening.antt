@@ -7,8 +7,10 @@ use Rattle.vd_law.specs.declared.entry.Room.{Room}
 use Rattle.vd_law.specs.Entries.{Entry}
 use Rattle.vd_law.specs.Contents.{may}
 use Rattle.vd_law.specs.Histories.{Numbered}
-use Rattle.vd_device.specs.declared.ticket.Ticket.{Ticket}
-use Rattle.vd_device.specs.Disks.{Disk, IsHonest, TellsOrStopped}
+use Rattle.vd_device.specs.declared.store.Store as store
+use Rattle.vd_device.specs.declared.base.Base as base
+use Rattle.vd_device.specs.Stores.{IsTold}
+use Rattle.vd_device.specs.Disks.{Disk, IsHonest}
 use Rattle.vd_device.specs.Now.{call_number}
 use Rattle.vd_format.specs.declared.header.Header.{Header}
 use Rattle.vd_image.specs.Log.{Flush, Ask, At, Writes, Flushes, May}
@@ -104,39 +106,37 @@ module _ (s : State) (whole : IsWhole s) (version : s.header.version ≡ 2) (dis
   }
 
 -- nothing was written since it was made
-pub opened-safely : (s : State) → IsWhole s → s.header.version ≡ 2 → {passes : List Pass} {count block events sectors : ℕ} (room : Room) (disk : Disk) (base : List Sector) → AreNew count block passes
-    → events ≡ length disk.log → IsHonest disk → Says disk.held s → length disk.start ≡ sectors → length disk.held ≡ sectors → (old : Disk) × AddsFlush old disk
-    → IsSafelyKept s.header s.map s.table s.fresh.bits (new_keeping s) None passes (empty_history room events) disk base sectors
-opened-safely s whole version {passes} {count} {block} {events} {sectors} room disk base new all honest says long held_long flushed = record {
+pub opened-safely : {S B : Type 0} (g : store.Ghosts S) (h : base.Ghosts B) (x : S) (y : B) (s : State) → IsWhole s → s.header.version ≡ 2 → {passes : List Pass} {count block events : ℕ} (room : Room) → AreNew count block passes
+    → events ≡ length (g.disk x).log → IsHonest (g.disk x) → Says (g.disk x).held s → length (g.disk x).start ≡ g.sectors x → length (g.disk x).held ≡ g.sectors x → (old : Disk) × AddsFlush old (g.disk x)
+    → IsSafelyKept g h s (new_keeping s) None passes (empty_history room events) x y
+opened-safely g h x y s whole version {passes} {count} {block} {events} room new all honest says long held_long flushed = let disk = g.disk x in record {
   size = long;
   inside = λ i a v since w. absurd (let below = writes_below disk.log i a v w in omega (arith, since, below, all));
   secured = λ start is safe. (
     image_of disk.held,
-    subst (λ (n : ℕ). IsSecured (opening_for s.header s.map disk.start (image_of disk.held) base start n) s.table s.fresh.bits (new_keeping s) None passes (empty_history room events) disk.log) (sym all)
-        (opened-secured s disk.start disk.held base start disk.log passes (empty_history room events) (made-from s whole version disk events all honest says base start is safe (held_long ∙ sym long) flushed.0 flushed.1)
+    subst (λ (n : ℕ). IsSecured (opening_for s.header s.map disk.start (image_of disk.held) (h.content y) start n) s.table s.fresh.bits (new_keeping s) None passes (empty_history room events) disk.log) (sym all)
+        (opened-secured s disk.start disk.held (h.content y) start disk.log passes (empty_history room events) (made-from s whole version disk events all honest says (h.content y) start is safe (held_long ∙ sym long) flushed.0 flushed.1)
         (λ i p there. (new.each i p there).phase) refl refl),
   );
 }
 
--- The same of parts that equal those of which all this is known.
-module _ (s : State) (passes : List Pass) (count : ℕ) (room : Room) (sectors depth events base_sectors base_depth : ℕ) (flies base_flies : List Ticket → Type 0) (records tells base_tells : Type 0) (disk : Disk) (last : ℕ) (base : List Sector)
-    (base_last opened faults base_opened base_faults : ℕ) where
-  -- what the type keeps, of a core with these parts
+-- What the type keeps of a core with these parts, in which nothing was asked.
+module _ {S B : Type 0} (g : store.Ghosts S) (h : base.Ghosts B) (x : S) (y : B) (s : State) (passes : List Pass) (count : ℕ) (room : Room) (store_faults base_faults : ℕ) where
   abbrev pub AllKept : Shape → Keeping → List (Option Region) → Numbered → Room → Type 0
-  AllKept shape k regions history spare = IsKept shape s.table s.fresh.bits regions passes history spare sectors depth events base_sectors base_depth flies base_flies
-      × (tells → base_tells → IsFaithfullyKept shape s.header s.table s.fresh.bits passes history disk last base base_sectors)
-      × IsAccounted shape s.map s.table s.fresh.bits passes history.log.entries last opened faults base_last base_opened base_faults
-      × (tells → IsLogged passes history disk)
+  AllKept shape k regions history spare = IsKept g h shape s regions passes history spare x y
+      × (g.tells x → h.tells y → IsFaithfullyKept g h shape s passes history x y)
+      × IsAccounted g h shape s passes history store_faults base_faults x y
+      × (g.tells x → IsLogged passes history (g.disk x))
       × IsRecorded shape s passes None k
-      × (tells → base_tells → IsSafelyKept s.header s.map s.table s.fresh.bits k None passes history disk base sectors)
-      × (records → base_tells → tells ⊎ IsSafelyStopped s.header history events disk base)
-      × (records → TellsOrStopped tells events disk)
+      × (g.tells x → h.tells y → IsSafelyKept g h s k None passes history x y)
+      × (g.records x → h.tells y → g.tells x ⊎ IsSafelyStopped s.header history (g.events x) (g.disk x) (h.content y))
+      × IsTold g x
 
-  pub opened-parts : {shape : Shape} {k : Keeping} {regions : List (Option Region)} {history : Numbered} {spare : Room} → shape ≡ shape_of s.header base_sectors → k ≡ new_keeping s → regions ≡ replicate count None
-      → history ≡ empty_history room events → spare ≡ room → AllKept (shape_of s.header base_sectors) (new_keeping s) (replicate count None) (empty_history room events) room → AllKept shape k regions history spare
-  opened-parts {shape} {k} {regions} {history} {spare} shape_is keeper held empty spare_is parts =
-      subst (λ (x : Shape). AllKept x k regions history spare) (sym shape_is)
-      (subst (λ (x : Keeping). AllKept (shape_of s.header base_sectors) x regions history spare) (sym keeper)
-      (subst (λ (x : List (Option Region)). AllKept (shape_of s.header base_sectors) (new_keeping s) x history spare) (sym held)
-      (subst (λ (x : Numbered). AllKept (shape_of s.header base_sectors) (new_keeping s) (replicate count None) x spare) (sym empty)
-      (subst (λ (x : Room). AllKept (shape_of s.header base_sectors) (new_keeping s) (replicate count None) (empty_history room events) x) (sym spare_is) parts))))
+  pub opened-parts : {shape : Shape} {k : Keeping} {regions : List (Option Region)} {history : Numbered} {spare : Room} → shape ≡ shape_of s.header (h.sectors y) → k ≡ new_keeping s → regions ≡ replicate count None
+      → history ≡ empty_history room (g.events x) → spare ≡ room → AllKept (shape_of s.header (h.sectors y)) (new_keeping s) (replicate count None) (empty_history room (g.events x)) room → AllKept shape k regions history spare
+  opened-parts {shape} {k} {regions} {history} {spare} shape_is keeper held empty spare_is parts = let made = shape_of s.header (h.sectors y) in
+      subst (λ (z : Shape). AllKept z k regions history spare) (sym shape_is)
+      (subst (λ (z : Keeping). AllKept made z regions history spare) (sym keeper)
+      (subst (λ (z : List (Option Region)). AllKept made (new_keeping s) z history spare) (sym held)
+      (subst (λ (z : Numbered). AllKept made (new_keeping s) (replicate count None) z spare) (sym empty)
+      (subst (λ (z : Room). AllKept made (new_keeping s) (replicate count None) (empty_history room (g.events x)) z) (sym spare_is) parts))))

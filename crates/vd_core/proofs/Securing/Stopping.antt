@@ -1,6 +1,11 @@
 -- What is kept of a store that has stopped goes on with the core: its log stands, and each further entry of the history is harmless.
 use Rattle.std.proofs.Common.{◌≡◌, ℕ, ◌-◌, ◌<◌, ◌≤◌, ◌⊎◌, inl, inr, Bool, List, [], ◌∷◌, ◌++◌, length, take, replicate, Contains, refl, sym, ◌∙◌, ap, subst, arith, Option}
 use Rattle.std.proofs.lemmas.List.{append_assoc, append-nil}
+use Rattle.vd_device.specs.declared.store.Store as store
+use Rattle.vd_device.specs.declared.base.Base as base
+use Rattle.vd_device.specs.Stores.{KeepsStore}
+use Rattle.vd_device.specs.Bases.{KeepsBase}
+use Rattle.vd_replay.specs.declared.state.State.{State}
 use Rattle.vd_law.specs.declared.entry.Sector.{Sector}
 use Rattle.vd_law.specs.declared.entry.Answer.{Answer}
 use Rattle.vd_law.specs.declared.entry.Room.{Room}
@@ -13,7 +18,6 @@ use Rattle.vd_device.specs.declared.settled.Settled.TheVariants.{Done, NotYet, F
 use Rattle.vd_device.specs.declared.ticket.Ticket.{Ticket}
 use Rattle.vd_device.specs.Disks.{Disk, TellsOrStopped, HasStood, TellsOrStood}
 use Rattle.vd_format.specs.declared.header.Header.{Header}
-use Rattle.vd_format.specs.declared.map.Entry.{Entry as MapEntry}
 use Rattle.vd_image.specs.Layouts.{layout_of}
 use Rattle.vd_image.specs.Decoders.{format_of}
 use Rattle.vd_image.specs.CrashImages.{base_at}
@@ -31,7 +35,6 @@ use Rattle.vd_safety.specs.Mirrors.{opening_for}
 use Rattle.vd_safety.proofs.Words.{IsHarmless, secured-rising, stopped-crash-safe}
 use Rattle.vd_core.specs.Adding.{Extends}
 use Rattle.vd_core.specs.Asking.{asking, AskEnds}
-use Rattle.vd_core.proofs.Keeping.Devices.{Stays, BaseStays}
 use Rattle.vd_core.specs.Outcomes.{numbers_of, read_numbers_of}
 use Rattle.vd_core.specs.Opening.{empty_history}
 use Rattle.vd_core.specs.Start.{Opening, opening_at, IsStart, WasSafe}
@@ -41,8 +44,8 @@ use Rattle.vd_core.proofs.Keeping.Telling.{same-opening}
 use Rattle.vd_core.proofs.Securing.Words.{safely-words}
 
 -- the numbers are not above the events that there are after a call
-pub later-still : {block events events' sectors sectors' depth depth' : ℕ} {passes : List Pass} {history : Numbered} {spare : Room} → IsRoomy block passes history spare events → Stays sectors sectors' depth depth' events events' → last_number history.opened history.numbers ≤ events'
-later-still roomy stays = let later = roomy.later in let rise = stays.events_rise in omega (arith, later, rise)
+pub later-still : {block : ℕ} {passes : List Pass} {history : Numbered} {spare : Room} {S : Type 0} {g : store.Ghosts S} {s s' : S} → IsRoomy block passes history spare (g.events s) → KeepsStore g s s' → last_number history.opened history.numbers ≤ g.events s'
+later-still roomy keeps = let later = roomy.later in let rise = keeps.telling.events in omega (arith, later, rise)
 
 -- ---- the history grows
 
@@ -175,48 +178,47 @@ stopped-same {h} {history} {history'} {events} {disk} {base} was opened next rec
 ]
 
 -- the base has had a call
-pub stopped-here : {h : Header} {history : Numbered} {events base_sectors base_sectors' base_depth base_depth' : ℕ} {disk : Disk} {base base' : List Sector} {records tells base_tells base_tells' : Type 0}
-    → (records → base_tells → tells ⊎ IsSafelyStopped h history events disk base) → BaseStays base_sectors base_sectors' base_depth base_depth' base_tells base_tells' base base'
-    → records → base_tells' → tells ⊎ IsSafelyStopped h history events disk base'
-stopped-here {h} {history} {events} {disk = disk} {base} {base'} {tells = tells} was stays recorded base_told =
-    subst (λ (b : List Sector). tells ⊎ IsSafelyStopped h history events disk b) (sym (stays.content_same base_told)) (was recorded (stays.told_before base_told))
+pub stopped-here : {head : Header} {history : Numbered} {events : ℕ} {disk : Disk} {records tells : Type 0} {B : Type 0} {h : base.Ghosts B} {b b' : B}
+    → (records → h.tells b → tells ⊎ IsSafelyStopped head history events disk (h.content b)) → KeepsBase h b b' → records → h.tells b' → tells ⊎ IsSafelyStopped head history events disk (h.content b')
+stopped-here {head} {history} {events} {disk} {tells = tells} was keeps recorded base_told =
+    subst (λ (xs : List Sector). tells ⊎ IsSafelyStopped head history events disk xs) (sym (keeps.telling.content base_told)) (was recorded (keeps.telling.told_before base_told))
 
-module _ {h : Header} {entries : List MapEntry} {table : Given} {fresh : List Bool} {k : Keeping} {flusher : Option ℕ} {passes : List Pass} {history : Numbered} {events sectors : ℕ} {disk : Disk} {base : List Sector} {records tells base_tells : Type 0}
-    (safely : tells → base_tells → IsSafelyKept h entries table fresh k flusher passes history disk base sectors) (was : records → base_tells → tells ⊎ IsSafelyStopped h history events disk base) where
+module _ {state : State} {k : Keeping} {flusher : Option ℕ} {passes : List Pass} {history : Numbered} {S B : Type 0} {sg : store.Ghosts S} {bg : base.Ghosts B} {the_store : S} {the_base : B}
+    (safely : sg.tells the_store → bg.tells the_base → IsSafelyKept sg bg state k flusher passes history the_store the_base) (was : sg.records the_store → bg.tells the_base → (sg.tells the_store) ⊎ IsSafelyStopped state.header history (sg.events the_store) (sg.disk the_store) (bg.content the_base)) where
   -- whether it tells or has stopped, the history is crash safe by the log as it stands
-  pub still-safe : records → base_tells → (start : List Sector) → IsStart (opening_at history.opened disk) base h start → WasSafe (opening_at history.opened disk) h → IsStillSafe h base start disk history
+  pub still-safe : sg.records the_store → bg.tells the_base → (start : List Sector) → IsStart (opening_at history.opened (sg.disk the_store)) (bg.content the_base) state.header start → WasSafe (opening_at history.opened (sg.disk the_store)) state.header → IsStillSafe state.header (bg.content the_base) start (sg.disk the_store) history
   still-safe recorded base_told start is safe = elim (was recorded base_told) [
     | inl told ↦
         let here = safely told base_told in
         let secured = here.secured start is safe in
         record {
           each = secured.1.mirrors.many;
-          rising = secured-rising (opening_for h entries disk.start secured.0 base start history.opened) table fresh k flusher passes history disk.log secured.1;
+          rising = secured-rising (opening_for state.header state.map (sg.disk the_store).start secured.0 (bg.content the_base) start history.opened) state.table state.fresh.bits k flusher passes history (sg.disk the_store).log secured.1;
           crash_safe = safely-words here start is safe;
         }
     | inr stopped ↦ stopped.safe start is safe
   ]
 
   -- The store has had a call. If it has stopped, in it or before, its log stands as it stood.
-  pub stopped-on : {history' : Numbered} {events' : ℕ} {disk' : Disk} {records' tells' : Type 0} → (records' → records) → (records' → TellsOrStood tells' events' disk disk') → history'.opened ≡ history.opened
-      → (length disk.log < events' → (start : List Sector) → IsStillSafe h base start disk history → IsStillSafe h base start disk history')
-      → records' → base_tells → tells' ⊎ IsSafelyStopped h history' events' disk' base
-  stopped-on {history'} {events'} {disk'} recorded_before stands opened next recorded base_told = elim (stands recorded) [
+  pub stopped-on : {history' : Numbered} {the_store' : S} → (sg.records the_store' → (sg.records the_store)) → (sg.records the_store' → TellsOrStood (sg.tells the_store') (sg.events the_store') (sg.disk the_store) (sg.disk the_store')) → history'.opened ≡ history.opened
+      → (length (sg.disk the_store).log < (sg.events the_store') → (start : List Sector) → IsStillSafe state.header (bg.content the_base) start (sg.disk the_store) history → IsStillSafe state.header (bg.content the_base) start (sg.disk the_store) history')
+      → sg.records the_store' → bg.tells the_base → (sg.tells the_store') ⊎ IsSafelyStopped state.header history' (sg.events the_store') (sg.disk the_store') (bg.content the_base)
+  stopped-on {history'} {the_store'} recorded_before stands opened next recorded base_told = elim (stands recorded) [
     | inl told ↦ inl told
     | inr stood ↦ inr (record {
       stopped = stood.stopped;
       safe = λ start is safe.
           let same = stood-opening stood opened in
-          let late : length disk.log < events' = (let long = ap length stood.log in omega (arith, long, stood.stopped)) in
-          let before = still-safe (recorded_before recorded) base_told start (subst (λ (o : Opening). IsStart o base h start) same is) (subst (λ (o : Opening). WasSafe o h) same safe) in
+          let late : length (sg.disk the_store).log < (sg.events the_store') = (let long = ap length stood.log in omega (arith, long, stood.stopped)) in
+          let before = still-safe (recorded_before recorded) base_told start (subst (λ (o : Opening). IsStart o (bg.content the_base) state.header start) same is) (subst (λ (o : Opening). WasSafe o state.header) same safe) in
           as_before stood (next late start before);
     })
   ]
     where
-      as_before : {start : List Sector} → HasStood events' disk disk' → IsStillSafe h base start disk history' → IsStillSafe h base start disk' history'
+      as_before : {start : List Sector} → HasStood (sg.events the_store') (sg.disk the_store) (sg.disk the_store') → IsStillSafe state.header (bg.content the_base) start (sg.disk the_store) history' → IsStillSafe state.header (bg.content the_base) start (sg.disk the_store') history'
       as_before {start} stood still = record {
         each = still.each;
         rising = still.rising;
-        crash_safe = subst (λ (xs : List Sector). IsCrashSafe (format_of h) (layout_of h) (base_at zero_sector base) zero_sector xs disk'.log start history') (sym stood.start)
-            (subst (λ (xs : List Entry). IsCrashSafe (format_of h) (layout_of h) (base_at zero_sector base) zero_sector disk.start xs start history') (sym stood.log) still.crash_safe);
+        crash_safe = subst (λ (xs : List Sector). IsCrashSafe (format_of state.header) (layout_of state.header) (base_at zero_sector (bg.content the_base)) zero_sector xs (sg.disk the_store').log start history') (sym stood.start)
+            (subst (λ (xs : List Entry). IsCrashSafe (format_of state.header) (layout_of state.header) (base_at zero_sector (bg.content the_base)) zero_sector (sg.disk the_store).start xs start history') (sym stood.log) still.crash_safe);
       }

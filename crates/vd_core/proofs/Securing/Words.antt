@@ -1,15 +1,14 @@
 -- What is kept says that every image at every moment is safe.
-use Rattle.std.proofs.Common.{◌≡◌, ℕ, ◌<◌, ◌≤◌, inl, inr, List, length, take, drop, refl, sym, ◌∙◌, ap, subst, arith, Bool, Option, Some, slice_get}
+use Rattle.std.proofs.Common.{◌≡◌, ℕ, ◌<◌, ◌≤◌, inl, inr, List, length, take, drop, refl, sym, ◌∙◌, ap, subst, arith, Option, Some, slice_get}
 use Rattle.std.proofs.lemmas.Bool.{cases_lt}
 use Rattle.std.proofs.lemmas.List.{length-take, take-append-drop}
+use Rattle.vd_device.specs.declared.store.Store as store
+use Rattle.vd_device.specs.declared.base.Base as base
 use Rattle.vd_law.specs.declared.entry.Sector.{Sector}
 use Rattle.vd_law.specs.declared.entry.Room.{Room}
 use Rattle.vd_law.specs.Entries.{Entry}
 use Rattle.vd_law.specs.Histories.{Numbered}
-use Rattle.vd_device.specs.declared.ticket.Ticket.{Ticket}
-use Rattle.vd_device.specs.Disks.{Disk}
 use Rattle.vd_format.specs.declared.header.Header.{Header}
-use Rattle.vd_format.specs.declared.map.Entry.{Entry as MapEntry}
 use Rattle.vd_format.specs.Layouts.{need_of}
 use Rattle.vd_regions.specs.declared.regions.Region.{Region}
 use Rattle.vd_replay.specs.declared.state.State.{State}
@@ -22,7 +21,6 @@ use Rattle.vd_image.specs.CrashImages.{base_at, IsCrashImage}
 use Rattle.vd_image.proofs.Logs.{writes_below}
 use Rattle.vd_crash.specs.CrashSafe.{IsCrashSafe}
 use Rattle.vd_reading.specs.Background.{zero_sector}
-use Rattle.vd_table.specs.Tables.{Given}
 use Rattle.vd_meta.specs.Keeping.{Keeping}
 use Rattle.vd_passes.specs.declared.pass.Pass.{Pass}
 use Rattle.vd_safety.proofs.Opening.{zeros-same}
@@ -44,29 +42,29 @@ written-early log n i a v early w =
       covers = w.covers;
     }
 
-module _ {h : Header} {entries : List MapEntry} {table : Given} {fresh : List Bool} {k : Keeping} {flusher : Option ℕ} {passes : List Pass} {history : Numbered} {disk : Disk} {base : List Sector} {sectors : ℕ}
-    (was : IsSafelyKept h entries table fresh k flusher passes history disk base sectors) (start : List Sector) (is : IsStart (opening_at history.opened disk) base h start) (safe : WasSafe (opening_at history.opened disk) h) where
-  pub all-inside : (i a : ℕ) (v : Sector) → Writes disk.log i a v → a < length disk.start
+module _ {state : State} {k : Keeping} {flusher : Option ℕ} {passes : List Pass} {history : Numbered} {S B : Type 0} {sg : store.Ghosts S} {bg : base.Ghosts B} {the_store : S} {the_base : B}
+    (was : IsSafelyKept sg bg state k flusher passes history the_store the_base) (start : List Sector) (is : IsStart (opening_at history.opened (sg.disk the_store)) (bg.content the_base) state.header start) (safe : WasSafe (opening_at history.opened (sg.disk the_store)) state.header) where
+  pub all-inside : (i a : ℕ) (v : Sector) → Writes (sg.disk the_store).log i a v → a < length (sg.disk the_store).start
   all-inside i a v w = elim (cases_lt i history.opened) [
-    | inl early ↦ safe.inside i a v (written-early disk.log history.opened i a v early w)
+    | inl early ↦ safe.inside i a v (written-early (sg.disk the_store).log history.opened i a v early w)
     | inr since ↦ (let within = was.inside i a v since w in let size = was.size in omega (arith, within, size))
   ]
 
-  pub safely-words : IsCrashSafe (format_of h) (layout_of h) (base_at zero_sector base) zero_sector disk.start disk.log start history
+  pub safely-words : IsCrashSafe (format_of state.header) (layout_of state.header) (base_at zero_sector (bg.content the_base)) zero_sector (sg.disk the_store).start (sg.disk the_store).log start history
   safely-words =
       let secured = was.secured start is safe in
-      subst (λ (z : Sector). IsCrashSafe (format_of h) (layout_of h) (base_at z base) z disk.start disk.log start history) zeros-same
-      (secured-safe h entries disk.start secured.0 base start history.opened table fresh k flusher passes history disk.log secured.1 refl is.size all-inside)
+      subst (λ (z : Sector). IsCrashSafe (format_of state.header) (layout_of state.header) (base_at z (bg.content the_base)) z (sg.disk the_store).start (sg.disk the_store).log start history) zeros-same
+      (secured-safe state.header state.map (sg.disk the_store).start secured.0 (bg.content the_base) start history.opened state.table state.fresh.bits k flusher passes history (sg.disk the_store).log secured.1 refl is.size all-inside)
 
 -- a header with these numbers
 abbrev bare : Geometry → Header
 bare g = record { version = g.version; block = g.block; chunk = g.chunk; storage = g.storage; slots = g.slots; size = g.size; tracked = 0; generation = 0 }
 
-module _ {shape : Shape} {state : State} {regions : List (Option Region)} {passes : List Pass} {history : Numbered} {spare : Room} {sectors depth events base_sectors base_depth : ℕ} {flies base_flies : List Ticket → Type 0} {flusher : Option ℕ} {k : Keeping} {disk : Disk} {base : List Sector}
-    (kept : IsKept shape state.table state.fresh.bits regions passes history spare sectors depth events base_sectors base_depth flies base_flies) (recorded : IsRecorded shape state passes flusher k)
-    (was : IsSafelyKept state.header state.map state.table state.fresh.bits k flusher passes history disk base sectors) (start : List Sector) (is : IsStart (opening_at history.opened disk) base state.header start) (safe : WasSafe (opening_at history.opened disk) state.header) where
+module _ {shape : Shape} {state : State} {regions : List (Option Region)} {passes : List Pass} {history : Numbered} {spare : Room} {S B : Type 0} {sg : store.Ghosts S} {bg : base.Ghosts B} {the_store : S} {the_base : B} {flusher : Option ℕ} {k : Keeping}
+    (kept : IsKept sg bg shape state regions passes history spare the_store the_base) (recorded : IsRecorded shape state passes flusher k)
+    (was : IsSafelyKept sg bg state k flusher passes history the_store the_base) (start : List Sector) (is : IsStart (opening_at history.opened (sg.disk the_store)) (bg.content the_base) state.header start) (safe : WasSafe (opening_at history.opened (sg.disk the_store)) state.header) where
   -- the image has its room in the store
-  room : need_of state.header ≤ sectors
+  room : need_of state.header ≤ (sg.sectors the_store)
   room =
       let attended = recorded.attended in
       let same : need_of k.header ≡ need_of state.header = ap (λ (g : Geometry). need_of (bare g)) recorded.same in
@@ -74,10 +72,10 @@ module _ {shape : Shape} {state : State} {regions : List (Option Region)} {passe
       omega (arith, same, inside)
 
   -- Each image that a crash may leave now opens again, with a disk that the history allows.
-  pub safely-again : (image : List Sector) → IsCrashImage disk.start disk.log image → IsOpenAgain state.header base start history.log.entries image
+  pub safely-again : (image : List Sector) → IsCrashImage (sg.disk the_store).start (sg.disk the_store).log image → IsOpenAgain state.header (bg.content the_base) start history.log.entries image
   safely-again image left =
       let secured = was.secured start is safe in
-      held-sound state.header state.map disk.start secured.0 base start history.opened state.table state.fresh.bits k flusher passes history disk.log image secured.1
+      held-sound state.header state.map (sg.disk the_store).start secured.0 (bg.content the_base) start history.opened state.table state.fresh.bits k flusher passes history (sg.disk the_store).log image secured.1
       (record { size = left.size; each = left.sectors; inside = all-inside was start is safe })
       (sym (ap (λ (g : Geometry). g.version) recorded.same) ∙ recorded.attended.keeping.version)
       (let fits = room in let size = left.size in let long = was.size in omega (arith, fits, size, long)) is.size

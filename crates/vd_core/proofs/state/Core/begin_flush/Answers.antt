@@ -1,7 +1,6 @@
 use Rattle.std.proofs.Common.{sym, refl, arith}
 use Rattle.vd_device.proofs.Keeping.{keeps-same}
 use Rattle.vd_passes.proofs.Stopping.{takes-stood}
-use Rattle.vd_core.proofs.Keeping.Devices.{stays-of}
 use Rattle.vd_core.proofs.Keeping.FlushingReady.{asked-flush, flush-place, begin-recorded, worn-recorded}
 use Rattle.vd_core.proofs.Keeping.Flushing.{submit-kept, submit-told, submit-accounted, submit-logged, end-kept, end-told, end-accounted, end-logged}
 use Rattle.vd_core.proofs.Securing.Flushing.{begin-safely, worn-safely}
@@ -21,7 +20,7 @@ pub invariant_of-self : goal.invariant_of-self
 invariant_of-self g c =
     let tracked = rw (sym c.self.view_is) at c.requires.tracked in let done = c.begin-going.ensures in
     let begun = done.begun c.if-going.true c.self.inside.shape in let step = begun.sends in (
-      submit-kept c.self.invariant.0 c.args.pass step (stays-of (done.keeps c.if-going.true)),
+      submit-kept c.self.invariant.0 c.args.pass step (done.keeps c.if-going.true),
       submit-told c.self.invariant.0 c.args.pass step c.self.invariant.3 c.self.invariant.1,
       submit-accounted c.self.invariant.2 step (done.number c.if-going.true) (done.keeps c.if-going.true).counts.faults,
       submit-logged step c.self.invariant.3,

@@ -1,6 +1,5 @@
 use Rattle.std.proofs.Common.{sym, refl}
 use Rattle.vd_passes.proofs.Fetching.{can-read-base}
-use Rattle.vd_core.proofs.Keeping.Devices.{base-stays-of}
 use Rattle.vd_core.proofs.Keeping.Accounting.{fetch-accounted}
 use Rattle.vd_core.proofs.Keeping.Following.{fetch-followed}
 use Rattle.vd_core.proofs.Keeping.Fetching.{fetch-kept, fetch-told}
@@ -18,13 +17,13 @@ fetch_block-requires g c =
 pub invariant_of-self : goal.invariant_of-self
 invariant_of-self g c =
     let at = rw (sym c.self.view_is) at c.requires.phase in let done = c.fetch_block.ensures in (
-      fetch-kept c.self.invariant.0 c.args.pass at done.fetches (base-stays-of done.keeps),
-      fetch-told c.self.invariant.0 c.args.pass at done.fetches (base-stays-of done.keeps) c.self.invariant.1,
+      fetch-kept c.self.invariant.0 c.args.pass at done.keeps done.fetches,
+      fetch-told c.self.invariant.0 c.args.pass at done.keeps done.fetches c.self.invariant.1,
       fetch-accounted c.self.invariant.2 c.args.pass done.fetches done.number done.keeps.counts.faults,
       λ told. let was = c.self.invariant.3 told in logged-here was refl (fetch-followed was.followed c.args.pass (at.0, at.1, at.2.0) done.fetches),
       fetch-recorded c.self.invariant.4 c.args.pass (at.0, at.1, at.2.0) done.fetches,
-      fetch-safely c.self.invariant.0 c.self.invariant.4 c.self.invariant.1 c.self.invariant.5 c.args.pass (at.0, at.1, at.2.0) done.fetches (base-stays-of done.keeps),
-      stopped-here c.self.invariant.6 (base-stays-of done.keeps),
+      fetch-safely c.self.invariant.0 c.self.invariant.4 c.self.invariant.1 c.self.invariant.5 c.args.pass (at.0, at.1, at.2.0) done.fetches done.keeps,
+      stopped-here c.self.invariant.6 done.keeps,
       c.self.invariant.7,
     )
 

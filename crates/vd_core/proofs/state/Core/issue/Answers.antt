@@ -1,6 +1,5 @@
 use Rattle.std.proofs.Common.{sym}
 use Rattle.vd_passes.proofs.TracingSteps.{issues-followed}
-use Rattle.vd_core.proofs.Keeping.Devices.{stays-of}
 use Rattle.vd_core.proofs.Keeping.Accounting.{issue-accounted}
 use Rattle.vd_core.proofs.Keeping.Issuing.{writing-at, issuer-not, can-issue, issue-kept, issue-told}
 use Rattle.vd_core.proofs.Keeping.Recording.{issue-recorded}
@@ -12,18 +11,18 @@ use Rattle.vd_core.proofs.state.Core.issue.Goals as goal
 pub issue_piece-requires-clause-ready : goal.issue_piece-requires-clause-ready
 issue_piece-requires-clause-ready g c =
     let at = rw (sym c.self.view_is) at c.requires.phase in let asked = rw (sym c.self.view_is) at c.requires.content in
-    can-issue g.S.Store c.self.inside.store c.self.invariant.0 c.args.pass c.args.content.now at asked
+    can-issue c.self.invariant.0 c.args.pass c.args.content.now at asked
 
 pub invariant_of-self : goal.invariant_of-self
 invariant_of-self g c =
     let at = rw (sym c.self.view_is) at c.requires.phase in let asked = rw (sym c.self.view_is) at c.requires.content in let done = c.issue_piece.ensures in (
-      issue-kept c.self.invariant.0 c.args.pass c.args.content.now at asked done.issues done.extends (stays-of done.keeps),
+      issue-kept c.self.invariant.0 c.args.pass c.args.content.now at asked done.issues done.extends done.keeps,
       issue-told c.self.invariant.0 c.args.pass c.args.content.now at asked done.issues done.extends.2.opened c.self.invariant.3 c.self.invariant.1,
       issue-accounted c.self.invariant.2 c.args.pass done.issues done.number done.keeps.counts.faults,
       λ told. let before = done.issues.told_before told in let was = c.self.invariant.3 before in let adds = (done.issues.told told).0 in
           logged-on was (_, adds) done.extends.2.opened (issues-followed was.followed (writing-at c.self.inside.passes.items c.args.pass at) done.issues done.extends.2.numbers (done.running before) adds),
       issue-recorded c.self.invariant.4 c.args.pass done.issues (issuer-not c.self.inside.passes.items c.args.pass at done.issues.pass done.issues.there),
-      issue-safely c.self.invariant.0 c.self.invariant.4 c.self.invariant.1 c.self.invariant.3 c.self.invariant.5 c.args.pass at asked done.issues done.extends done.running (stays-of done.keeps),
+      issue-safely c.self.invariant.0 c.self.invariant.4 c.self.invariant.1 c.self.invariant.3 c.self.invariant.5 c.args.pass at asked done.issues done.extends done.running done.keeps,
       stopped-on c.self.invariant.5 c.self.invariant.6 done.keeps.telling.recorded_before done.stopped done.extends.2.opened (λ late start. issue-still done.issues done.extends.2 c.self.invariant.0.roomy.later),
       done.keeps.telling.state,
     )

@@ -1,6 +1,5 @@
 use Rattle.std.proofs.Common.{sym, refl}
 use Rattle.vd_passes.proofs.TracingSteps.{base_looks-followed}
-use Rattle.vd_core.proofs.Keeping.Devices.{base-stays-of}
 use Rattle.vd_core.proofs.Keeping.Accounting.{base_look-accounted}
 use Rattle.vd_core.proofs.Keeping.Looking.{can-look-in-base, base_look-kept, base_look-told}
 use Rattle.vd_core.proofs.Keeping.Recording.{base_look-recorded}
@@ -17,13 +16,13 @@ look_at_base-requires g c =
 pub invariant_of-self : goal.invariant_of-self
 invariant_of-self g c =
     let at = rw (sym c.self.view_is) at c.requires.phase in let done = c.look_at_base.ensures in (
-      base_look-kept c.self.invariant.0 c.args.pass (at.0, at.1, (at.2.0, at.2.1)) done.looks (base-stays-of done.keeps),
-      base_look-told c.self.invariant.0 c.args.pass (at.0, at.1, (at.2.0, at.2.1)) done.looks (base-stays-of done.keeps) c.self.invariant.1,
+      base_look-kept c.self.invariant.0 c.args.pass (at.0, at.1, (at.2.0, at.2.1)) done.looks done.keeps,
+      base_look-told c.self.invariant.0 c.args.pass (at.0, at.1, (at.2.0, at.2.1)) done.looks done.keeps c.self.invariant.1,
       base_look-accounted c.self.invariant.2 c.args.pass done.looks done.number done.keeps.counts.faults,
       λ told. let was = c.self.invariant.3 told in logged-here was refl (base_looks-followed c.self.invariant.0.coherent was.followed (at.0, at.1, at.2.0.phase) done.looks),
       base_look-recorded c.self.invariant.4 c.args.pass (at.0, at.1, at.2.0.phase) done.looks,
-      base_look-safely c.self.invariant.0 c.self.invariant.4 c.self.invariant.1 c.self.invariant.3 c.self.invariant.5 c.args.pass (at.0, at.1, at.2.0.phase) done.looks (base-stays-of done.keeps),
-      stopped-here c.self.invariant.6 (base-stays-of done.keeps),
+      base_look-safely c.self.invariant.0 c.self.invariant.4 c.self.invariant.1 c.self.invariant.3 c.self.invariant.5 c.args.pass (at.0, at.1, at.2.0.phase) done.looks done.keeps,
+      stopped-here c.self.invariant.6 done.keeps,
       c.self.invariant.7,
     )
 

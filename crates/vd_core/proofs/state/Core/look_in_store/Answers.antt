@@ -1,6 +1,5 @@
 use Rattle.std.proofs.Common.{sym, refl}
 use Rattle.vd_passes.proofs.TracingSteps.{looks-followed}
-use Rattle.vd_core.proofs.Keeping.Devices.{stays-of}
 use Rattle.vd_core.proofs.Keeping.Accounting.{look-accounted}
 use Rattle.vd_core.proofs.Keeping.Looking.{can-look, look-kept, look-told}
 use Rattle.vd_core.proofs.Keeping.Recording.{look-recorded}
@@ -17,12 +16,12 @@ look_at_store-requires g c =
 pub invariant_of-self : goal.invariant_of-self
 invariant_of-self g c =
     let at = rw (sym c.self.view_is) at c.requires.phase in let done = c.look_at_store.ensures in (
-      look-kept c.self.invariant.0 c.args.pass at done.looks (stays-of done.keeps),
+      look-kept c.self.invariant.0 c.args.pass at done.looks done.keeps,
       look-told c.self.invariant.0 c.args.pass at done.looks c.self.invariant.3 c.self.invariant.1,
       look-accounted c.self.invariant.2 c.args.pass done.looks done.number done.keeps.counts.faults,
       λ told. let was = c.self.invariant.3 (done.looks.told_before told) in let adds = (done.looks.told told).0 in logged-on was (_, adds) refl (looks-followed was.followed (at.0, at.1, at.2.0.phase) done.looks adds),
       look-recorded c.self.invariant.4 c.args.pass (at.0, at.1, at.2.0.phase) done.looks,
-      look-safely c.self.invariant.0 c.self.invariant.4 c.self.invariant.1 c.self.invariant.3 c.self.invariant.5 c.args.pass (at.0, at.1, at.2.0.phase) done.looks (stays-of done.keeps),
+      look-safely c.self.invariant.0 c.self.invariant.4 c.self.invariant.1 c.self.invariant.3 c.self.invariant.5 c.args.pass (at.0, at.1, at.2.0.phase) done.looks done.keeps,
       stopped-on c.self.invariant.5 c.self.invariant.6 done.keeps.telling.recorded_before done.stopped refl (λ late start before. before),
       done.keeps.telling.state,
     )

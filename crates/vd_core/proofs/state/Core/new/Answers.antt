@@ -19,23 +19,20 @@ deep-by n depth e h = omega arith
 
 pub invariant_of-result : goal.invariant_of-result
 invariant_of-result g c =
-    let s = c.args.state in let parts = c.in-Ok.ensures in let whole = c.requires.whole in
+    let s = c.args.state in let parts = c.in-Ok.ensures in let whole = c.requires.whole in let x = c.args.store in let y = c.args.base in
     let new = subst (λ (block : ℕ). AreNew c.args.passes block c.in-Ok-new_passes.passes.items) (ap (λ (shape : Shape). shape.block) c.shape_of-shape.ensures) c.in-Ok-new_passes.ensures in
-    let still = λ (recorded : g.S.Store.records c.args.store). subst (λ (n : ℕ). TellsOrStopped (g.S.Store.tells c.args.store) n (g.S.Store.disk c.args.store)) c.events.ensures.value (c.events.ensures.stopped recorded) in
-    opened-parts s c.in-Ok-new_passes.passes.items c.args.passes c.args.room (g.S.Store.sectors c.args.store) (g.S.Store.depth c.args.store) (g.S.Store.events c.args.store) (g.B.Base.sectors c.args.base) (g.B.Base.depth c.args.base)
-    (g.S.Store.flies c.args.store) (g.B.Base.flies c.args.base) (g.S.Store.records c.args.store) (g.S.Store.tells c.args.store) (g.B.Base.tells c.args.base) (g.S.Store.disk c.args.store) (g.S.Store.last c.args.store) (g.B.Base.content c.args.base)
-    (g.B.Base.last c.args.base) c.faults-store_faults.result (g.S.Store.faults c.args.store) c.faults-base_faults.result (g.B.Base.faults c.args.base)
+    let still = λ (recorded : g.S.Store.records x). subst (λ (n : ℕ). TellsOrStopped (g.S.Store.tells x) n (g.S.Store.disk x)) c.events.ensures.value (c.events.ensures.stopped recorded) in
+    let all = λ (told : g.S.Store.tells x). sym c.events.ensures.value ∙ c.events.ensures.running told in
+    opened-parts g.S.Store g.B.Base x y s c.in-Ok-new_passes.passes.items c.args.passes c.args.room c.faults-store_faults.result c.faults-base_faults.result
     (c.shape_of-shape.ensures ∙ ap (λ (n : ℕ). shape_of s.header n) c.sectors-2.ensures.value) parts.keeper parts.regions (parts.history ∙ ap (λ (n : ℕ). empty_history c.args.room n) c.events.ensures.value) c.room_of-spare.ensures.room (
-      opened-kept s whole c.in-Ok-new_passes.passes.items c.args.passes (g.S.Store.sectors c.args.store) (g.S.Store.depth c.args.store) (g.S.Store.events c.args.store) (g.B.Base.sectors c.args.base) (g.B.Base.depth c.args.base) c.args.room
-          (g.S.Store.flies c.args.store) (g.B.Base.flies c.args.base) c.requires.fits (bounded-by _ _ c.sectors.ensures.value c.sectors.type_inv) (deep-by _ _ c.depth.ensures.value c.depth.ensures.enough) (deep-by _ _ c.depth-2.ensures.value c.depth-2.ensures.enough)
+      opened-kept g.S.Store g.B.Base x y s whole c.in-Ok-new_passes.passes.items c.args.passes c.args.room
+          c.requires.fits (bounded-by _ _ c.sectors.ensures.value c.sectors.type_inv) (deep-by _ _ c.depth.ensures.value c.depth.ensures.enough) (deep-by _ _ c.depth-2.ensures.value c.depth-2.ensures.enough)
           c.requires.idle c.requires.base_idle c.requires.most new c.room_of-spare.ensures.bounded,
-      (λ told base_told. opened-told s whole c.requires.version c.args.room (g.S.Store.disk c.args.store) (g.S.Store.last c.args.store) (g.B.Base.content c.args.base) new
-          (c.sectors-2.ensures.content base_told ∙ c.sectors-2.ensures.value) (sym c.events.ensures.value ∙ c.events.ensures.running told) (c.in_flight.ensures.honest told) (c.requires.says told)),
-      opened-accounted s.map s.table new (λ n e. whole-given s n e whole) (whole.sized.map ∙ sym whole.sized.table) (new-local s (g.B.Base.sectors c.args.base) whole) c.faults-store_faults.ensures c.faults-base_faults.ensures,
-      (λ told. opened-logged c.args.room (g.S.Store.disk c.args.store) new (sym c.events.ensures.value ∙ c.events.ensures.running told)),
-      opened-recorded s whole c.requires.version (g.B.Base.sectors c.args.base) new,
-      (λ told base_told. opened-safely s whole c.requires.version c.args.room (g.S.Store.disk c.args.store) (g.B.Base.content c.args.base) new
-          (sym c.events.ensures.value ∙ c.events.ensures.running told) (c.in_flight.ensures.honest told) (c.requires.says told)
+      (λ told base_told. opened-told g.S.Store g.B.Base x y s whole c.requires.version c.args.room new (c.sectors-2.ensures.content base_told ∙ c.sectors-2.ensures.value) (all told) (c.in_flight.ensures.honest told) (c.requires.says told)),
+      opened-accounted s.map s.table new (λ n e. whole-given s n e whole) (whole.sized.map ∙ sym whole.sized.table) (new-local s (g.B.Base.sectors y) whole) c.faults-store_faults.ensures c.faults-base_faults.ensures,
+      (λ told. opened-logged c.args.room (g.S.Store.disk x) new (all told)),
+      opened-recorded s whole c.requires.version (g.B.Base.sectors y) new,
+      (λ told base_told. opened-safely g.S.Store g.B.Base x y s whole c.requires.version c.args.room new (all told) (c.in_flight.ensures.honest told) (c.requires.says told)
           (c.sectors.ensures.start (c.in_flight.ensures.recorded told) ∙ c.sectors.ensures.value) (c.sectors.ensures.held told ∙ c.sectors.ensures.value) (c.requires.flushed told)),
       opened-stopped still,
       still,

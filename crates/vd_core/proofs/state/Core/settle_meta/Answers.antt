@@ -3,7 +3,6 @@ use Rattle.vd_metadata.specs.declared.outcome.Outcome.{Outcome}
 use Rattle.vd_core.specs.Flushing.{still_flushing}
 use Rattle.vd_core.specs.Outcomes.{step_of}
 use Rattle.vd_passes.proofs.Stopping.{takes-stood}
-use Rattle.vd_core.proofs.Keeping.Devices.{stays-of}
 use Rattle.vd_core.proofs.Keeping.FlushingReady.{away-call, away-settling, still-after, settle_meta-recorded}
 use Rattle.vd_core.proofs.Keeping.Flushing.{settle_meta-kept, settle_meta-told, settle_meta-accounted, settle_meta-logged}
 use Rattle.vd_core.proofs.Securing.Flushing.{settle_meta-safely}
@@ -20,7 +19,7 @@ pub invariant_of-self : goal.invariant_of-self
 invariant_of-self g c =
     let done = c.settle-outcome.ensures in let settled = done.settled in let step = settled.2.settles in
     let flusher = c.still_flushing-self-inside.ensures ∙ ap (λ (o : Outcome). still_flushing o c.self.inside.flusher) settled.1 ∙ still-after settled.0 c.self.inside.flusher in (
-      settle_meta-kept c.self.invariant.0 c.args.pass step (stays-of done.keeps),
+      settle_meta-kept c.self.invariant.0 c.args.pass step done.keeps,
       settle_meta-told c.self.invariant.0 c.args.pass step c.self.invariant.3 c.self.invariant.1,
       settle_meta-accounted c.self.invariant.2 (g.S.Store.late c.self.inside.store) (g.S.Store.late c.settle-outcome.new.store) step settled.2.call.cause,
       settle_meta-logged c.self.invariant.0 c.args.pass step c.self.invariant.3,

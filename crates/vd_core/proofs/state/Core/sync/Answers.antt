@@ -1,6 +1,5 @@
 use Rattle.std.proofs.Common.{sym, refl}
 use Rattle.vd_passes.proofs.Stopping.{takes-stood}
-use Rattle.vd_core.proofs.Keeping.Devices.{stays-of}
 use Rattle.vd_core.proofs.Keeping.FlushingReady.{between-calls, flush-place, sync-recorded}
 use Rattle.vd_core.proofs.Keeping.Flushing.{submit-kept, submit-told, submit-accounted, submit-logged}
 use Rattle.vd_core.proofs.Securing.Flushing.{sync-safely}
@@ -17,7 +16,7 @@ pub invariant_of-self : goal.invariant_of-self
 invariant_of-self g c =
     let stage = rw (sym c.self.view_is) at c.requires.stage in let done = c.sync.ensures in
     let syncs = done.syncs c.self.inside.shape in let step = syncs.sends in (
-      submit-kept c.self.invariant.0 c.args.pass step (stays-of done.keeps),
+      submit-kept c.self.invariant.0 c.args.pass step done.keeps,
       submit-told c.self.invariant.0 c.args.pass step c.self.invariant.3 c.self.invariant.1,
       submit-accounted c.self.invariant.2 step done.number done.keeps.counts.faults,
       submit-logged step c.self.invariant.3,
