@@ -3,10 +3,9 @@ use Rattle.std.proofs.Common.{◌≡◌, ◌≢◌, ℕ, ◌<◌, ◌≤◌, ◌
 use Rattle.vd_law.specs.declared.entry.Room.{Room}
 use Rattle.vd_law.specs.declared.entry.Answer.{Answer}
 use Rattle.vd_law.specs.Entries.{Entry, Reply}
-use Rattle.vd_device.specs.declared.ticket.Ticket.{Ticket}
+use Rattle.vd_device.specs.declared.store.Store as store
 use Rattle.vd_device.specs.declared.settled.Settled.{Settled}
 use Rattle.vd_device.specs.declared.settled.Settled.TheVariants as settled
-use Rattle.vd_device.specs.Disks.{Disk}
 use Rattle.vd_table.specs.Tables.{Given}
 use Rattle.vd_meta.specs.declared.stage.Stage.TheVariants.{Puts, Syncs, Seals}
 use Rattle.vd_meta.specs.declared.stage.Route.TheVariants.{Owed}
@@ -19,7 +18,7 @@ use Rattle.vd_passes.specs.declared.pass.Fault.TheVariants as fault
 use Rattle.vd_passes.specs.Passes.{after_meta, after_fault, after_flush, after_reply}
 use Rattle.vd_passes.specs.Steps.{Replies}
 use Rattle.vd_metadata.specs.Attending.{IsAttended}
-use Rattle.vd_metadata.specs.Flushing.{BeginsFlush, IsWornOut, PutsNext, SyncsPuts, SettlesMeta, SealsFlush, outcome_of}
+use Rattle.vd_metadata.specs.Flushing.{meta_state, BeginsFlush, IsWornOut, PutsNext, SyncsPuts, SettlesMeta, SealsFlush, outcome_of}
 use Rattle.vd_metadata.specs.Measures.{flush_steps}
 use Rattle.vd_metadata.proofs.Members.{same-member, set-here}
 use Rattle.vd_metadata.proofs.Attended.{is-flusher, sealed-flushing}
@@ -28,7 +27,7 @@ use Rattle.vd_core.specs.declared.outcome.Step.{Step}
 use Rattle.vd_core.specs.declared.outcome.Step.TheVariants.{Again, Busy, Ended}
 use Rattle.vd_core.specs.Flushing.{flusher_after}
 use Rattle.vd_core.specs.Outcomes.{step_of}
-use Rattle.vd_flush.specs.Driving.{DrivesFlush}
+use Rattle.vd_flush.specs.Driving.{DrivesFlush, flush_work}
 use Rattle.vd_core.proofs.Ended.{set-there}
 use Rattle.vd_core.proofs.Moving.{quiet, adds, same-room}
 
@@ -48,8 +47,8 @@ changed : (passes : List Pass) (i : ℕ) {passes' : List Pass} {p : Pass} (p' : 
 changed passes i {p = p} p' there after = ap (λ (ps : List Pass). slice_get ps i) after ∙ set-here passes i p' p there
 
 module _ {i : ℕ} {flusher flusher' : Option ℕ} {k k' : Keeping} {passes passes' : List Pass} (entries : List Entry) (left : Room) where
-  module _ {shape : Shape} {flies flies' : List Ticket → Type 0} {tells tells' : Type 0} {disk disk' : Disk} {last last' : ℕ} where
-    pub begins-drives : flusher ≡ None → flusher' ≡ Some i → BeginsFlush Owed shape i k k' passes passes' flies flies' tells tells' disk disk' last last' → DrivesFlush Again i flusher flusher' k k' passes passes' entries entries left left
+  module _ {shape : Shape} {S : Type 0} {g : store.Ghosts S} {s s' : S} where
+    pub begins-drives : flusher ≡ None → flusher' ≡ Some i → BeginsFlush g Owed shape i (meta_state k passes) (meta_state k' passes') s s' → DrivesFlush Again i (flush_work flusher k passes entries left) (flush_work flusher' k' passes' entries left)
     begins-drives none mine step =
         let s = step.sends in let p' = after_meta s.pass s.ticket in record {
           pass = s.pass;
@@ -63,7 +62,7 @@ module _ {i : ℕ} {flusher flusher' : Option ℕ} {k k' : Keeping} {passes pass
         }
 
     module _ {table : Given} {fresh : List Bool} (attended : IsAttended shape table fresh passes flusher k) where
-      pub puts-drives : k.stage ≡ Puts → flusher' ≡ flusher → PutsNext table shape i k k' passes passes' flies flies' tells tells' disk disk' last last' → DrivesFlush Again i flusher flusher' k k' passes passes' entries entries left left
+      pub puts-drives : k.stage ≡ Puts → flusher' ≡ flusher → PutsNext g table shape i (meta_state k passes) (meta_state k' passes') s s' → DrivesFlush Again i (flush_work flusher k passes entries left) (flush_work flusher' k' passes' entries left)
       puts-drives stage same step =
           let s = step.sends in let p' = after_meta s.pass s.ticket in record {
             pass = s.pass;
@@ -76,7 +75,7 @@ module _ {i : ℕ} {flusher flusher' : Option ℕ} {k k' : Keeping} {passes pass
             sectors_left = (same-room left).1;
           }
 
-      pub syncs-drives : k.stage ≡ Syncs → k' ≡ k → flusher' ≡ flusher → SyncsPuts shape i passes passes' flies flies' tells tells' disk disk' last last' → DrivesFlush Again i flusher flusher' k k' passes passes' entries entries left left
+      pub syncs-drives : k.stage ≡ Syncs → k' ≡ k → flusher' ≡ flusher → SyncsPuts g shape i passes passes' s s' → DrivesFlush Again i (flush_work flusher k passes entries left) (flush_work flusher' k' passes' entries left)
       syncs-drives stage kept same step =
           let s = step.sends in let p' = after_meta s.pass s.ticket in record {
             pass = s.pass;
@@ -94,7 +93,7 @@ module _ {i : ℕ} {flusher flusher' : Option ℕ} {k k' : Keeping} {passes pass
             sectors_left = (same-room left).1;
           }
 
-      pub settles-drives : (answer : Settled) → flusher' ≡ flusher_after answer flusher → SettlesMeta answer i k k' passes passes' flies flies' tells tells' disk disk' last last' → DrivesFlush (step_of (outcome_of answer)) i flusher flusher' k k' passes passes' entries entries left left
+      pub settles-drives : (answer : Settled) → flusher' ≡ flusher_after answer flusher → SettlesMeta g answer i (meta_state k passes) (meta_state k' passes') s s' → DrivesFlush (step_of (outcome_of answer)) i (flush_work flusher k passes entries left) (flush_work flusher' k' passes' entries left)
       settles-drives settled.Done same step =
           let s = step.settles in let p' = record s.pass { ticket = None } in record {
             pass = s.pass;
@@ -130,7 +129,7 @@ module _ {i : ℕ} {flusher flusher' : Option ℕ} {k k' : Keeping} {passes pass
           }
 
   -- at the last generation no flush begins
-  pub worn-drives : flusher ≡ None → flusher' ≡ flusher → k' ≡ k → IsWornOut Owed i k passes passes' → DrivesFlush Again i flusher flusher' k k' passes passes' entries entries left left
+  pub worn-drives : flusher ≡ None → flusher' ≡ flusher → k' ≡ k → IsWornOut Owed i k passes passes' → DrivesFlush Again i (flush_work flusher k passes entries left) (flush_work flusher' k' passes' entries left)
   worn-drives none same kept step =
       let e = step.ends in let p' = after_flush e.pass (Some (fault.Worn last_generation)) in record {
         pass = e.pass;
@@ -143,7 +142,7 @@ module _ {i : ℕ} {flusher flusher' : Option ℕ} {k k' : Keeping} {passes pass
         sectors_left = (same-room left).1;
       }
 
-  pub seals-drives : {shape : Shape} {table : Given} {fresh : List Bool} → IsAttended shape table fresh passes flusher k → k.stage ≡ Seals → flusher' ≡ None → SealsFlush i k k' passes passes' → DrivesFlush Again i flusher flusher' k k' passes passes' entries entries left left
+  pub seals-drives : {shape : Shape} {table : Given} {fresh : List Bool} → IsAttended shape table fresh passes flusher k → k.stage ≡ Seals → flusher' ≡ None → SealsFlush i k k' passes passes' → DrivesFlush Again i (flush_work flusher k passes entries left) (flush_work flusher' k' passes' entries left)
   seals-drives attended stage none step =
       let e = step.ends in let p' = after_flush e.pass None in let flushes = sealed-flushing e in record {
         pass = e.pass;
@@ -156,7 +155,7 @@ module _ {i : ℕ} {flusher flusher' : Option ℕ} {k k' : Keeping} {passes pass
         sectors_left = (same-room left).1;
       }
 
-  pub kept_out-drives : (by : ℕ) (p : Pass) → slice_get passes i ≡ Some p → p.phase ≡ Asked → flusher ≡ Some by → by ≢ i → flusher' ≡ flusher → k' ≡ k → passes' ≡ passes → DrivesFlush (Busy by) i flusher flusher' k k' passes passes' entries entries left left
+  pub kept_out-drives : (by : ℕ) (p : Pass) → slice_get passes i ≡ Some p → p.phase ≡ Asked → flusher ≡ Some by → by ≢ i → flusher' ≡ flusher → k' ≡ k → passes' ≡ passes → DrivesFlush (Busy by) i (flush_work flusher k passes entries left) (flush_work flusher' k' passes' entries left)
   kept_out-drives by p there phase theirs other same kept stays = record {
     pass = p;
     pass' = p;
@@ -171,7 +170,7 @@ module _ {i : ℕ} {flusher flusher' : Option ℕ} {k k' : Keeping} {passes pass
 -- what is replied is the one entry that a flush adds
 pub replies-drives : {shape : Shape} {table : Given} {fresh : List Bool} {i : ℕ} {flusher flusher' : Option ℕ} {k k' : Keeping} {passes passes' : List Pass} {entries entries' : List Entry} {answer : Answer} (left left' : Room) (p : Pass)
     → IsAttended shape table fresh passes flusher k → slice_get passes i ≡ Some p → p.phase ≡ Ready → flusher' ≡ flusher → k' ≡ k → left.events ≤ left'.events → left.sectors ≤ left'.sectors
-    → Replies answer i passes passes' entries entries' → DrivesFlush (Ended answer) i flusher flusher' k k' passes passes' entries entries' left left'
+    → Replies answer i passes passes' entries entries' → DrivesFlush (Ended answer) i (flush_work flusher k passes entries left) (flush_work flusher' k' passes' entries' left')
 replies-drives {i = i} {passes = passes} {entries = entries} {entries' = entries'} left left' p attended there phase same kept events_more sectors_more s =
     let is = same-member passes i p s.pass there s.there in let ready = ap (λ (q : Pass). q.phase) (sym is) ∙ phase in record {
       pass = s.pass;
@@ -186,5 +185,5 @@ replies-drives {i = i} {passes = passes} {entries = entries} {entries' = entries
 
 -- the same, of what is equal to its answer, its entries and its room
 pub drives-as : {step step' : Step} {i : ℕ} {flusher flusher' : Option ℕ} {k k' : Keeping} {passes passes' : List Pass} {entries entries' more : List Entry} {left left' rest : Room} → step' ≡ step → more ≡ entries' → rest ≡ left'
-    → DrivesFlush step i flusher flusher' k k' passes passes' entries entries' left left' → DrivesFlush step' i flusher flusher' k k' passes passes' entries more left rest
+    → DrivesFlush step i (flush_work flusher k passes entries left) (flush_work flusher' k' passes' entries' left') → DrivesFlush step' i (flush_work flusher k passes entries left) (flush_work flusher' k' passes' more rest)
 drives-as step_is entries_are left_is drives = rw (step_is, entries_are, left_is) drives

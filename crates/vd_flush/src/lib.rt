@@ -3,12 +3,12 @@
 
 ghost use Rattle.std.specs.Prelude.{◌≡◌, ◌≢◌, ℕ, true};
 ghost use Rattle.vd_device.specs.Calls.{Rose};
+ghost use Rattle.vd_device.specs.Stores.{IsTold, KeepsStore};
 ghost use Rattle.vd_passes.specs.declared.pass.Phase.TheVariants.{Idle, Flushing};
 ghost use Rattle.vd_passes.specs.Steps.{IsAt};
 ghost use Rattle.vd_core.specs.declared.outcome.Step.TheVariants.{Late};
 ghost use Rattle.vd_metadata.specs.Attending.{IsAttended};
-ghost use Rattle.vd_core.specs.Leaving.{LeavesStore};
-ghost use Rattle.vd_flush.specs.Driving.{DrivesFlush};
+ghost use Rattle.vd_flush.specs.Driving.{DrivesFlush, flush_work_of};
 
 use vd_core::{Begun, Core, Step};
 use vd_device::{Base, Store};
@@ -19,14 +19,14 @@ use vd_passes::pass::Phase;
 fn go_on<S: Store, B: Base>(core: &mut Core<S, B>, pass: u32) -> Step
     requires phase { IsAt core.old.passes pass (λ p. p.phase ≡ Flushing) }
     requires attended { IsAttended core.old.shape core.old.table core.old.fresh core.old.passes core.old.flusher core.old.keeping }
-    ensures drives { DrivesFlush result pass core.old.flusher core.new.flusher core.old.keeping core.new.keeping core.old.passes core.new.passes core.old.history.log.entries core.new.history.log.entries core.old.spare core.new.spare }
+    requires told { IsTold S.Store core.old.store }
+    ensures drives { DrivesFlush result pass (flush_work_of core.old) (flush_work_of core.new) }
     ensures late { result ≡ Late → Rose (S.late core.old.store) (S.late core.new.store) }
-    ensures disk { (core.new.shape ≡ core.old.shape) × (core.new.table ≡ core.old.table) × (core.new.fresh ≡ core.old.fresh) × (core.new.header ≡ core.old.header) × (core.new.entries ≡ core.old.entries) }
+    ensures disk { (core.new.shape ≡ core.old.shape) × (core.new.table ≡ core.old.table) × (core.new.fresh ≡ core.old.fresh)
+        × (core.new.header ≡ core.old.header) × (core.new.entries ≡ core.old.entries) }
     ensures counted { (core.new.store_faults ≡ core.old.store_faults) × (core.new.base_faults ≡ core.old.base_faults) × (core.new.history.opened ≡ core.old.history.opened) }
-    ensures store { LeavesStore (S.sectors core.old.store) (S.sectors core.new.store) (S.depth core.old.store) (S.depth core.new.store) (S.events core.old.store) (S.events core.new.store) (S.faults core.old.store) (S.faults core.new.store) (S.late core.old.store) (S.late core.new.store) (S.tells core.old.store) (S.tells core.new.store) (S.records core.old.store) (S.records core.new.store) }
+    ensures keeps { KeepsStore S.Store core.old.store core.new.store }
     ensures base { core.new.base ≡ core.old.base }
-    ensures opening { S.tells core.new.store → core.new.opening ≡ core.old.opening }
-    ensures opening_stands { S.records core.new.store → core.new.opening ≡ core.old.opening }
 {
     if core.is_waiting(pass) {
         return core.settle_meta(pass);
@@ -56,14 +56,13 @@ impl Flusher {
     /// fewer steps to its reply. Busy comes exactly where another pass's flush is under way.
     pub fn next<S: Store, B: Base>(core: &mut Core<S, B>, pass: u32) -> Step
         requires busy { IsAt core.old.passes pass (λ p. (p.phase ≢ Idle) × (p.flush ≡ true)) }
-        ensures drives { DrivesFlush result pass core.old.flusher core.new.flusher core.old.keeping core.new.keeping core.old.passes core.new.passes core.old.history.log.entries core.new.history.log.entries core.old.spare core.new.spare }
+        ensures drives { DrivesFlush result pass (flush_work_of core.old) (flush_work_of core.new) }
         ensures late { result ≡ Late → Rose (S.late core.old.store) (S.late core.new.store) }
-        ensures disk { (core.new.shape ≡ core.old.shape) × (core.new.table ≡ core.old.table) × (core.new.fresh ≡ core.old.fresh) × (core.new.header ≡ core.old.header) × (core.new.entries ≡ core.old.entries) }
+        ensures disk { (core.new.shape ≡ core.old.shape) × (core.new.table ≡ core.old.table) × (core.new.fresh ≡ core.old.fresh)
+            × (core.new.header ≡ core.old.header) × (core.new.entries ≡ core.old.entries) }
         ensures counted { (core.new.store_faults ≡ core.old.store_faults) × (core.new.base_faults ≡ core.old.base_faults) × (core.new.history.opened ≡ core.old.history.opened) }
-        ensures store { LeavesStore (S.sectors core.old.store) (S.sectors core.new.store) (S.depth core.old.store) (S.depth core.new.store) (S.events core.old.store) (S.events core.new.store) (S.faults core.old.store) (S.faults core.new.store) (S.late core.old.store) (S.late core.new.store) (S.tells core.old.store) (S.tells core.new.store) (S.records core.old.store) (S.records core.new.store) }
+        ensures keeps { KeepsStore S.Store core.old.store core.new.store }
         ensures base { core.new.base ≡ core.old.base }
-        ensures opening { S.tells core.new.store → core.new.opening ≡ core.old.opening }
-        ensures opening_stands { S.records core.new.store → core.new.opening ≡ core.old.opening }
     {
         match core.phase(pass) {
             Phase::Asked => match core.begin_flush(pass, Route::Owed) {

@@ -18,9 +18,9 @@ use Rattle.vd_passes.proofs.Lists.{some-inj, get-set-same, get-set-other, length
 use Rattle.vd_core.specs.declared.outcome.Step.{Step}
 use Rattle.vd_core.specs.declared.outcome.Step.TheVariants.{Again, Late, Busy, Ended}
 use Rattle.vd_core.specs.View.{View}
-use Rattle.vd_core.specs.Asking.{AskEnds}
+use Rattle.vd_core.specs.Asking.{AskEnds, asking}
 use Rattle.vd_core.specs.Opening.{AreNew}
-use Rattle.vd_core.specs.Moves.{IsNoAsk, Drives}
+use Rattle.vd_core.specs.Moves.{IsNoAsk, Drives, work}
 use Rattle.vd_passes.proofs.Standing as standing
 use Rattle.vd_core.proofs.Serving.{asks-write, write-stays, write-other}
 
@@ -38,7 +38,7 @@ IsNotLast (Busy by) = Unit {0}
 IsNotLast (Ended answer) = ⊥
 
 module _ {block i : ℕ} {passes passes' : List Pass} {entries entries' : List Entry} {left left' : Room} where
-  pub goes-on : {write : Bool} {count : ℕ} (step : Step) → IsNotLast step → Drives step block i passes passes' entries entries' left left' → IsAt passes i (IsBusyWith write count) → IsAt passes' i (IsBusyWith write count)
+  pub goes-on : {write : Bool} {count : ℕ} (step : Step) → IsNotLast step → Drives step block i (work passes entries left) (work passes' entries' left') → IsAt passes i (IsBusyWith write count) → IsAt passes' i (IsBusyWith write count)
   goes-on {write} {count} Again not drives at =
       let moves = drives.moves in let same : at.0 ≡ drives.pass = some-inj (sym at.1 ∙ moves.there) in (
         drives.pass',
@@ -50,10 +50,10 @@ module _ {block i : ℕ} {passes passes' : List Pass} {entries entries' : List E
   goes-on {write} {count} (Ended answer) not drives at = absurd not
 
   -- a step leaves the number of passes
-  pub as-many : {step : Step} → Drives step block i passes passes' entries entries' left left' → length passes' ≡ length passes
+  pub as-many : {step : Step} → Drives step block i (work passes entries left) (work passes' entries' left') → length passes' ≡ length passes
   as-many {step} drives = ap length drives.moves.after ∙ length-set' passes i drives.pass'
 
-  pub ended : (answer : Answer) → Drives (Ended answer) block i passes passes' entries entries' left left' → IsAt passes' i (λ p. p.phase ≡ Idle)
+  pub ended : (answer : Answer) → Drives (Ended answer) block i (work passes entries left) (work passes' entries' left') → IsAt passes' i (λ p. p.phase ≡ Idle)
   ended answer drives = let moves = drives.moves in
       (drives.pass', subst (λ (ps : List Pass). slice_get ps i ≡ Some drives.pass') (sym moves.after) (get-set-same passes i drives.pass' drives.pass moves.there), drives.tells.0)
 
@@ -70,25 +70,25 @@ asked-after history [] i content none asked = subst (λ (h : List Entry). HasAsk
 asked-after history (e ∷ more) i content none asked =
     subst (λ (h : List Entry). HasAskedWrite h i content) (append_assoc history (e ∷ []) more) (asked-after (history ++ e ∷ []) more i content none.1 (write-stays history e i content (same-no-ask e none.0) asked))
 
-pub still-asked : {block i : ℕ} {passes passes' : List Pass} {entries entries' : List Entry} {left left' : Room} {step : Step} (content : List Sector) → Drives step block i passes passes' entries entries' left left' → HasAskedWrite entries i content → HasAskedWrite entries' i content
+pub still-asked : {block i : ℕ} {passes passes' : List Pass} {entries entries' : List Entry} {left left' : Room} {step : Step} (content : List Sector) → Drives step block i (work passes entries left) (work passes' entries' left') → HasAskedWrite entries i content → HasAskedWrite entries' i content
 still-asked {block} {i} {passes} {passes'} {entries} {entries'} content drives asked =
     let moves = drives.moves in subst (λ (h : List Entry). HasAskedWrite h i content) (sym moves.entries_after) (asked-after entries moves.more i content moves.none_asked asked)
 
 -- An ask that has its answer leaves its pass idle; another has asked.
-module _ {shape : Shape} {i events : ℕ} {table table' : Given} {passes passes' : List Pass} {history history' : Numbered} {left left' : Room} where
-  pub answered-idle : (answer : Answer) (request : Asked) → AskEnds (Some answer) request shape i table table' passes passes' history history' left left' events → IsAt passes i (λ p. p.phase ≡ Idle) → IsAt passes' i (λ p. p.phase ≡ Idle)
+module _ {shape shape' : Shape} {i events : ℕ} {table table' : Given} {passes passes' : List Pass} {history history' : Numbered} {left left' : Room} where
+  pub answered-idle : (answer : Answer) (request : Asked) → AskEnds (Some answer) request events i (asking shape table passes history left) (asking shape' table' passes' history' left') → IsAt passes i (λ p. p.phase ≡ Idle) → IsAt passes' i (λ p. p.phase ≡ Idle)
   answered-idle answer request (inl (exceeds, is, same)) at = subst (λ (ps : List Pass). IsAt ps i (λ p. p.phase ≡ Idle)) (sym same.passes_same) at
   answered-idle answer request (inr (inl (needed, free, is, full))) at =
       let asks = full.asks in let same : at.0 ≡ asks.pass = some-inj (sym at.1 ∙ asks.there) in let after = record asks.pass { call = asks.pass.call + 1 } in
       (after, subst (λ (ps : List Pass). slice_get ps i ≡ Some after) (sym asks.after) (get-set-same passes i after asks.pass asks.there), ap (λ (p : Pass). p.phase) (sym same) ∙ at.2)
   answered-idle answer request (inr (inr (none, asked))) at = cc
 
-  pub as-many-asked : (result : Option Answer) (request : Asked) → AskEnds result request shape i table table' passes passes' history history' left left' events → length passes' ≡ length passes
+  pub as-many-asked : (result : Option Answer) (request : Asked) → AskEnds result request events i (asking shape table passes history left) (asking shape' table' passes' history' left') → length passes' ≡ length passes
   as-many-asked result request (inl (exceeds, is, same)) = ap length same.passes_same
   as-many-asked result request (inr (inl (needed, free, is, full))) = ap length full.asks.after ∙ length-set' passes i _
   as-many-asked result request (inr (inr (none, asked))) = ap length asked.asks.after ∙ length-set' passes i _
 
-  pub asked-write : (result : Option Answer) (first : ℕ) (content : List Sector) → ((answer : Answer) → result ≡ Some answer → ⊥) → AskEnds result (Write first content) shape i table table' passes passes' history history' left left' events
+  pub asked-write : (result : Option Answer) (first : ℕ) (content : List Sector) → ((answer : Answer) → result ≡ Some answer → ⊥) → AskEnds result (Write first content) events i (asking shape table passes history left) (asking shape' table' passes' history' left')
       → IsAt passes' i (IsBusyWith true (length content)) × HasAskedWrite history'.log.entries i content
   asked-write result first content not (inl (exceeds, is, same)) = absurd (not _ is)
   asked-write result first content not (inr (inl (needed, free, is, full))) = absurd (not _ is)
@@ -96,7 +96,7 @@ module _ {shape : Shape} {i events : ℕ} {table table' : Given} {passes passes'
       let asks = asked.asks in let after = after_ask asks.pass (Write first content) _ _ in
       ((after, subst (λ (ps : List Pass). slice_get ps i ≡ Some after) (sym asks.after) (get-set-same passes i after asks.pass asks.there), ((λ e. cc), refl, refl, refl)), asks-write asks)
 
-  pub asked-read : (result : Option Answer) (first count : ℕ) → ((answer : Answer) → result ≡ Some answer → ⊥) → AskEnds result (Read first count) shape i table table' passes passes' history history' left left' events → IsAt passes' i (IsBusyWith false count)
+  pub asked-read : (result : Option Answer) (first count : ℕ) → ((answer : Answer) → result ≡ Some answer → ⊥) → AskEnds result (Read first count) events i (asking shape table passes history left) (asking shape' table' passes' history' left') → IsAt passes' i (IsBusyWith false count)
   asked-read result first count not (inl (exceeds, is, same)) = absurd (not _ is)
   asked-read result first count not (inr (inl (needed, free, is, full))) = absurd (not _ is)
   asked-read result first count not (inr (inr (none, asked))) =
@@ -139,7 +139,7 @@ three-idle (a ∷ b ∷ c ∷ []) three first second third (suc (suc (suc i))) p
 three-idle (a ∷ b ∷ c ∷ d ∷ passes) three first second third i p there = absurd (omega arith)
 
 -- a step leaves every other pass, and what other passes have asked
-module _ {block i : ℕ} {passes passes' : List Pass} {entries entries' : List Entry} {left left' : Room} {step : Step} (drives : Drives step block i passes passes' entries entries' left left') where
+module _ {block i : ℕ} {passes passes' : List Pass} {entries entries' : List Entry} {left left' : Room} {step : Step} (drives : Drives step block i (work passes entries left) (work passes' entries' left')) where
   pub others-same : (other : ℕ) → other ≢ i → slice_get passes' other ≡ slice_get passes other
   others-same other apart = ap (λ (ps : List Pass). slice_get ps other) drives.moves.after ∙ get-set-other passes i other drives.pass' apart
 
@@ -158,8 +158,8 @@ pub entered-others : {shape : Shape} {places : ℕ → Option ℕ} {i : ℕ} {pa
 entered-others {i = i} {passes = passes} e other apart = ap (λ (ps : List Pass). slice_get ps other) e.after ∙ get-set-other passes i other _ apart
 
 -- An ask leaves every other pass, and what other passes have asked.
-module _ {shape : Shape} {i events : ℕ} {table table' : Given} {passes passes' : List Pass} {history history' : Numbered} {left left' : Room} where
-  pub asked-phase : (result : Option Answer) (first : ℕ) (content : List Sector) → ((answer : Answer) → result ≡ Some answer → ⊥) → AskEnds result (Write first content) shape i table table' passes passes' history history' left left' events
+module _ {shape shape' : Shape} {i events : ℕ} {table table' : Given} {passes passes' : List Pass} {history history' : Numbered} {left left' : Room} where
+  pub asked-phase : (result : Option Answer) (first : ℕ) (content : List Sector) → ((answer : Answer) → result ≡ Some answer → ⊥) → AskEnds result (Write first content) events i (asking shape table passes history left) (asking shape' table' passes' history' left')
       → length content ≡ 1 → IsAt passes' i (λ p. (p.phase ≡ Asks_first) × (p.write ≡ true) × (p.flush ≡ false) × (p.count ≡ 1))
   asked-phase result first content not (inl (exceeds, is, same)) one = absurd (not _ is)
   asked-phase result first content not (inr (inl (needed, free, is, full))) one = absurd (not _ is)
@@ -167,12 +167,12 @@ module _ {shape : Shape} {i events : ℕ} {table table' : Given} {passes passes'
       let asks = asked.asks in let after = after_ask asks.pass (Write first content) _ _ in
       (after, subst (λ (ps : List Pass). slice_get ps i ≡ Some after) (sym asks.after) (get-set-same passes i after asks.pass asks.there), (refl, refl, refl, one))
 
-  pub ask-others : (result : Option Answer) (request : Asked) → AskEnds result request shape i table table' passes passes' history history' left left' events → (other : ℕ) → other ≢ i → slice_get passes' other ≡ slice_get passes other
+  pub ask-others : (result : Option Answer) (request : Asked) → AskEnds result request events i (asking shape table passes history left) (asking shape' table' passes' history' left') → (other : ℕ) → other ≢ i → slice_get passes' other ≡ slice_get passes other
   ask-others result request (inl (exceeds, is, same)) other apart = ap (λ (ps : List Pass). slice_get ps other) same.passes_same
   ask-others result request (inr (inl (needed, free, is, full))) other apart = ap (λ (ps : List Pass). slice_get ps other) full.asks.after ∙ get-set-other passes i other _ apart
   ask-others result request (inr (inr (none, asked))) other apart = ap (λ (ps : List Pass). slice_get ps other) asked.asks.after ∙ get-set-other passes i other _ apart
 
-  pub ask-said : (result : Option Answer) (request : Asked) → AskEnds result request shape i table table' passes passes' history history' left left' events → (other : ℕ) (said : List Sector) → other ≢ i
+  pub ask-said : (result : Option Answer) (request : Asked) → AskEnds result request events i (asking shape table passes history left) (asking shape' table' passes' history' left') → (other : ℕ) (said : List Sector) → other ≢ i
       → HasAskedWrite history.log.entries other said → HasAskedWrite history'.log.entries other said
   ask-said result request (inl (exceeds, is, same)) other said apart asked = subst (λ (h : Numbered). HasAskedWrite h.log.entries other said) (sym same.history_same) asked
   ask-said result request (inr (inl (needed, free, is, full))) other said apart asked =

@@ -16,8 +16,8 @@ use Rattle.vd_passes.specs.Steps.{HasAskedWrite}
 use Rattle.vd_passes.proofs.Standing as standing
 use Rattle.vd_core.proofs.Serving.{write-stays}
 use Rattle.vd_core.specs.declared.outcome.Step.{Step}
-use Rattle.vd_core.specs.Asking.{AskEnds, EndsFull, EndsAsked, Exceeds, Suffices}
-use Rattle.vd_core.specs.Moves.{IsNoAsk, Drives}
+use Rattle.vd_core.specs.Asking.{AskEnds, EndsFull, EndsAsked, Exceeds, Suffices, asking}
+use Rattle.vd_core.specs.Moves.{IsNoAsk, Drives, work}
 use Rattle.vd_serve.specs.Serving.{asked_by, requests_in, Flushes}
 use Rattle.vd_serve.specs.Driving.{IsAskOf, Serves}
 
@@ -54,7 +54,7 @@ same-no-ask (Reply id answer) none = none
 
 -- A step of a driver leaves what is served.
 pub serves-on : {step : Step} {request : Asked} {block shape_block : ℕ} {passes passes' : List Pass} {entries between entries' : List Entry} {left mid left' : Room}
-    → Drives step shape_block 1 passes passes' between entries' mid left' → Serves request block entries between left mid → Serves request block entries entries' left left'
+    → Drives step shape_block 1 (work passes between mid) (work passes' entries' left') → Serves request block entries between left mid → Serves request block entries entries' left left'
 serves-on {entries = entries} {between = between} drives serves =
     let moves = drives.moves in record {
       asked = ap (λ (es : List Entry). requests_in es 1) moves.entries_after ∙ flat_map-append (asked_by 1) between moves.more
@@ -71,7 +71,7 @@ asked-after history (e ∷ more) content none asked =
     subst (λ (h : List Entry). HasAskedWrite h 1 content) (append_assoc history (e ∷ []) more) (asked-after (history ++ e ∷ []) more content none.1 (write-stays history e 1 content (same-no-ask e none.0) asked))
 
 pub still-asked : {step : Step} {block : ℕ} {passes passes' : List Pass} {entries entries' : List Entry} {left left' : Room} (content : List Sector)
-    → Drives step block 1 passes passes' entries entries' left left' → HasAskedWrite entries 1 content → HasAskedWrite entries' 1 content
+    → Drives step block 1 (work passes entries left) (work passes' entries' left') → HasAskedWrite entries 1 content → HasAskedWrite entries' 1 content
 still-asked {entries = entries} content drives asked =
     let moves = drives.moves in subst (λ (h : List Entry). HasAskedWrite h 1 content) (sym moves.entries_after) (asked-after entries moves.more content moves.none_asked asked)
 
@@ -85,8 +85,8 @@ pub too-much : {X : Type 0} {need left : Room} → Exceeds need left → Suffice
 too-much (inl less) (events, sectors) = absurd (omega (arith, less, events))
 too-much (inr less) (events, sectors) = absurd (omega (arith, less, sectors))
 
-module _ {request : Asked} {shape : Shape} {events : ℕ} {table table' : Given} {passes passes' : List Pass} {history history' : Numbered} {left left' : Room} where
-  full-serves : {needed free : ℕ} → EndsFull request needed free shape 1 table table' passes passes' history history' left left' events → Serves request shape.block history.log.entries history'.log.entries left left'
+module _ {request : Asked} {shape shape' : Shape} {events : ℕ} {table table' : Given} {passes passes' : List Pass} {history history' : Numbered} {left left' : Room} where
+  full-serves : {needed free : ℕ} → EndsFull request needed free events 1 (asking shape table passes history left) (asking shape' table' passes' history' left') → Serves request shape.block history.log.entries history'.log.entries left left'
   full-serves full =
       let needed = some-needed shape.block request in
       let more_events = ap (λ (r : Room). r.events) full.left_after in let more_sectors = ap (λ (r : Room). r.sectors) full.left_after in record {
@@ -96,7 +96,7 @@ module _ {request : Asked} {shape : Shape} {events : ℕ} {table table' : Given}
         sectors_left = omega (arith, more_sectors, needed.1);
       }
 
-  asked-serves : EndsAsked request shape 1 table table' passes passes' history history' left left' events → Serves request shape.block history.log.entries history'.log.entries left left'
+  asked-serves : EndsAsked request events 1 (asking shape table passes history left) (asking shape' table' passes' history' left') → Serves request shape.block history.log.entries history'.log.entries left left'
   asked-serves asked =
       let more_events = ap (λ (r : Room). r.events) asked.left_after in let more_sectors = ap (λ (r : Room). r.sectors) asked.left_after in record {
         asked = ap (λ (es : List Entry). requests_in es 1) asked.asks.event ∙ flat_map-append (asked_by 1) history.log.entries _;
@@ -106,14 +106,14 @@ module _ {request : Asked} {shape : Shape} {events : ℕ} {table table' : Given}
       }
 
   -- A request for which there is room is asked,
-  pub ask-serves : (result : Option Answer) → Suffices (need_of shape.block request) left → AskEnds result request shape 1 table table' passes passes' history history' left left' events → Serves request shape.block history.log.entries history'.log.entries left left'
+  pub ask-serves : (result : Option Answer) → Suffices (need_of shape.block request) left → AskEnds result request events 1 (asking shape table passes history left) (asking shape' table' passes' history' left') → Serves request shape.block history.log.entries history'.log.entries left left'
   ask-serves result room (inl (exceeds, is, same)) = too-much exceeds room
   ask-serves result room (inr (inl (needed, free, is, full))) = full-serves full
   ask-serves result room (inr (inr (none, asked))) = asked-serves asked
 
 -- whatever is answered, there is as much storage and the number of opening is the same
-pub ask-keeps : {request : Asked} {shape : Shape} {pass events : ℕ} {table table' : Given} {passes passes' : List Pass} {history history' : Numbered} {left left' : Room} (result : Option Answer)
-    → AskEnds result request shape pass table table' passes passes' history history' left left' events
+pub ask-keeps : {request : Asked} {shape shape' : Shape} {pass events : ℕ} {table table' : Given} {passes passes' : List Pass} {history history' : Numbered} {left left' : Room} (result : Option Answer)
+    → AskEnds result request events pass (asking shape table passes history left) (asking shape' table' passes' history' left')
     → (length table'.chunks ≡ length table.chunks) × (table'.storage ≡ table.storage) × (history'.opened ≡ history.opened)
 ask-keeps result (inl (exceeds, is, same)) = (ap (λ (t : Given). length t.chunks) same.table_same, ap (λ (t : Given). t.storage) same.table_same, ap (λ (h : Numbered). h.opened) same.history_same)
 ask-keeps result (inr (inl (needed, free, is, full))) = (ap (λ (t : Given). length t.chunks) full.table_same, ap (λ (t : Given). t.storage) full.table_same, full.extends.opened)

@@ -16,8 +16,8 @@ use Rattle.vd_passes.specs.Passes.{call_of, after_ask}
 use Rattle.vd_metadata.specs.Measures.{flush_steps}
 use Rattle.vd_core.specs.declared.outcome.Step.{Step}
 use Rattle.vd_core.specs.declared.outcome.Step.TheVariants.{Again, Ended}
-use Rattle.vd_core.specs.Asking.{AskEnds, Suffices}
-use Rattle.vd_flush.specs.Driving.{DrivesFlush}
+use Rattle.vd_core.specs.Asking.{AskEnds, Suffices, asking}
+use Rattle.vd_flush.specs.Driving.{DrivesFlush, flush_work}
 use Rattle.vd_serve.specs.Serving.{IsResting, Flushes}
 use Rattle.vd_passes.proofs.Lists.{some-inj, get-set-same, at-set, length-set'}
 use Rattle.vd_serve.proofs.Asks.{too-much}
@@ -42,13 +42,13 @@ abbrev pub steps_at : Keeping → List Pass → (pass : ℕ) → ℕ
 steps_at k passes pass = steps_of k (slice_get passes pass)
 
 -- A flush for which there is room is asked.
-module _ {pass : ℕ} {passes passes' : List Pass} {shape : Shape} {events : ℕ} {table table' : Given} {history history' : Numbered} {left left' : Room} where
-  pub not-answered : (answer : Answer) → Suffices (need_of shape.block Flush) left → AskEnds (Some answer) Flush shape pass table table' passes passes' history history' left left' events → ⊥
+module _ {pass : ℕ} {passes passes' : List Pass} {shape shape' : Shape} {events : ℕ} {table table' : Given} {history history' : Numbered} {left left' : Room} where
+  pub not-answered : (answer : Answer) → Suffices (need_of shape.block Flush) left → AskEnds (Some answer) Flush events pass (asking shape table passes history left) (asking shape' table' passes' history' left') → ⊥
   not-answered answer room (inl (exceeds, is, same)) = too-much exceeds room
   not-answered answer room (inr (inl (needed, free, is, full))) = let none = full.needed_is in let less = full.fewer in absurd (omega arith)
   not-answered answer room (inr (inr (none, asked))) = cc
 
-  pub flush-asked : {flusher flusher' : Option ℕ} → AskEnds None Flush shape pass table table' passes passes' history history' left left' events → Suffices (need_of shape.block Flush) left → flusher' ≡ flusher → IsResting passes flusher
+  pub flush-asked : {flusher flusher' : Option ℕ} → AskEnds None Flush events pass (asking shape table passes history left) (asking shape' table' passes' history' left') → Suffices (need_of shape.block Flush) left → flusher' ≡ flusher → IsResting passes flusher
       → IsFlushing pass passes' flusher' history.log.entries history'.log.entries × (left.events ≤ left'.events + 2) × (left.sectors ≤ left'.sectors)
   flush-asked (inl (exceeds, is, same)) room still resting = too-much exceeds room
   flush-asked (inr (inl (needed, m, is, full))) room still resting = cc
@@ -74,7 +74,7 @@ module _ {pass : ℕ} {passes passes' : List Pass} {shape : Shape} {events : ℕ
 
 module _ {pass : ℕ} {passes passes' : List Pass} {flusher flusher' : Option ℕ} {k k' : Keeping} {entries entries' : List Entry} {left left' : Room} where
   -- While it goes on, it serves its flush, and has fewer steps left.
-  pub flush-goes : {first : List Entry} → DrivesFlush Again pass flusher flusher' k k' passes passes' entries entries' left left' → IsFlushing pass passes flusher first entries → IsFlushing pass passes' flusher' first entries'
+  pub flush-goes : {first : List Entry} → DrivesFlush Again pass (flush_work flusher k passes entries left) (flush_work flusher' k' passes' entries' left') → IsFlushing pass passes flusher first entries → IsFlushing pass passes' flusher' first entries'
   flush-goes {first} drives now =
       let moves = drives.moves in let same : now.at ≡ drives.pass = some-inj (sym now.there ∙ moves.there) in record {
         two = ap length moves.after ∙ length-set' passes pass drives.pass' ∙ now.two;
@@ -90,14 +90,14 @@ module _ {pass : ℕ} {passes passes' : List Pass} {flusher flusher' : Option �
         asked = drives.tells.2 ∙ now.asked ∙ ap (λ (n : ℕ). first ++ Ask (record { pass = pass; call = n }) Flush ∷ []) (ap (λ (p : Pass). p.call) same ∙ sym moves.call);
       }
 
-  pub flush-fewer : DrivesFlush Again pass flusher flusher' k k' passes passes' entries entries' left left' → steps_at k' passes' pass < steps_at k passes pass
+  pub flush-fewer : DrivesFlush Again pass (flush_work flusher k passes entries left) (flush_work flusher' k' passes' entries' left') → steps_at k' passes' pass < steps_at k passes pass
   flush-fewer drives =
       let moves = drives.moves in
       let moved : slice_get passes' pass ≡ Some drives.pass' = subst (λ (ps : List Pass). slice_get ps pass ≡ Some drives.pass') (sym moves.after) (get-set-same passes pass drives.pass' drives.pass moves.there) in
       let a = ap (steps_of k') moved in let b = ap (steps_of k) moves.there in let c = drives.tells.1 in omega (arith, a, b, c)
 
   -- its reply is the second entry of two
-  pub flush-ended : {first : List Entry} (answer : Answer) → DrivesFlush (Ended answer) pass flusher flusher' k k' passes passes' entries entries' left left' → IsFlushing pass passes flusher first entries → IsResting passes' flusher' × Flushes pass answer first entries'
+  pub flush-ended : {first : List Entry} (answer : Answer) → DrivesFlush (Ended answer) pass (flush_work flusher k passes entries left) (flush_work flusher' k' passes' entries' left') → IsFlushing pass passes flusher first entries → IsResting passes' flusher' × Flushes pass answer first entries'
   flush-ended {first} answer drives now =
       let moves = drives.moves in let same : now.at ≡ drives.pass = some-inj (sym now.there ∙ moves.there) in let id : CallId = call_of pass now.at in (
         record {
@@ -122,6 +122,6 @@ module _ {pass : ℕ} {passes passes' : List Pass} {flusher flusher' : Option �
         | inr other ↦ absurd (now.nobody j other ((drives.others j other).0 is))
       ]
 
-pub flush-spends : {step : Step} {pass : ℕ} {flusher flusher' : Option ℕ} {k k' : Keeping} {passes passes' : List Pass} {entries entries' : List Entry} {first left left' : Room} → DrivesFlush step pass flusher flusher' k k' passes passes' entries entries' left left'
+pub flush-spends : {step : Step} {pass : ℕ} {flusher flusher' : Option ℕ} {k k' : Keeping} {passes passes' : List Pass} {entries entries' : List Entry} {first left left' : Room} → DrivesFlush step pass (flush_work flusher k passes entries left) (flush_work flusher' k' passes' entries' left')
     → (first.events ≤ left.events + 2) × (first.sectors ≤ left.sectors) → (first.events ≤ left'.events + 2) × (first.sectors ≤ left'.sectors)
 flush-spends drives (events, sectors) = let a = drives.events_left in let b = drives.sectors_left in (omega (arith, events), omega (arith, sectors))

@@ -17,8 +17,8 @@ use Rattle.vd_passes.specs.Passes.{has_region, after_ask}
 use Rattle.vd_passes.proofs.Lists.{some-inj, get-set-same, at-set, length-set'}
 use Rattle.vd_core.specs.declared.outcome.Step.{Step}
 use Rattle.vd_core.specs.declared.outcome.Step.TheVariants.{Again, Late, Busy, Ended}
-use Rattle.vd_core.specs.Asking.{AskEnds}
-use Rattle.vd_core.specs.Moves.{Moves, Drives, steps_left}
+use Rattle.vd_core.specs.Asking.{AskEnds, asking}
+use Rattle.vd_core.specs.Moves.{Moves, Drives, work, steps_left}
 use Rattle.vd_core.proofs.Serving.{asks-write}
 use Rattle.vd_serve.specs.Serving.{AreIdle, IsResting}
 
@@ -68,7 +68,7 @@ module _ {p p' : Pass} {passes passes' : List Pass} {entries entries' : List Ent
 
 module _ {block : ℕ} {passes passes' : List Pass} {entries entries' : List Entry} {left left' : Room} where
   -- While it goes on, it serves what it served, and has fewer steps left.
-  pub goes-on : {write : Bool} {count : ℕ} {flusher flusher' : Option ℕ} → Drives Again block 1 passes passes' entries entries' left left' → flusher' ≡ flusher → IsBusy write count passes flusher → IsBusy write count passes' flusher'
+  pub goes-on : {write : Bool} {count : ℕ} {flusher flusher' : Option ℕ} → Drives Again block 1 (work passes entries left) (work passes' entries' left') → flusher' ≡ flusher → IsBusy write count passes flusher → IsBusy write count passes' flusher'
   goes-on drives same_flusher busy =
       let moves = drives.moves in let at = busy.busy in let same : at.0 ≡ drives.pass = some-inj (sym at.1 ∙ moves.there) in record {
         two = same-two moves busy.two;
@@ -77,12 +77,12 @@ module _ {block : ℕ} {passes passes' : List Pass} {entries entries' : List Ent
         free = same_flusher ∙ busy.free;
       }
 
-  pub fewer-left : (block' : ℕ) → block' ≡ block → Drives Again block 1 passes passes' entries entries' left left' → steps_at block' passes' < steps_at block passes
+  pub fewer-left : (block' : ℕ) → block' ≡ block → Drives Again block 1 (work passes entries left) (work passes' entries' left') → steps_at block' passes' < steps_at block passes
   fewer-left block' same drives =
       let moves = drives.moves in let a = ap (λ (b : ℕ). steps_at b passes') same ∙ ap (steps_of block) (moved moves) in let b = ap (steps_of block) moves.there in let c = drives.tells.1 in omega (arith, a, b, c)
 
   -- Where the devices are never late and nobody else has a region, it goes on until it has its reply.
-  pub ended : {write : Bool} {count : ℕ} {flusher flusher' : Option ℕ} (step : Step) → (step ≡ Again → ⊥) → Drives step block 1 passes passes' entries entries' left left' → (step ≡ Late → Rose 0 0 ⊎ Rose 0 0)
+  pub ended : {write : Bool} {count : ℕ} {flusher flusher' : Option ℕ} (step : Step) → (step ≡ Again → ⊥) → Drives step block 1 (work passes entries left) (work passes' entries' left') → (step ≡ Late → Rose 0 0 ⊎ Rose 0 0)
       → ((by : ℕ) → step ≡ Busy by → (by ≢ 1) × IsAt passes by (λ q. has_region q.phase ≡ true)) → flusher' ≡ flusher → IsBusy write count passes flusher → IsResting passes' flusher'
   ended Again not drives late kept same busy = absurd (not refl)
   ended Late not drives late kept same busy = elim (late refl) [ inl rose ↦ absurd (omega (arith, rose)) | inr rose ↦ absurd (omega (arith, rose)) ]
@@ -103,8 +103,8 @@ busy-with {passes} {passes'} p p' write count there after is same resting = reco
 }
 
 -- A request that is answered at once leaves both passes idle, and any other is being served.
-module _ {shape : Shape} {events : ℕ} {table table' : Given} {passes passes' : List Pass} {history history' : Numbered} {left left' : Room} {flusher flusher' : Option ℕ} where
-  pub answered : {request : Asked} (result : Option Answer) → is_some result ≡ true → AskEnds result request shape 1 table table' passes passes' history history' left left' events → flusher' ≡ flusher → IsResting passes flusher → IsResting passes' flusher'
+module _ {shape shape' : Shape} {events : ℕ} {table table' : Given} {passes passes' : List Pass} {history history' : Numbered} {left left' : Room} {flusher flusher' : Option ℕ} where
+  pub answered : {request : Asked} (result : Option Answer) → is_some result ≡ true → AskEnds result request events 1 (asking shape table passes history left) (asking shape' table' passes' history' left') → flusher' ≡ flusher → IsResting passes flusher → IsResting passes' flusher'
   answered result some (inl (exceeds, is, same)) still resting = record {
     two = ap length same.passes_same ∙ resting.two;
     idle = subst AreIdle (sym same.passes_same) resting.idle;
@@ -121,14 +121,14 @@ module _ {shape : Shape} {events : ℕ} {table table' : Given} {passes passes' :
       }
   answered result some (inr (inr (none, asked))) still resting = let told = ap is_some none in cc
 
-  pub asked-write : (result : Option Answer) (first : ℕ) (content : List Sector) → is_some result ≡ false → AskEnds result (Write first content) shape 1 table table' passes passes' history history' left left' events → flusher' ≡ flusher → IsResting passes flusher
+  pub asked-write : (result : Option Answer) (first : ℕ) (content : List Sector) → is_some result ≡ false → AskEnds result (Write first content) events 1 (asking shape table passes history left) (asking shape' table' passes' history' left') → flusher' ≡ flusher → IsResting passes flusher
       → IsBusy true (length content) passes' flusher' × HasAskedWrite history'.log.entries 1 content
   asked-write result first content none (inl (exceeds, is, same)) still resting = let told = ap is_some is in cc
   asked-write result first content none (inr (inl (needed, free, is, full))) still resting = let told = ap is_some is in cc
   asked-write result first content none (inr (inr (is, asked))) still resting =
       let asks = asked.asks in (busy-with asks.pass (after_ask asks.pass (Write first content) _ _) true (length content) asks.there asks.after ((λ e. cc), refl, refl, refl) still resting, asks-write asks)
 
-  pub asked-read : (result : Option Answer) (first count : ℕ) → is_some result ≡ false → AskEnds result (Read first count) shape 1 table table' passes passes' history history' left left' events → flusher' ≡ flusher → IsResting passes flusher → IsBusy false count passes' flusher'
+  pub asked-read : (result : Option Answer) (first count : ℕ) → is_some result ≡ false → AskEnds result (Read first count) events 1 (asking shape table passes history left) (asking shape' table' passes' history' left') → flusher' ≡ flusher → IsResting passes flusher → IsBusy false count passes' flusher'
   asked-read result first count none (inl (exceeds, is, same)) still resting = let told = ap is_some is in cc
   asked-read result first count none (inr (inl (needed, free, is, full))) still resting = let told = ap is_some is in cc
   asked-read result first count none (inr (inr (is, asked))) still resting =

@@ -9,7 +9,6 @@ use Rattle.vd_passes.specs.declared.pass.Pass.{Pass}
 use Rattle.vd_passes.specs.Needs.{need_of}
 use Rattle.vd_core.specs.View.{View}
 use Rattle.vd_core.specs.Asking.{HasSize, Suffices}
-use Rattle.vd_core.specs.Leaving.{LeavesStore, LeavesBase}
 use Rattle.vd_serve.specs.Serving.{IsResting, requests_in}
 
 -- The request can be served: it is in order, and the spare room suffices for it.
@@ -45,11 +44,3 @@ pub record IsSameDisk {S B : Type 0} (core core' : View S B) : Type 0 where
   pub store_faults : core'.store_faults ≡ core.store_faults
   pub base_faults : core'.base_faults ≡ core.base_faults
   pub opened : core'.history.opened ≡ core.history.opened
-
--- what is left of one store, and of one base, by what it tells of itself: neither is ever late
-abbrev pub KeepsStore : {X : Type 0} (sectors depth events faults : X → ℕ) (tells records : X → Type 0) (old new : X) → Type 0
-KeepsStore sectors depth events faults tells records old new =
-    LeavesStore (sectors old) (sectors new) (depth old) (depth new) (events old) (events new) (faults old) (faults new) 0 0 (tells old) (tells new) (records old) (records new)
-
-abbrev pub KeepsBase : {X Y : Type 0} (sectors depth faults : X → ℕ) (tells : X → Type 0) (content : X → Y) (old new : X) → Type 0
-KeepsBase sectors depth faults tells content old new = LeavesBase (sectors old) (sectors new) (depth old) (depth new) (faults old) (faults new) 0 0 (tells old) (tells new) (content old) (content new)

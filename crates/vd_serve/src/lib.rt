@@ -6,10 +6,13 @@ ghost use Rattle.std.specs.List.{All};
 ghost use Rattle.vd_trace.specs.Traces.{script};
 ghost use Rattle.vd_trace.specs.Scripts.{need_of, request_of, HasRange};
 ghost use Rattle.vd_law.specs.Entries.{Read, Write, Flush};
+ghost use Rattle.vd_device.specs.Stores.{KeepsStore};
+ghost use Rattle.vd_device.specs.Bases.{KeepsBase};
 ghost use Rattle.vd_passes.specs.Needs.{need_of as pass_need_of};
 ghost use Rattle.vd_core.specs.Asking.{Suffices};
 ghost use Rattle.vd_serve.specs.Serving.{IsServable, IsResting, IsUnused, IsServed, Flushes, Closes};
-ghost use Rattle.vd_serve.specs.Driving.{CanServe, Serves, IsSameDisk, KeepsStore, KeepsBase, with_flush};
+ghost use Rattle.vd_serve.specs.Driving.{CanServe, Serves, IsSameDisk, with_flush};
+ghost use Rattle.vd_serve.specs.Waiting.{patient_store, patient_base};
 
 use vd_core::{Core, Step};
 use vd_device::{Base, Patient, Store};
@@ -29,10 +32,8 @@ fn serve_write<S: Store, B: Base>(
     ensures resting { IsResting core.new.passes core.new.flusher }
     ensures serves { Serves (Write first content.now) core.old.shape.block core.old.history.log.entries core.new.history.log.entries core.old.spare core.new.spare }
     ensures disk { IsSameDisk core.old core.new }
-    ensures opening { S.tells core.new.store.inner → core.new.opening ≡ core.old.opening }
-    ensures opening_stands { S.records core.new.store.inner → core.new.opening ≡ core.old.opening }
-    ensures store { KeepsStore S.sectors S.depth S.events S.faults S.tells S.records core.old.store.inner core.new.store.inner }
-    ensures base { KeepsBase B.sectors B.depth B.faults B.tells B.content core.old.base.inner core.new.base.inner }
+    ensures keeps { KeepsStore (patient_store S.Store) core.old.store core.new.store }
+    ensures base_keeps { KeepsBase (patient_base B.Base) core.old.base core.new.base }
 {
     if core.ask(1, Request::Write { first, content }).is_some() {
         return;
@@ -51,10 +52,8 @@ fn serve_read<S: Store, B: Base>(
     ensures resting { IsResting core.new.passes core.new.flusher }
     ensures serves { Serves (Read first (length out.old)) core.old.shape.block core.old.history.log.entries core.new.history.log.entries core.old.spare core.new.spare }
     ensures disk { IsSameDisk core.old core.new }
-    ensures opening { S.tells core.new.store.inner → core.new.opening ≡ core.old.opening }
-    ensures opening_stands { S.records core.new.store.inner → core.new.opening ≡ core.old.opening }
-    ensures store { KeepsStore S.sectors S.depth S.events S.faults S.tells S.records core.old.store.inner core.new.store.inner }
-    ensures base { KeepsBase B.sectors B.depth B.faults B.tells B.content core.old.base.inner core.new.base.inner }
+    ensures keeps { KeepsStore (patient_store S.Store) core.old.store core.new.store }
+    ensures base_keeps { KeepsBase (patient_base B.Base) core.old.base core.new.base }
 {
     let count = out.len() as u64;
     if core.ask(1, Request::Read { first, count }).is_some() {
@@ -72,10 +71,8 @@ fn flush<S: Store, B: Base>(core: &mut Core<Patient<S>, Patient<B>>, pass: u32) 
     ensures flushes { Flushes pass result core.old.history.log.entries core.new.history.log.entries }
     ensures room { (core.old.spare.events ≤ core.new.spare.events + 2) × (core.old.spare.sectors ≤ core.new.spare.sectors) }
     ensures disk { IsSameDisk core.old core.new }
-    ensures opening { S.tells core.new.store.inner → core.new.opening ≡ core.old.opening }
-    ensures opening_stands { S.records core.new.store.inner → core.new.opening ≡ core.old.opening }
-    ensures store { KeepsStore S.sectors S.depth S.events S.faults S.tells S.records core.old.store.inner core.new.store.inner }
-    ensures base { KeepsBase B.sectors B.depth B.faults B.tells B.content core.old.base.inner core.new.base.inner }
+    ensures keeps { KeepsStore (patient_store S.Store) core.old.store core.new.store }
+    ensures base_keeps { KeepsBase (patient_base B.Base) core.old.base core.new.base }
 {
     if let Some(_) = core.ask(pass, Request::Flush) {
         unreachable!();
@@ -104,10 +101,8 @@ fn serve_one<S: Store, B: Base>(
     ensures resting { IsResting core.new.passes core.new.flusher }
     ensures serves { Serves (request_of asked sectors.old) core.old.shape.block core.old.history.log.entries core.new.history.log.entries core.old.spare core.new.spare }
     ensures disk { IsSameDisk core.old core.new }
-    ensures opening { S.tells core.new.store.inner → core.new.opening ≡ core.old.opening }
-    ensures opening_stands { S.records core.new.store.inner → core.new.opening ≡ core.old.opening }
-    ensures store { KeepsStore S.sectors S.depth S.events S.faults S.tells S.records core.old.store.inner core.new.store.inner }
-    ensures base { KeepsBase B.sectors B.depth B.faults B.tells B.content core.old.base.inner core.new.base.inner }
+    ensures keeps { KeepsStore (patient_store S.Store) core.old.store core.new.store }
+    ensures base_keeps { KeepsBase (patient_base B.Base) core.old.base core.new.base }
 {
     match asked {
         Asked::Read { first, count } => serve_read(core, first, &mut sectors[..count as usize]),
@@ -134,11 +129,11 @@ pub fn serve<S: Store, B: Base>(
     ensures resting { IsResting core.new.passes core.new.flusher }
     ensures room { Suffices (pass_need_of core.new.shape.block Flush) core.new.spare }
     ensures disk { IsSameDisk core.old core.new }
-    ensures opening { S.tells core.new.store.inner → core.new.opening ≡ core.old.opening }
-    ensures opening_stands { S.records core.new.store.inner → core.new.opening ≡ core.old.opening }
-    ensures store { KeepsStore S.sectors S.depth S.events S.faults S.tells S.records core.old.store.inner core.new.store.inner }
-    ensures base { KeepsBase B.sectors B.depth B.faults B.tells B.content core.old.base.inner core.new.base.inner }
+    ensures keeps { KeepsStore (patient_store S.Store) core.old.store core.new.store }
+    ensures base_keeps { KeepsBase (patient_base B.Base) core.old.base core.new.base }
 {
+    // For what it says alone: where the store's log is told, the store tells all or has stopped.
+    let _ = core.history();
     for at in 0..trace.count(1) {
         let asked = trace.request(1, at, sectors);
         serve_one(core, asked, sectors);
@@ -154,10 +149,8 @@ pub fn close<S: Store, B: Base>(core: &mut Core<Patient<S>, Patient<B>>) -> Answ
     ensures resting { IsResting core.new.passes core.new.flusher }
     ensures closed { Closes result core.old.history.log.entries core.new.history.log.entries }
     ensures disk { IsSameDisk core.old core.new }
-    ensures opening { S.tells core.new.store.inner → core.new.opening ≡ core.old.opening }
-    ensures opening_stands { S.records core.new.store.inner → core.new.opening ≡ core.old.opening }
-    ensures store { KeepsStore S.sectors S.depth S.events S.faults S.tells S.records core.old.store.inner core.new.store.inner }
-    ensures base { KeepsBase B.sectors B.depth B.faults B.tells B.content core.old.base.inner core.new.base.inner }
+    ensures keeps { KeepsStore (patient_store S.Store) core.old.store core.new.store }
+    ensures base_keeps { KeepsBase (patient_base B.Base) core.old.base core.new.base }
 {
     core.adopt();
     flush(core, 0)

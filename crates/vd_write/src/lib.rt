@@ -6,9 +6,10 @@ ghost use Rattle.vd_passes.specs.declared.pass.Phase.TheVariants.{Idle};
 ghost use Rattle.vd_passes.specs.Steps.{IsAt, HasAskedWrite};
 ghost use Rattle.vd_passes.specs.Passes.{has_region};
 ghost use Rattle.vd_device.specs.Calls.{Rose};
+ghost use Rattle.vd_device.specs.Stores.{KeepsStore};
+ghost use Rattle.vd_device.specs.Bases.{KeepsBase};
 ghost use Rattle.vd_core.specs.declared.outcome.Step.TheVariants.{Late, Busy};
-ghost use Rattle.vd_core.specs.Moves.{Drives};
-ghost use Rattle.vd_core.specs.Leaving.{LeavesStore, LeavesBase};
+ghost use Rattle.vd_core.specs.Moves.{Drives, work_of};
 
 use vd_core::{Core, Step};
 use vd_device::{Base, Store};
@@ -25,16 +26,15 @@ impl Writer {
     pub fn next<S: Store, B: Base>(core: &mut Core<S, B>, pass: u32, content: &[Sector]) -> Step
         requires busy { IsAt core.old.passes pass (λ p. (p.phase ≢ Idle) × (p.write ≡ true) × (p.flush ≡ false)) }
         requires content { HasAskedWrite core.old.history.log.entries pass content.now }
-        ensures drives { Drives result core.old.shape.block pass core.old.passes core.new.passes core.old.history.log.entries core.new.history.log.entries core.old.spare core.new.spare }
+        ensures drives { Drives result core.old.shape.block pass (work_of core.old) (work_of core.new) }
         ensures late { result ≡ Late → Rose (S.late core.old.store) (S.late core.new.store) ⊎ Rose (B.late core.old.base) (B.late core.new.base) }
         ensures busy { (by : ℕ) → result ≡ Busy by → (by ≢ pass) × IsAt core.old.passes by (λ q. has_region q.phase ≡ true) }
         ensures shape { core.new.shape ≡ core.old.shape }
-        ensures storage { (core.new.table ≡ core.old.table) × (core.new.store_faults ≡ core.old.store_faults) × (core.new.base_faults ≡ core.old.base_faults) × (core.new.history.opened ≡ core.old.history.opened) × (core.new.header ≡ core.old.header) × (core.new.entries ≡ core.old.entries) }
+        ensures storage { (core.new.table ≡ core.old.table) × (core.new.store_faults ≡ core.old.store_faults) × (core.new.base_faults ≡ core.old.base_faults)
+            × (core.new.history.opened ≡ core.old.history.opened) × (core.new.header ≡ core.old.header) × (core.new.entries ≡ core.old.entries) }
         ensures flusher { core.new.flusher ≡ core.old.flusher }
-        ensures store { LeavesStore (S.sectors core.old.store) (S.sectors core.new.store) (S.depth core.old.store) (S.depth core.new.store) (S.events core.old.store) (S.events core.new.store) (S.faults core.old.store) (S.faults core.new.store) (S.late core.old.store) (S.late core.new.store) (S.tells core.old.store) (S.tells core.new.store) (S.records core.old.store) (S.records core.new.store) }
-        ensures base { LeavesBase (B.sectors core.old.base) (B.sectors core.new.base) (B.depth core.old.base) (B.depth core.new.base) (B.faults core.old.base) (B.faults core.new.base) (B.late core.old.base) (B.late core.new.base) (B.tells core.old.base) (B.tells core.new.base) (B.content core.old.base) (B.content core.new.base) }
-        ensures opening { S.tells core.new.store → core.new.opening ≡ core.old.opening }
-        ensures opening_stands { S.records core.new.store → core.new.opening ≡ core.old.opening }
+        ensures keeps { KeepsStore S.Store core.old.store core.new.store }
+        ensures base_keeps { KeepsBase B.Base core.old.base core.new.base }
     {
         match core.phase(pass) {
             Phase::Asked => match core.enter(pass) {

@@ -6,6 +6,7 @@ use Rattle.vd_metadata.proofs.Members.{same-member}
 use Rattle.vd_metadata.proofs.Attended.{at-stage-of}
 use Rattle.vd_law.specs.Histories.{Numbered}
 use Rattle.vd_core.specs.View.{View}
+use Rattle.vd_core.proofs.Opened.{store-untouched}
 use Rattle.vd_core.proofs.Views.{same-history, same-left}
 use Rattle.vd_flush.proofs.Steps.{drives-as, settles-drives, puts-drives, syncs-drives, seals-drives}
 use Rattle.vd_flush.proofs.go_on.Goals as goal
@@ -43,3 +44,6 @@ returns-in-Seals-clause-drives g c =
     let old = c.args.core.now in let others = c.seal.ensures.others in
     drives-as refl (ap (λ (h : Numbered). h.log.entries) (same-history others)) (same-left others)
     (seals-drives old.history.log.entries old.spare c.requires.attended (sym c.stage.ensures ∙ c.in-Seals.is) (ap (λ (v : View _ _). v.flusher) others) c.seal.ensures.seals)
+
+pub returns-in-Seals-clause-keeps : goal.returns-in-Seals-clause-keeps
+returns-in-Seals-clause-keeps g c = store-untouched g.S.Store c.args.core.now.store c.seal.new.self.store (ap (λ (v : View _ _). v.store) c.seal.ensures.others) c.requires.told

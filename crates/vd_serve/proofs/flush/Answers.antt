@@ -1,8 +1,11 @@
-use Rattle.std.proofs.Common.{◌∙◌, ap}
+use Rattle.std.proofs.Common.{sym, subst}
 use Rattle.vd_device.specs.declared.patient.Patient.{Patient}
+use Rattle.vd_device.specs.Bases.{KeepsBase}
+use Rattle.vd_device.proofs.Keeping.{keeps-on}
 use Rattle.vd_serve.proofs.Passing.{rests-at}
 use Rattle.vd_serve.proofs.Flushing.{not-answered, flush-asked, flush-goes, flush-fewer, flush-ended, flush-spends}
-use Rattle.vd_serve.proofs.Leaving.{store-same, base-same, store-then, base-then, disk-then, ask-disk, ask-opening, ask-flusher, ask-store, ask-base, flush-disk}
+use Rattle.vd_serve.specs.Waiting.{patient_store, patient_base}
+use Rattle.vd_serve.proofs.Leaving.{disk-then, ask-disk, ask-flusher, ask-store, ask-base, flush-disk}
 use Rattle.vd_serve.proofs.flush.Goals as goal
 
 pub ask-requires-clause-phase : goal.ask-requires-clause-phase
@@ -17,10 +20,8 @@ loop-answer-init g c =
       flushing = asked.0;
       room = (asked.1, asked.2);
       disk = ask-disk c.args.core.now c.ask.new.self c.ask.result c.ask.ensures.ends others;
-      opening = λ told. ask-opening c.args.core.now c.ask.new.self others;
-      opening_stands = λ recorded. ask-opening c.args.core.now c.ask.new.self others;
-      store = store-same g.S.Store.sectors g.S.Store.depth g.S.Store.events g.S.Store.faults g.S.Store.tells g.S.Store.records (ap (λ (p : Patient _). p.inner) (ask-store c.args.core.now c.ask.new.self others));
-      base = base-same g.B.Base.sectors g.B.Base.depth g.B.Base.faults g.B.Base.tells g.B.Base.content (ap (λ (p : Patient _). p.inner) (ask-base c.args.core.now c.ask.new.self others));
+      keeps = ask-store c.args.core.now c.ask.new.self others (patient_store g.S.Store) c.ask.ensures.told;
+      base_keeps = ask-base c.args.core.now c.ask.new.self others (patient_base g.B.Base);
     }
 
 pub loop-answer-smaller : goal.loop-answer-smaller
@@ -32,10 +33,8 @@ loop-answer-preserved g c =
       flushing = flush-goes drives now.flushing;
       room = flush-spends drives now.room;
       disk = disk-then now.disk (flush-disk c.loop-answer.core c.next.new.core next.disk next.counted);
-      opening = λ told. next.opening told ∙ now.opening (next.store.told_before told);
-      opening_stands = λ recorded. next.opening_stands recorded ∙ now.opening_stands (next.store.recorded_before recorded);
-      store = store-then now.store next.store;
-      base = base-then now.base (base-same g.B.Base.sectors g.B.Base.depth g.B.Base.faults g.B.Base.tells g.B.Base.content (ap (λ (p : Patient _). p.inner) next.base));
+      keeps = keeps-on (patient_store g.S.Store) c.args.core.now.store c.loop-answer.core.store c.next.new.core.store now.keeps next.keeps;
+      base_keeps = subst (λ (b : Patient _). KeepsBase (patient_base g.B.Base) c.args.core.now.base b) (sym next.base) now.base_keeps;
     }
 
 pub returns-in-Ended : goal.returns-in-Ended
@@ -45,8 +44,6 @@ returns-in-Ended g c =
       flushes = ended.1;
       room = flush-spends drives now.room;
       disk = disk-then now.disk (flush-disk c.loop-answer.core c.next.new.core next.disk next.counted);
-      opening = λ told. next.opening told ∙ now.opening (next.store.told_before told);
-      opening_stands = λ recorded. next.opening_stands recorded ∙ now.opening_stands (next.store.recorded_before recorded);
-      store = store-then now.store next.store;
-      base = base-then now.base (base-same g.B.Base.sectors g.B.Base.depth g.B.Base.faults g.B.Base.tells g.B.Base.content (ap (λ (p : Patient _). p.inner) next.base));
+      keeps = keeps-on (patient_store g.S.Store) c.args.core.now.store c.loop-answer.core.store c.next.new.core.store now.keeps next.keeps;
+      base_keeps = subst (λ (b : Patient _). KeepsBase (patient_base g.B.Base) c.args.core.now.base b) (sym next.base) now.base_keeps;
     }

@@ -1,4 +1,5 @@
-use Rattle.std.proofs.Common.{refl, sym, ◌*◌, ◌∙◌, ℕ, ap, subst, arith}
+use Rattle.std.proofs.Common.{sym, ◌*◌, ◌∙◌, ℕ, ap, subst, arith}
+use Rattle.vd_device.proofs.Keeping.{keeps-on, keeps-same, base-keeps-on, base-keeps-same}
 use Rattle.vd_passes.specs.declared.shape.Shape.{Shape}
 use Rattle.vd_trace.specs.Traces.{script}
 use Rattle.vd_trace.specs.Scripts.{request_of}
@@ -7,17 +8,16 @@ use Rattle.vd_core.specs.Asking.{Suffices}
 use Rattle.vd_serve.specs.Driving.{Serves}
 use Rattle.vd_serve.proofs.Needs.{guest-suffices, next-suffices}
 use Rattle.vd_serve.proofs.Going.{servable-at, none-served, one-served, all-served, flush-suffices}
-use Rattle.vd_serve.proofs.Leaving.{store-same, base-same, store-then, base-then, same-disk, disk-then}
+use Rattle.vd_serve.specs.Waiting.{patient_store, patient_base}
+use Rattle.vd_serve.proofs.Leaving.{same-disk, disk-then}
 use Rattle.vd_serve.proofs.serve.Goals as goal
 
 pub loop-at-init : goal.loop-at-init
 loop-at-init g c = record {
   serving = none-served c.requires.unused (guest-suffices c.args.core.now.shape.block 1 c.args.trace.now.asks c.args.core.now.spare c.requires.room);
   disk = same-disk;
-  opening = λ told. refl;
-  opening_stands = λ recorded. refl;
-  store = store-same g.S.Store.sectors g.S.Store.depth g.S.Store.events g.S.Store.faults g.S.Store.tells g.S.Store.records refl;
-  base = base-same g.B.Base.sectors g.B.Base.depth g.B.Base.faults g.B.Base.tells g.B.Base.content refl;
+  keeps = keeps-same (patient_store g.S.Store) c.args.core.now.store c.history.ensures.known.opening.told;
+  base_keeps = base-keeps-same (patient_base g.B.Base) c.args.core.now.base;
 }
 
 pub serve_one-requires-clause-servable : goal.serve_one-requires-clause-servable
@@ -38,16 +38,14 @@ loop-at-preserved g c =
     let serves = subst (λ (b : ℕ). Serves asked b c.loop-at.core.history.log.entries new.history.log.entries c.loop-at.core.spare new.spare) (ap (λ (s : Shape). s.block) now.disk.shape) one.serves in record {
       serving = one-served asked c.request-asked.ensures.request one.resting serves now.serving;
       disk = disk-then now.disk one.disk;
-      opening = λ told. one.opening told ∙ now.opening (one.store.told_before told);
-      opening_stands = λ recorded. one.opening_stands recorded ∙ now.opening_stands (one.store.recorded_before recorded);
-      store = store-then now.store one.store;
-      base = base-then now.base one.base;
+      keeps = keeps-on (patient_store g.S.Store) c.args.core.now.store c.loop-at.core.store new.store now.keeps one.keeps;
+      base_keeps = base-keeps-on (patient_base g.B.Base) c.args.core.now.base c.loop-at.core.base new.base now.base_keeps one.base_keeps;
     }
 
 pub returns-clause-served : goal.returns-clause-served
 returns-clause-served g c =
     let many = c.count-at-end.ensures in let all = c.loop-at-test.false in
-    all-served c.loop-at.core.passes c.loop-at.core.history.log.entries (c.loop-at.core.shape.block * c.loop-at.core.shape.blocks) (omega (arith, many, all)) c.history.ensures.regular c.loop-at.invariant.serving
+    all-served c.loop-at.core.passes c.loop-at.core.history.log.entries (c.loop-at.core.shape.block * c.loop-at.core.shape.blocks) (omega (arith, many, all)) c.history-2.ensures.known.regular c.loop-at.invariant.serving
 
 pub returns-clause-resting : goal.returns-clause-resting
 returns-clause-resting g c = c.loop-at.invariant.serving.resting

@@ -1,6 +1,9 @@
 use Rattle.std.proofs.Common.{◌≡◌, false, length}
 use Rattle.vd_law.specs.Entries.{Read}
-use Rattle.vd_serve.specs.Driving.{Serves, IsSameDisk, KeepsStore, KeepsBase}
+use Rattle.vd_device.specs.Stores.{KeepsStore}
+use Rattle.vd_device.specs.Bases.{KeepsBase}
+use Rattle.vd_serve.specs.Driving.{Serves, IsSameDisk}
+use Rattle.vd_serve.specs.Waiting.{patient_store, patient_base}
 use Rattle.vd_serve.proofs.Passing.{IsBusy, steps_at}
 use Rattle.vd_serve.proofs.serve_read.Given as goal
 
@@ -9,10 +12,8 @@ invariant-loop g l = record {
   busy : IsBusy false (length l.out) l.core.passes l.core.flusher;
   serves : Serves (Read l.first (length l.fn.out)) l.fn.core.shape.block l.fn.core.history.log.entries l.core.history.log.entries l.fn.core.spare l.core.spare;
   disk : IsSameDisk l.fn.core l.core;
-  opening : g.S.Store.tells l.core.store.inner → l.core.opening ≡ l.fn.core.opening;
-  opening_stands : g.S.Store.records l.core.store.inner → l.core.opening ≡ l.fn.core.opening;
-  store : KeepsStore g.S.Store.sectors g.S.Store.depth g.S.Store.events g.S.Store.faults g.S.Store.tells g.S.Store.records l.fn.core.store.inner l.core.store.inner;
-  base : KeepsBase g.B.Base.sectors g.B.Base.depth g.B.Base.faults g.B.Base.tells g.B.Base.content l.fn.core.base.inner l.core.base.inner;
+  keeps : KeepsStore (patient_store g.S.Store) l.fn.core.store l.core.store;
+  base_keeps : KeepsBase (patient_base g.B.Base) l.fn.core.base l.core.base;
 }
 
 abbrev pub decreases-loop : goal.decreases-loop

@@ -1,9 +1,10 @@
 use Rattle.std.proofs.Common.{lit<, ◌∙◌, sym, ap}
-use Rattle.vd_device.specs.declared.patient.Patient.{Patient}
+use Rattle.vd_device.proofs.Keeping.{keeps-on, base-keeps-on}
 use Rattle.vd_passes.specs.declared.shape.Shape.{Shape}
 use Rattle.vd_serve.proofs.Passing.{rests-at, answered, asked-write, goes-on, fewer-left, ended}
 use Rattle.vd_serve.proofs.Asks.{ask-serves, serves-on, still-asked}
-use Rattle.vd_serve.proofs.Leaving.{store-same, base-same, store-then, base-then, disk-then, ask-disk, ask-opening, ask-flusher, ask-store, ask-base, step-disk}
+use Rattle.vd_serve.specs.Waiting.{patient_store, patient_base}
+use Rattle.vd_serve.proofs.Leaving.{disk-then, ask-disk, ask-flusher, ask-store, ask-base, step-disk}
 use Rattle.vd_serve.proofs.serve_write.Goals as goal
 
 pub ask-requires-clause-phase : goal.ask-requires-clause-phase
@@ -11,6 +12,12 @@ ask-requires-clause-phase g c = rests-at 1 (lit< tt) c.requires.can.resting
 
 pub returns-then-is_some-clause-resting : goal.returns-then-is_some-clause-resting
 returns-then-is_some-clause-resting g c = answered c.ask.result (sym c.is_some.ensures ∙ c.if-is_some.true) c.ask.ensures.ends (ask-flusher c.args.core.now c.ask.new.self c.ask.ensures.others) c.requires.can.resting
+
+pub returns-then-is_some-clause-keeps : goal.returns-then-is_some-clause-keeps
+returns-then-is_some-clause-keeps g c = ask-store c.args.core.now c.ask.new.self c.ask.ensures.others (patient_store g.S.Store) c.ask.ensures.told
+
+pub returns-then-is_some-clause-base_keeps : goal.returns-then-is_some-clause-base_keeps
+returns-then-is_some-clause-base_keeps g c = ask-base c.args.core.now c.ask.new.self c.ask.ensures.others (patient_base g.B.Base)
 
 pub loop-init : goal.loop-init
 loop-init g c =
@@ -20,10 +27,8 @@ loop-init g c =
       content = busy.1;
       serves = ask-serves c.ask.result c.requires.can.room ends;
       disk = ask-disk c.args.core.now c.ask.new.self c.ask.result ends others;
-      opening = λ told. ask-opening c.args.core.now c.ask.new.self others;
-      opening_stands = λ recorded. ask-opening c.args.core.now c.ask.new.self others;
-      store = store-same g.S.Store.sectors g.S.Store.depth g.S.Store.events g.S.Store.faults g.S.Store.tells g.S.Store.records (ap (λ (p : Patient _). p.inner) (ask-store c.args.core.now c.ask.new.self others));
-      base = base-same g.B.Base.sectors g.B.Base.depth g.B.Base.faults g.B.Base.tells g.B.Base.content (ap (λ (p : Patient _). p.inner) (ask-base c.args.core.now c.ask.new.self others));
+      keeps = ask-store c.args.core.now c.ask.new.self others (patient_store g.S.Store) c.ask.ensures.told;
+      base_keeps = ask-base c.args.core.now c.ask.new.self others (patient_base g.B.Base);
     }
 
 pub loop-smaller : goal.loop-smaller
@@ -36,10 +41,8 @@ loop-preserved g c =
       content = still-asked c.args.content.now drives now.content;
       serves = serves-on drives now.serves;
       disk = disk-then now.disk (step-disk c.loop.core c.next.new.core next.shape next.storage);
-      opening = λ told. next.opening told ∙ now.opening (next.store.told_before told);
-      opening_stands = λ recorded. next.opening_stands recorded ∙ now.opening_stands (next.store.recorded_before recorded);
-      store = store-then now.store next.store;
-      base = base-then now.base next.base;
+      keeps = keeps-on (patient_store g.S.Store) c.args.core.now.store c.loop.core.store c.next.new.core.store now.keeps next.keeps;
+      base_keeps = base-keeps-on (patient_base g.B.Base) c.args.core.now.base c.loop.core.base c.next.new.core.base now.base_keeps next.base_keeps;
     }
 
 pub returns : goal.returns
@@ -48,8 +51,6 @@ returns g c =
       resting = ended c.next.result c.in_default.not-Again next.drives next.late next.busy next.flusher now.busy;
       serves = serves-on next.drives now.serves;
       disk = disk-then now.disk (step-disk c.loop.core c.next.new.core next.shape next.storage);
-      opening = λ told. next.opening told ∙ now.opening (next.store.told_before told);
-      opening_stands = λ recorded. next.opening_stands recorded ∙ now.opening_stands (next.store.recorded_before recorded);
-      store = store-then now.store next.store;
-      base = base-then now.base next.base;
+      keeps = keeps-on (patient_store g.S.Store) c.args.core.now.store c.loop.core.store c.next.new.core.store now.keeps next.keeps;
+      base_keeps = base-keeps-on (patient_base g.B.Base) c.args.core.now.base c.loop.core.base c.next.new.core.base now.base_keeps next.base_keeps;
     }

@@ -3,6 +3,7 @@ use Rattle.vd_law.specs.declared.entry.Room.{Room}
 use Rattle.vd_law.specs.Histories.{Numbered}
 use Rattle.vd_passes.specs.Passes.{has_region}
 use Rattle.vd_core.specs.View.{View}
+use Rattle.vd_core.proofs.Opened.{store-untouched}
 use Rattle.vd_core.proofs.Views.{same-history, same-left}
 use Rattle.vd_flush.proofs.Steps.{drives-as, begins-drives, worn-drives, kept_out-drives, replies-drives}
 use Rattle.vd_flush.proofs.Flusher.next.Goals as goal
@@ -41,3 +42,6 @@ returns-in-Ready-clause-drives g c =
     let more = ap (λ (r : Room). r.events) freed.2 in let more_sectors = ap (λ (r : Room). r.sectors) freed.2 in
     replies-drives old.spare c.reply.new.self.spare at.0 c.phase.ensures.attended at.1 phase (ap (λ (v : View _ _). v.flusher) others) (ap (λ (v : View _ _). v.keeping) others)
     (omega (arith, more)) (omega (arith, more_sectors)) c.reply.ensures.replies
+
+pub returns-in-Ready-clause-keeps : goal.returns-in-Ready-clause-keeps
+returns-in-Ready-clause-keeps g c = store-untouched g.S.Store c.args.core.now.store c.reply.new.self.store (ap (λ (v : View _ _). v.store) c.reply.ensures.others) c.phase.ensures.told

@@ -1,4 +1,7 @@
 use Rattle.std.proofs.Common.{◌∙◌, sym, ap, refl, inl, inr, arith}
+use Rattle.vd_core.specs.View.{View}
+use Rattle.vd_core.proofs.Opened.{store-untouched}
+use Rattle.vd_write.proofs.Untouched.{base-untouched}
 use Rattle.vd_law.specs.Histories.{Numbered}
 use Rattle.vd_law.specs.declared.entry.Room.{Room}
 use Rattle.vd_core.proofs.Views.{same-history, same-left}
@@ -61,3 +64,38 @@ returns-in-Ready-clause-drives g c =
     let at = c.requires.busy in let phase = sym (c.phase.ensures.phase at.0 at.1) ∙ c.in-Ready.is in let freed = c.reply.ensures.left in
     let more = ap (λ (r : Room). r.events) freed.2 in let more_sectors = ap (λ (r : Room). r.sectors) freed.2 in
     replies-drives c.args.core.now.spare c.args.core.now.shape.block at.0 at.1 phase c.reply.ensures.replies c.reply.new.self.spare (omega (arith, more)) (omega (arith, more_sectors))
+
+-- What each step leaves of the devices.
+
+pub returns-in-Ok-clause-keeps : goal.returns-in-Ok-clause-keeps
+returns-in-Ok-clause-keeps g c = store-untouched g.S.Store c.args.core.now.store c.enter.new.self.store (ap (λ (v : View _ _). v.store) c.enter.ensures.others) c.phase.ensures.told
+
+pub returns-in-Ok-clause-base_keeps : goal.returns-in-Ok-clause-base_keeps
+returns-in-Ok-clause-base_keeps g c = base-untouched g.B.Base c.args.core.now.base c.enter.new.self.base (ap (λ (v : View _ _). v.base) c.enter.ensures.others)
+
+pub returns-in-Err-clause-keeps : goal.returns-in-Err-clause-keeps
+returns-in-Err-clause-keeps g c = store-untouched g.S.Store c.args.core.now.store c.enter.new.self.store (ap (λ (v : View _ _). v.store) c.enter.ensures.others) c.phase.ensures.told
+
+pub returns-in-Err-clause-base_keeps : goal.returns-in-Err-clause-base_keeps
+returns-in-Err-clause-base_keeps g c = base-untouched g.B.Base c.args.core.now.base c.enter.new.self.base (ap (λ (v : View _ _). v.base) c.enter.ensures.others)
+
+pub returns-then-is_whole-clause-base_keeps : goal.returns-then-is_whole-clause-base_keeps
+returns-then-is_whole-clause-base_keeps g c = base-untouched g.B.Base c.args.core.now.base c.issue.new.self.base (ap (λ (v : View _ _). v.base) c.issue.ensures.others)
+
+pub returns-else-is_whole-clause-keeps : goal.returns-else-is_whole-clause-keeps
+returns-else-is_whole-clause-keeps g c = store-untouched g.S.Store c.args.core.now.store c.fetch.new.self.store (ap (λ (v : View _ _). v.store) c.fetch.ensures.others) c.phase.ensures.told
+
+pub returns-in-Fetching-clause-keeps : goal.returns-in-Fetching-clause-keeps
+returns-in-Fetching-clause-keeps g c = store-untouched g.S.Store c.args.core.now.store c.settle_fetch.new.self.store (ap (λ (v : View _ _). v.store) c.settle_fetch.ensures.others) c.phase.ensures.told
+
+pub returns-in-Filled-clause-base_keeps : goal.returns-in-Filled-clause-base_keeps
+returns-in-Filled-clause-base_keeps g c = base-untouched g.B.Base c.args.core.now.base c.issue-in-Filled.new.self.base (ap (λ (v : View _ _). v.base) c.issue-in-Filled.ensures.others)
+
+pub returns-in-Issuing-clause-base_keeps : goal.returns-in-Issuing-clause-base_keeps
+returns-in-Issuing-clause-base_keeps g c = base-untouched g.B.Base c.args.core.now.base c.settle_issue.new.self.base (ap (λ (v : View _ _). v.base) c.settle_issue.ensures.others)
+
+pub returns-in-Ready-clause-keeps : goal.returns-in-Ready-clause-keeps
+returns-in-Ready-clause-keeps g c = store-untouched g.S.Store c.args.core.now.store c.reply.new.self.store (ap (λ (v : View _ _). v.store) c.reply.ensures.others) c.phase.ensures.told
+
+pub returns-in-Ready-clause-base_keeps : goal.returns-in-Ready-clause-base_keeps
+returns-in-Ready-clause-base_keeps g c = base-untouched g.B.Base c.args.core.now.base c.reply.new.self.base (ap (λ (v : View _ _). v.base) c.reply.ensures.others)
