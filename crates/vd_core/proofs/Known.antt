@@ -59,10 +59,10 @@ module _ {S B : Type 0} (g : store.Ghosts S) (h : base.Ghosts B) (s : S) (b : B)
     (logged : g.tells s → IsLogged passes history (g.disk s))
     (recorded : IsRecorded shape state passes flusher keeping)
     (safely : g.tells s → h.tells b → IsSafelyKept g h state keeping flusher passes history s b)
-    (stopped : g.records s → h.tells b → g.tells s ⊎ IsSafelyStopped state.header history (g.events s) (g.disk s) (h.content b))
-    (told : IsTold g s) where
+    (stopped : g.records s → h.tells b → g.tells s ⊎ IsSafelyStopped g h state.header history s b)
+    (told : IsTold g s) (tells_logs : g.tells s → g.records s) where
   pub has-opening : HasOpening g (seen_as g s b shape state keeping flusher passes history spare store_faults base_faults)
-  has-opening = record { is = refl; told = told; within = within g s logged told }
+  has-opening = record { is = refl; told = told; recorded = tells_logs; within = within g s logged told }
 
   pub known-history : IsHistoryOf g h (seen_as g s b shape state keeping flusher passes history spare store_faults base_faults)
   known-history = record {

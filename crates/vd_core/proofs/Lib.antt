@@ -4,7 +4,6 @@ pub mod Copied
 pub mod Ended
 pub mod Entered
 pub mod Entries
-pub mod Fetched
 pub mod Keeping
 pub mod Known
 pub mod Leaving

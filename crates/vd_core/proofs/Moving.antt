@@ -24,7 +24,7 @@ use Rattle.vd_passes.proofs.Lists.{some-inj}
 use Rattle.vd_passes.proofs.Needing.{pieces-left, pieces-behind, pieces-last}
 use Rattle.vd_core.specs.declared.outcome.Step.{Step}
 use Rattle.vd_core.specs.declared.outcome.Step.TheVariants.{Again, Busy, Ended}
-use Rattle.vd_core.proofs.Fetched.{FetchesIn}
+use Rattle.vd_core.specs.Fetching.{FetchesIn}
 use Rattle.vd_core.specs.Outcomes.{outcome_of, step_of}
 use Rattle.vd_core.proofs.Ended.{set-there}
 use Rattle.vd_core.specs.Moves.{IsNoAsk, steps_in, steps_left, Moves, work, Drives, IsStanding}

@@ -1,28 +1,12 @@
 -- What a store had told at opening stays what it was, whatever calls it has had since.
-use Rattle.std.proofs.Common.{◌≡◌, ℕ, ◌≤◌, List, length, take, sym, ◌∙◌, ap, subst, inl, inr}
-use Rattle.std.proofs.lemmas.List.{take-append-le}
-use Rattle.vd_law.specs.declared.entry.Sector.{Sector}
-use Rattle.vd_law.specs.Entries.{Entry}
+use Rattle.std.proofs.Common.{◌≡◌, ℕ, sym, ◌∙◌, ap, subst, inl, inr}
 use Rattle.vd_device.specs.declared.store.Store as store
-use Rattle.vd_device.specs.Disks.{Disk, HasStood}
-use Rattle.vd_device.specs.Frames.{GoesOn}
 use Rattle.vd_device.specs.Stores.{IsTold, KeepsStore}
 use Rattle.vd_device.proofs.Keeping.{keeps-same}
 use Rattle.vd_core.specs.View.{View}
 use Rattle.vd_core.specs.Start.{opening_at}
 use Rattle.vd_core.specs.History.{HasOpening}
-
--- the log goes on, and the opening lies within it
-pub opening-goes-on : (opened : ℕ) (disk disk' : Disk) → GoesOn disk disk' → opened ≤ length disk.log → opening_at opened disk' ≡ opening_at opened disk
-opening-goes-on opened disk disk' on within =
-    ap (λ (xs : List Sector). opening_at opened (record { start = xs; log = disk'.log; held = disk'.held })) on.start
-    ∙ ap (λ (xs : List Entry). record { start = disk.start; log = xs }) (ap (take opened) on.log ∙ take-append-le opened disk.log on.more within)
-
--- the log stands
-pub opening-stood : (opened events : ℕ) (disk disk' : Disk) → HasStood events disk disk' → opening_at opened disk' ≡ opening_at opened disk
-opening-stood opened events disk disk' stood =
-    ap (λ (xs : List Sector). opening_at opened (record { start = xs; log = disk'.log; held = disk'.held })) stood.start
-    ∙ ap (λ (xs : List Entry). opening_at opened (record { start = disk.start; log = xs; held = disk'.held })) stood.log
+use Rattle.vd_core.proofs.Starting.{opening-goes-on, opening-stood}
 
 -- For whoever drives a core: where the log is told after some calls, the opening is what it was before them.
 pub opening-stands : {S B : Type 0} (g : store.Ghosts S) (c c' : View S B) → HasOpening g c → HasOpening g c' → KeepsStore g c.store c'.store → c'.history.opened ≡ c.history.opened → g.records c'.store → c'.opening ≡ c.opening
@@ -32,6 +16,10 @@ opening-stands g c c' first now keeps same recorded =
       | inl within ↦ opening-goes-on opened (g.disk c.store) (g.disk c'.store) (telling.goes_on recorded) within
       | inr stopped ↦ opening-stood opened (g.events c'.store) (g.disk c.store) (g.disk c'.store) (telling.stood recorded stopped)
     ] ∙ sym first.is
+
+-- the same where the store tells
+pub opening-told : {S B : Type 0} (g : store.Ghosts S) (c c' : View S B) → HasOpening g c → HasOpening g c' → KeepsStore g c.store c'.store → c'.history.opened ≡ c.history.opened → g.tells c'.store → c'.opening ≡ c.opening
+opening-told g c c' first now keeps same tells = opening-stands g c c' first now keeps same (now.recorded tells)
 
 -- and a store that a step doesn't touch is kept
 pub store-untouched : {S : Type 0} (g : store.Ghosts S) (s s' : S) → s' ≡ s → IsTold g s → KeepsStore g s s'

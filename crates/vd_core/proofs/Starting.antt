@@ -5,7 +5,8 @@ use Rattle.vd_law.specs.declared.entry.Sector.{Sector}
 use Rattle.vd_law.specs.Entries.{Entry}
 use Rattle.vd_device.specs.declared.ticket.Ticket.{Ticket}
 use Rattle.vd_device.specs.declared.settled.Settled.{Settled}
-use Rattle.vd_device.specs.Disks.{Disk, IsHonest, GrowsBy}
+use Rattle.vd_device.specs.Disks.{Disk, IsHonest, GrowsBy, HasStood}
+use Rattle.vd_device.specs.Frames.{GoesOn}
 use Rattle.vd_device.specs.Calls.{Tells, settle_entries}
 use Rattle.vd_image.specs.CrashImages.{sectors_or}
 use Rattle.vd_image.proofs.CrashImages.{at_inside}
@@ -14,20 +15,29 @@ use Rattle.vd_passes.proofs.Tracks.{track-contents}
 use Rattle.vd_core.specs.Start.{opening_at, WasClean, first_or_zeros, image_at}
 
 -- the store has gone on by some entries
-abbrev pub GoesOn : Disk → Disk → Type 0
-GoesOn disk disk' = (events : List Entry) × GrowsBy events disk disk'
+abbrev pub HasGrown : Disk → Disk → Type 0
+HasGrown disk disk' = (events : List Entry) × GrowsBy events disk disk'
 
-pub settle-goes-on : {answer : Settled} {ticket : Ticket} {out : List Sector} {disk disk' : Disk} → Tells answer ticket out disk disk' → GoesOn disk disk'
+pub settle-goes-on : {answer : Settled} {ticket : Ticket} {out : List Sector} {disk disk' : Disk} → Tells answer ticket out disk disk' → HasGrown disk disk'
 settle-goes-on {answer} {ticket} {out} tells = (settle_entries answer ticket out, tells.grows)
 
-pub since-more : {disk disk' : Disk} (opened : ℕ) → GoesOn disk disk' → opened ≤ length disk.log → opened ≤ length disk'.log
+pub since-more : {disk disk' : Disk} (opened : ℕ) → HasGrown disk disk' → opened ≤ length disk.log → opened ≤ length disk'.log
 since-more {disk} {disk'} opened on since = let log = ap length on.1.log in let long = length-append disk.log on.0 in omega (arith, log, long, since)
 
-pub opening-same : {disk disk' : Disk} (opened : ℕ) → GoesOn disk disk' → opened ≤ length disk.log → opening_at opened disk' ≡ opening_at opened disk
-opening-same {disk} {disk'} opened on since =
-    let cut : take opened disk'.log ≡ take opened disk.log = ap (take opened) on.1.log ∙ take-append-le opened disk.log on.0 since in
-    let start : opening_at opened disk' ≡ record { start = disk.start; log = take opened disk'.log } = ap (λ (xs : List Sector). record { start = xs; log = take opened disk'.log }) on.1.start in
-    start ∙ ap (λ (xs : List Entry). record { start = disk.start; log = xs }) cut
+-- the opening lies within the log, which goes on
+pub opening-goes-on : (opened : ℕ) (disk disk' : Disk) → GoesOn disk disk' → opened ≤ length disk.log → opening_at opened disk' ≡ opening_at opened disk
+opening-goes-on opened disk disk' on within =
+    ap (λ (xs : List Sector). opening_at opened (record { start = xs; log = disk'.log; held = disk'.held })) on.start
+    ∙ ap (λ (xs : List Entry). record { start = disk.start; log = xs }) (ap (take opened) on.log ∙ take-append-le opened disk.log on.more within)
+
+-- the log stands
+pub opening-stood : (opened events : ℕ) (disk disk' : Disk) → HasStood events disk disk' → opening_at opened disk' ≡ opening_at opened disk
+opening-stood opened events disk disk' stood =
+    ap (λ (xs : List Sector). opening_at opened (record { start = xs; log = disk'.log; held = disk'.held })) stood.start
+    ∙ ap (λ (xs : List Entry). opening_at opened (record { start = disk.start; log = xs; held = disk'.held })) stood.log
+
+pub opening-same : {disk disk' : Disk} (opened : ℕ) → HasGrown disk disk' → opened ≤ length disk.log → opening_at opened disk' ≡ opening_at opened disk
+opening-same {disk} {disk'} opened grown since = opening-goes-on opened disk disk' (record { start = grown.1.start; more = grown.0; log = grown.1.log }) since
 
 -- all that was told is what has been told up to now
 pub all-told : (disk : Disk) (opened : ℕ) → opened ≡ length disk.log → take opened disk.log ≡ disk.log

@@ -23,10 +23,12 @@ use Rattle.vd_core.specs.Agreeing.{AgreesWith}
 use Rattle.vd_core.specs.Opening.{AreReplied, IsNumberedIn}
 use Rattle.vd_core.specs.Showing.{EndsFlushed, MayHold, ShowsCould}
 
--- What the store had told at opening is read off the front of its log, which reaches that far unless the store has stopped.
+-- What the store had told at opening is read off the front of its log, which reaches that far unless the store has stopped. Beside
+-- that, what its driver must know of the store: one that logs tells all or has stopped, and one that tells logs.
 pub record HasOpening {S B : Type 0} (g : store.Ghosts S) (c : View S B) : Type 0 where
   pub is : c.opening ≡ opening_at c.history.opened (g.disk c.store)
   pub told : IsTold g c.store
+  pub recorded : g.tells c.store → g.records c.store
   pub within : g.records c.store → (c.history.opened ≤ length (g.disk c.store).log) ⊎ HasStopped (g.events c.store) (g.disk c.store)
 
 module _ {S B : Type 0} (g : store.Ghosts S) (h : base.Ghosts B) where
@@ -38,6 +40,7 @@ module _ {S B : Type 0} (g : store.Ghosts S) (h : base.Ghosts B) where
   abbrev pub FromSafeStart : View S B → (List Sector → Type 0) → Type 0
   FromSafeStart c P = FromStart c (λ start. WasSafe c.opening c.header → P start)
 
+  -- what is known at any time
   pub record IsHistoryOf (c : View S B) : Type 0 where
     pub opening : HasOpening g c
     pub regular : IsRegular (c.shape.block * c.shape.blocks) c.history.log.entries

@@ -59,8 +59,8 @@ pub record Counted : Type 0 where
   pub at_opening : ℕ
   pub faults : ℕ
 
-abbrev pub counted : (last at_opening faults : ℕ) → Counted
-counted last at_opening faults = record { last = last; at_opening = at_opening; faults = faults }
+abbrev pub counted_as : (last at_opening faults : ℕ) → Counted
+counted_as last at_opening faults = record { last = last; at_opening = at_opening; faults = faults }
 
 -- Why the answers of a history are as they are: each fault names a ticket of its device, which has failed as often, a Full is due
 -- to what writes have taken, and each entry is of one of the passes. And why the local blocks are those that they are.
@@ -91,12 +91,6 @@ pub record IsStillSafe (h : Header) (base start : List Sector) (disk : Disk) (hi
   pub rising : IsRising history.opened history.numbers
   pub crash_safe : IsCrashSafe (format_of h) (layout_of h) (base_at zero_sector base) zero_sector disk.start disk.log start history
 
--- What is kept where the store has stopped and the base tells: by the log as it stood at the stop the history is crash safe from
--- whatever the guest's disk was when the core was made, if all was safe then.
-pub record IsSafelyStopped (h : Header) (history : Numbered) (events : ℕ) (disk : Disk) (base : List Sector) : Type 0 where
-  pub stopped : HasStopped events disk
-  pub safe : (start : List Sector) → IsStart (opening_at history.opened disk) base h start → WasSafe (opening_at history.opened disk) h → IsStillSafe h base start disk history
-
 module _ {S B : Type 0} (g : store.Ghosts S) (h : base.Ghosts B) where
   -- what is kept whatever the devices tell
   pub record IsKept (shape : Shape) (state : State) (regions : List (Option Region)) (passes : List Pass) (history : Numbered) (spare : Room) (s : S) (b : B) : Type 0 where
@@ -108,7 +102,7 @@ module _ {S B : Type 0} (g : store.Ghosts S) (h : base.Ghosts B) where
   -- Why the answers and the local blocks are as they are, while the devices had failed so often at opening.
   abbrev pub IsAccounted : Shape → State → List Pass → Numbered → (store_faults base_faults : ℕ) → S → B → Type 0
   IsAccounted shape state passes history store_faults base_faults s b =
-      IsExplained shape state.map state.table state.fresh.bits passes history.log.entries (counted (g.last s) store_faults (g.faults s)) (counted (h.last b) base_faults (h.faults b))
+      IsExplained shape state.map state.table state.fresh.bits passes history.log.entries (counted_as (g.last s) store_faults (g.faults s)) (counted_as (h.last b) base_faults (h.faults b))
 
   -- What is kept where both devices tell: from whatever the guest's disk was when the core was made, by the store's first `opened`
   -- events, each read saw what could stand there, and the store agrees with the history.
@@ -124,3 +118,9 @@ module _ {S B : Type 0} (g : store.Ghosts S) (h : base.Ghosts B) where
     pub inside : (i a : ℕ) (v : Sector) → history.opened ≤ i → Writes (g.disk s).log i a v → a < g.sectors s
     pub secured : (start : List Sector) → IsStart (opening_at history.opened (g.disk s)) (h.content b) state.header start → WasSafe (opening_at history.opened (g.disk s)) state.header
         → (held : ℕ → Sector) × IsSecured (opening_for state.header state.map (g.disk s).start held (h.content b) start history.opened) state.table state.fresh.bits k flusher passes history (g.disk s).log
+
+  -- What is kept where the store has stopped and the base tells: by the log as it stood at the stop the history is crash safe from
+  -- whatever the guest's disk was when the core was made, if all was safe then.
+  pub record IsSafelyStopped (header : Header) (history : Numbered) (s : S) (b : B) : Type 0 where
+    pub stopped : HasStopped (g.events s) (g.disk s)
+    pub safe : (start : List Sector) → IsStart (opening_at history.opened (g.disk s)) (h.content b) header start → WasSafe (opening_at history.opened (g.disk s)) header → IsStillSafe header (h.content b) start (g.disk s) history

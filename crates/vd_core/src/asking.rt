@@ -64,7 +64,8 @@ pub(crate) fn ask_request<S: Store>(
     requires there { IsAt passes.old.items pass (λ p. p.call < 2 ^ 64 - 1) }
     requires few { length passes.old.items ≤ 64 }
     requires room { CanAdd (length (asked_content (asked_of request))) history.old (S.events store.now) }
-    ensures asks { Asks (asked_of request.entry) left.events left.sectors pass passes.old.items passes.new.items history.old.log.entries history.new.log.entries }
+    ensures asks { Asks (asked_of request.entry) left.events left.sectors pass
+        passes.old.items passes.new.items history.old.log.entries history.new.log.entries }
     ensures extends { Extends (S.events store.now ∷ []) (length (asked_content (asked_of request.entry))) history.old history.new }
     ensures running { S.tells store.now → IsRunning (S.events store.now) (S.disk store.now) }
 {

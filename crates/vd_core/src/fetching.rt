@@ -49,7 +49,8 @@ pub(crate) fn settle_block<B: Base>(
     pass: usize,
 ) -> Outcome
     requires waiting { IsAt passes.old.items pass (λ p. (w : IsWaitingForBase shape.now (B.flies base.old) p) × (w.ticket.count ≤ shape.now.block)) }
-    ensures settled { (answer : AnySettled) × (result ≡ outcome_of answer) × FetchSettled answer shape.now pass passes.old.items passes.new.items (B.flies base.old) (B.flies base.new) (B.tells base.new) (B.content base.new)
+    ensures settled { (answer : AnySettled) × (result ≡ outcome_of answer) × FetchSettled answer shape.now pass
+        passes.old.items passes.new.items (B.flies base.old) (B.flies base.new) (B.tells base.new) (B.content base.new)
         × IsCaused answer (B.faults base.old) (B.faults base.new) (B.late base.old) (B.late base.new) }
     ensures number { B.last base.new ≡ B.last base.old }
     ensures keeps { KeepsBase B.Base base.old base.new }

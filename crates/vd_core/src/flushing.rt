@@ -54,10 +54,17 @@ impl<S: Store, B: Base> Core<S, B> {
         requires tracked { (t : ℕ) → route ≡ Recycle t → t ≡ self.old.keeping.header.tracked }
         ensures busy { (by : ℕ) → result ≡ Busy by → (self.old.flusher ≡ Some by) × (by ≢ pass) × (self.new ≡ self.old) }
         ensures going { result ≡ Going → (self.old.flusher ≡ None) × (self.new.flusher ≡ Some pass) × FlushBegins S.Store route pass self.old self.new }
-        ensures worn { result ≡ Worn → (self.old.flusher ≡ None) × IsWornOut route pass self.old.keeping self.old.passes self.new.passes × (self.new ≡ record self.old { passes = self.new.passes }) }
+        ensures worn { result ≡ Worn → (self.old.flusher ≡ None) × IsWornOut route pass self.old.keeping self.old.passes self.new.passes
+            × (self.new ≡ record self.old { passes = self.new.passes }) }
         ensures number { result ≡ Going → IsAt self.new.passes pass (IsNumbered OfStore (S.last self.old.store) (S.last self.new.store)) }
         ensures keeps { KeepsStore S.Store self.old.store self.new.store }
-        ensures others { self.new ≡ record self.old { store = self.new.store; keeping = self.new.keeping; flusher = self.new.flusher; passes = self.new.passes; opening = self.new.opening } }
+        ensures others { self.new ≡ record self.old {
+          store = self.new.store;
+          keeping = self.new.keeping;
+          flusher = self.new.flusher;
+          passes = self.new.passes;
+          opening = self.new.opening;
+        } }
     {
         if let Some(by) = self.flusher {
             return Begun::Busy { by };
@@ -84,7 +91,12 @@ impl<S: Store, B: Base> Core<S, B> {
         ensures puts { FlushPuts S.Store pass self.old self.new }
         ensures number { IsAt self.new.passes pass (IsNumbered OfStore (S.last self.old.store) (S.last self.new.store)) }
         ensures keeps { KeepsStore S.Store self.old.store self.new.store }
-        ensures others { self.new ≡ record self.old { store = self.new.store; keeping = self.new.keeping; passes = self.new.passes; opening = self.new.opening } }
+        ensures others { self.new ≡ record self.old {
+          store = self.new.store;
+          keeping = self.new.keeping;
+          passes = self.new.passes;
+          opening = self.new.opening;
+        } }
     {
         metadata::put(
             &mut self.store,
@@ -115,7 +127,13 @@ impl<S: Store, B: Base> Core<S, B> {
             × IsCaused answer (S.faults self.old.store) (S.faults self.new.store) (S.late self.old.store) (S.late self.new.store)
             × (self.new.flusher ≡ flusher_after answer self.old.flusher) }
         ensures keeps { KeepsStore S.Store self.old.store self.new.store }
-        ensures others { self.new ≡ record self.old { store = self.new.store; keeping = self.new.keeping; flusher = self.new.flusher; passes = self.new.passes; opening = self.new.opening } }
+        ensures others { self.new ≡ record self.old {
+          store = self.new.store;
+          keeping = self.new.keeping;
+          flusher = self.new.flusher;
+          passes = self.new.passes;
+          opening = self.new.opening;
+        } }
     {
         let outcome = metadata::settle(
             &mut self.store,

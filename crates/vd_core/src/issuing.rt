@@ -54,7 +54,8 @@ pub(crate) fn issue_piece<S: Store>(
     requires ready { IsAt passes.old.items pass (CanIssue S.Store shape.now fresh.now.bits content.now history.old store.old) }
     requires few { length passes.old.items ≤ 64 }
     ensures issues { Issues shape.now fresh.now.bits content.now pass passes.old.items passes.new.items history.old.log.entries history.new.log.entries
-        (S.flies store.old) (S.flies store.new) (S.tells store.old) (S.tells store.new) (S.disk store.old) (S.disk store.new) (S.last store.old) (S.last store.new) }
+        (S.flies store.old) (S.flies store.new) (S.tells store.old) (S.tells store.new) (S.disk store.old) (S.disk store.new)
+        (S.last store.old) (S.last store.new) }
     ensures extends { IsAt passes.old.items pass (λ p. Extends (S.events store.old ∷ []) p.piece history.old history.new) }
     ensures number { IsAt passes.new.items pass (IsNumbered OfStore (S.last store.old) (S.last store.new)) }
     ensures running { S.tells store.old → IsRunning (S.events store.old) (S.disk store.old) }
@@ -88,8 +89,10 @@ pub(crate) fn settle_write<S: Store>(
     requires waiting { IsAt passes.old.items pass (λ p. IsWaiting Write shape.now (S.flies store.old) p × (p.block < length fresh.old.bits)) }
     requires few { length passes.old.items ≤ 64 }
     requires room { CanAdd 0 history.old (S.events store.old) }
-    ensures settled { (answer : AnySettled) × (result ≡ outcome_of answer) × WriteSettled answer pass fresh.old.bits fresh.new.bits passes.old.items passes.new.items history.old.log.entries history.new.log.entries
-        (S.flies store.old) (S.flies store.new) (S.tells store.old) (S.tells store.new) (S.disk store.old) (S.disk store.new) (S.last store.old) (S.last store.new)
+    ensures settled { (answer : AnySettled) × (result ≡ outcome_of answer)
+        × WriteSettled answer pass fresh.old.bits fresh.new.bits passes.old.items passes.new.items history.old.log.entries history.new.log.entries
+        (S.flies store.old) (S.flies store.new) (S.tells store.old) (S.tells store.new) (S.disk store.old) (S.disk store.new)
+        (S.last store.old) (S.last store.new)
         × Extends (numbers_of answer (S.events store.new)) 0 history.old history.new
         × IsCaused answer (S.faults store.old) (S.faults store.new) (S.late store.old) (S.late store.new)
         × IsAt passes.old.items pass (λ p. keeper.new ≡ owed_after answer p.block keeper.old) }

@@ -34,7 +34,8 @@ pub(crate) fn look_at_store<S: Store>(
     pass: usize,
 )
     requires ready { IsAt passes.old.items pass (CanRead shape.now (S.sectors store.old) (S.depth store.old) (S.flies store.old)) }
-    ensures looks { Looks shape.now pass passes.old.items passes.new.items (S.flies store.old) (S.flies store.new) (S.tells store.old) (S.tells store.new) (S.disk store.old) (S.disk store.new) (S.last store.old) (S.last store.new) }
+    ensures looks { Looks shape.now pass passes.old.items passes.new.items (S.flies store.old) (S.flies store.new) (S.tells store.old)
+        (S.tells store.new) (S.disk store.old) (S.disk store.new) (S.last store.old) (S.last store.new) }
     ensures number { IsAt passes.new.items pass (IsNumbered OfStore (S.last store.old) (S.last store.new)) }
     ensures stopped { S.records store.new → TellsOrStood (S.tells store.new) (S.events store.new) (S.disk store.old) (S.disk store.new) }
     ensures keeps { KeepsStore S.Store store.old store.new }
@@ -52,7 +53,8 @@ pub(crate) fn look_at_base<B: Base>(
     passes: &mut Vec<Pass>,
     pass: usize,
 )
-    requires ready { IsAt passes.old.items pass (λ p. CanReadBase shape.now (B.sectors base.old) (B.depth base.old) (B.flies base.old) p × (0 < below shape.now.limit (p.first + p.done) p.piece)) }
+    requires ready { IsAt passes.old.items pass (λ p. CanReadBase shape.now (B.sectors base.old) (B.depth base.old) (B.flies base.old) p
+        × (0 < below shape.now.limit (p.first + p.done) p.piece)) }
     ensures looks { LooksAtBase shape.now pass passes.old.items passes.new.items (B.flies base.old) (B.flies base.new) }
     ensures number { IsAt passes.new.items pass (IsNumbered OfBase (B.last base.old) (B.last base.new)) }
     ensures keeps { KeepsBase B.Base base.old base.new }
@@ -71,9 +73,11 @@ pub(crate) fn see_zeros<S: Store>(
     pass: usize,
     out: &mut [Sector],
 )
-    requires ready { IsAt passes.old.items pass (λ p. (p.done + p.piece ≤ length out.old) × (p.first + p.count ≤ 2 ^ 26) × (p.done + p.piece ≤ p.count) × (p.ticket ≡ None) × (p.fetch ≡ None) × CanAdd p.piece history.old (S.events store.now)) }
+    requires ready { IsAt passes.old.items pass (λ p. (p.done + p.piece ≤ length out.old) × (p.first + p.count ≤ 2 ^ 26)
+        × (p.done + p.piece ≤ p.count) × (p.ticket ≡ None) × (p.fetch ≡ None) × CanAdd p.piece history.old (S.events store.now)) }
     requires few { length passes.old.items ≤ 64 }
-    ensures sees { IsAt passes.old.items pass (λ p. Sees (replicate p.piece zero_sector) pass passes.old.items passes.new.items history.old.log.entries history.new.log.entries out.old out.new
+    ensures sees { IsAt passes.old.items pass (λ p. Sees (replicate p.piece zero_sector) pass
+        passes.old.items passes.new.items history.old.log.entries history.new.log.entries out.old out.new
         × Extends (S.events store.now ∷ []) p.piece history.old history.new) }
     ensures running { S.tells store.now → IsRunning (S.events store.now) (S.disk store.now) }
 {
@@ -100,10 +104,13 @@ pub(crate) fn settle_store_look<S: Store>(
     pass: usize,
     out: &mut [Sector],
 ) -> Outcome
-    requires waiting { IsAt passes.old.items pass (λ p. (w : IsWaiting Read shape.now (S.flies store.old) p) × (w.ticket.count ≡ p.piece) × (p.done + p.piece ≤ length out.old) × CanAdd p.piece history.old (S.events store.old)) }
+    requires waiting { IsAt passes.old.items pass (λ p. (w : IsWaiting Read shape.now (S.flies store.old) p) × (w.ticket.count ≡ p.piece)
+        × (p.done + p.piece ≤ length out.old) × CanAdd p.piece history.old (S.events store.old)) }
     requires few { length passes.old.items ≤ 64 }
-    ensures settled { (answer : AnySettled) × (result ≡ outcome_of answer) × LookSettled answer pass passes.old.items passes.new.items history.old.log.entries history.new.log.entries
-        (S.flies store.old) (S.flies store.new) (S.tells store.old) (S.tells store.new) (S.disk store.old) (S.disk store.new) (S.last store.old) (S.last store.new) out.old out.new
+    ensures settled { (answer : AnySettled) × (result ≡ outcome_of answer) × LookSettled answer pass
+        passes.old.items passes.new.items history.old.log.entries history.new.log.entries
+        (S.flies store.old) (S.flies store.new) (S.tells store.old) (S.tells store.new) (S.disk store.old) (S.disk store.new)
+        (S.last store.old) (S.last store.new) out.old out.new
         × IsAt passes.old.items pass (λ p. Extends (read_numbers_of answer (S.events store.new)) (read_sectors_of answer p.piece) history.old history.new)
         × IsCaused answer (S.faults store.old) (S.faults store.new) (S.late store.old) (S.late store.new) }
     ensures running { S.tells store.new → (history.new ≡ history.old) ⊎ IsRunning (S.events store.new) (S.disk store.new) }
@@ -161,9 +168,11 @@ pub(crate) fn settle_base_look<S: Store, B: Base>(
     pass: usize,
     out: &mut [Sector],
 ) -> Outcome
-    requires waiting { IsAt passes.old.items pass (λ p. (w : IsWaitingForBase shape.now (B.flies base.old) p) × (w.ticket.count ≤ p.piece) × (p.done + p.piece ≤ length out.old) × CanAdd p.piece history.old (S.events store.now)) }
+    requires waiting { IsAt passes.old.items pass (λ p. (w : IsWaitingForBase shape.now (B.flies base.old) p) × (w.ticket.count ≤ p.piece)
+        × (p.done + p.piece ≤ length out.old) × CanAdd p.piece history.old (S.events store.now)) }
     requires few { length passes.old.items ≤ 64 }
-    ensures settled { (answer : AnySettled) × (result ≡ outcome_of answer) × BaseLookSettled answer shape.now pass passes.old.items passes.new.items history.old.log.entries history.new.log.entries
+    ensures settled { (answer : AnySettled) × (result ≡ outcome_of answer) × BaseLookSettled answer shape.now pass
+        passes.old.items passes.new.items history.old.log.entries history.new.log.entries
         (B.flies base.old) (B.flies base.new) (B.tells base.new) (B.content base.new) out.old out.new
         × IsAt passes.old.items pass (λ p. Extends (read_numbers_of answer (S.events store.now)) (read_sectors_of answer p.piece) history.old history.new)
         × IsCaused answer (B.faults base.old) (B.faults base.new) (B.late base.old) (B.late base.new) }

@@ -274,7 +274,8 @@ impl<S: Store, B: Base> Core<S, B> {
             base_faults: _,
         } = self;
         end_passes(passes);
-        // For what their clauses say alone: a store that tells has as many events as its log, and the numbers never fall.
+        // For what their clauses say alone: a store that tells logs, and has as many events as its log, and the numbers never fall.
+        let _flight = store.in_flight();
         let _events = store.events();
         let _entries = history.log();
         Closed {

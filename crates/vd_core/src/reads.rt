@@ -40,7 +40,8 @@ impl<S: Store, B: Base> Core<S, B> {
 
     /// The look at a piece of which the base has something.
     fn look_in_base(&mut self, pass: u32)
-        requires phase { IsAt self.old.passes pass (λ p. IsReader p × (slice_get self.old.fresh p.block ≡ Some false) × (0 < below self.old.shape.limit (p.first + p.done) p.piece)) }
+        requires phase { IsAt self.old.passes pass (λ p. IsReader p × (slice_get self.old.fresh p.block ≡ Some false)
+            × (0 < below self.old.shape.limit (p.first + p.done) p.piece)) }
         ensures looks { LooksInBase B.Base pass self.old self.new }
         ensures number { IsAt self.new.passes pass (IsNumbered OfBase (B.last self.old.base) (B.last self.new.base)) }
         ensures base_keeps { KeepsBase B.Base self.old.base self.new.base }
@@ -51,7 +52,8 @@ impl<S: Store, B: Base> Core<S, B> {
 
     /// The look at a piece that is zeros.
     fn look_at_zeros(&mut self, pass: u32, out: &mut [Sector])
-        requires phase { IsAt self.old.passes pass (λ p. IsReader p × (slice_get self.old.fresh p.block ≡ Some false) × (below self.old.shape.limit (p.first + p.done) p.piece ≡ 0) × (p.count ≡ length out.old)) }
+        requires phase { IsAt self.old.passes pass (λ p. IsReader p × (slice_get self.old.fresh p.block ≡ Some false)
+            × (below self.old.shape.limit (p.first + p.done) p.piece ≡ 0) × (p.count ≡ length out.old)) }
         ensures sees { SeesZeros self.old.shape pass self.old.passes self.new.passes self.old.history.log.entries self.new.history.log.entries out.old out.new }
         ensures extends { IsAt self.old.passes pass (λ p. Extends (S.events self.old.store ∷ []) p.piece self.old.history self.new.history) }
         ensures others { self.new ≡ record self.old { passes = self.new.passes; history = self.new.history } }
@@ -76,8 +78,15 @@ impl<S: Store, B: Base> Core<S, B> {
         ensures base_keeps { KeepsBase B.Base self.old.base self.new.base }
         ensures keeps { KeepsStore S.Store self.old.store self.new.store }
         ensures store_same { IsAt self.old.passes pass (λ p. slice_get self.old.fresh p.block ≡ Some false → self.new.store ≡ self.old.store) }
-        ensures base_same { IsAt self.old.passes pass (λ p. (slice_get self.old.fresh p.block ≡ Some true) ⊎ (below self.old.shape.limit (p.first + p.done) p.piece ≡ 0) → self.new.base ≡ self.old.base) }
-        ensures others { self.new ≡ record self.old { store = self.new.store; base = self.new.base; passes = self.new.passes; history = self.new.history; opening = self.new.opening } }
+        ensures base_same { IsAt self.old.passes pass (λ p. (slice_get self.old.fresh p.block ≡ Some true)
+            ⊎ (below self.old.shape.limit (p.first + p.done) p.piece ≡ 0) → self.new.base ≡ self.old.base) }
+        ensures others { self.new ≡ record self.old {
+          store = self.new.store;
+          base = self.new.base;
+          passes = self.new.passes;
+          history = self.new.history;
+          opening = self.new.opening;
+        } }
     {
         let p = &self.passes[pass as usize];
         let count = below(&self.shape, p.first + p.done, p.piece);
@@ -93,11 +102,18 @@ impl<S: Store, B: Base> Core<S, B> {
     /// Settles a look in the store.
     fn settle_store(&mut self, pass: u32, out: &mut [Sector]) -> Step
         requires phase { IsAt self.old.passes pass (λ p. (p.phase ≡ Looking) × IsSome p.ticket × (p.count ≡ length out.old)) }
-        ensures settled { (answer : AnySettled) × (result ≡ step_of (outcome_of answer)) × SettlesStoreLook S.Store answer pass out.old out.new self.old self.new
-            × IsAt self.old.passes pass (λ p. Extends (read_numbers_of answer (S.events self.new.store)) (read_sectors_of answer p.piece) self.old.history self.new.history)
+        ensures settled { (answer : AnySettled) × (result ≡ step_of (outcome_of answer))
+            × SettlesStoreLook S.Store answer pass out.old out.new self.old self.new
+            × IsAt self.old.passes pass (λ p. Extends (read_numbers_of answer (S.events self.new.store))
+            (read_sectors_of answer p.piece) self.old.history self.new.history)
             × IsCaused answer (S.faults self.old.store) (S.faults self.new.store) (S.late self.old.store) (S.late self.new.store) }
         ensures keeps { KeepsStore S.Store self.old.store self.new.store }
-        ensures others { self.new ≡ record self.old { store = self.new.store; passes = self.new.passes; history = self.new.history; opening = self.new.opening } }
+        ensures others { self.new ≡ record self.old {
+          store = self.new.store;
+          passes = self.new.passes;
+          history = self.new.history;
+          opening = self.new.opening;
+        } }
     {
         let outcome = settle_store_look(
             &mut self.store,
@@ -114,7 +130,8 @@ impl<S: Store, B: Base> Core<S, B> {
     fn settle_base(&mut self, pass: u32, out: &mut [Sector]) -> Step
         requires phase { IsAt self.old.passes pass (λ p. (p.phase ≡ Looking) × (p.ticket ≡ None) × (p.count ≡ length out.old)) }
         ensures settled { (answer : AnySettled) × (result ≡ step_of (outcome_of answer)) × SettlesBaseLook B.Base answer pass out.old out.new self.old self.new
-            × IsAt self.old.passes pass (λ p. Extends (read_numbers_of answer (S.events self.old.store)) (read_sectors_of answer p.piece) self.old.history self.new.history)
+            × IsAt self.old.passes pass (λ p. Extends (read_numbers_of answer (S.events self.old.store))
+            (read_sectors_of answer p.piece) self.old.history self.new.history)
             × IsCaused answer (B.faults self.old.base) (B.faults self.new.base) (B.late self.old.base) (B.late self.new.base) }
         ensures number { B.last self.new.base ≡ B.last self.old.base }
         ensures base_keeps { KeepsBase B.Base self.old.base self.new.base }
@@ -136,13 +153,20 @@ impl<S: Store, B: Base> Core<S, B> {
     /// ready with the fault of the device that was read.
     pub fn settle_look(&mut self, pass: u32, out: &mut [Sector]) -> Step
         requires phase { IsAt self.old.passes pass (λ p. (p.phase ≡ Looking) × (p.count ≡ length out.old)) }
-        ensures settled { (answer : AnySettled) × (result ≡ step_of (outcome_of answer)) × SettlesLook S.Store B.Base answer pass out.old out.new self.old self.new }
+        ensures settled { (answer : AnySettled) × (result ≡ step_of (outcome_of answer))
+            × SettlesLook S.Store B.Base answer pass out.old out.new self.old self.new }
         ensures keeps { KeepsStore S.Store self.old.store self.new.store }
         ensures base_number { B.last self.new.base ≡ B.last self.old.base }
         ensures base_keeps { KeepsBase B.Base self.old.base self.new.base }
         ensures store_same { IsAt self.old.passes pass (λ p. p.ticket ≡ None → self.new.store ≡ self.old.store) }
         ensures base_same { IsAt self.old.passes pass (λ p. IsSome p.ticket → self.new.base ≡ self.old.base) }
-        ensures others { self.new ≡ record self.old { store = self.new.store; base = self.new.base; passes = self.new.passes; history = self.new.history; opening = self.new.opening } }
+        ensures others { self.new ≡ record self.old {
+          store = self.new.store;
+          base = self.new.base;
+          passes = self.new.passes;
+          history = self.new.history;
+          opening = self.new.opening;
+        } }
     {
         if self.passes[pass as usize].ticket.is_some() {
             self.settle_store(pass, out)

@@ -44,7 +44,8 @@ fn run(shape: &Shape, request: Request<'_>) -> (u32, u32)
 /// where these are fewer.
 fn claim(table: &mut Table, from: u32, count: u32) -> Option<(u32, u32)>
     requires inside { from + count ≤ length table.old.chunks }
-    ensures full { IfSome result (λ full. (full.0 ≡ lacking table.old from count) × (full.1 + used table.old ≡ table.old.storage) × (full.1 < full.0) × (table.new ≡ table.old)) }
+    ensures full { IfSome result (λ full. (full.0 ≡ lacking table.old from count) × (full.1 + used table.old ≡ table.old.storage)
+        × (full.1 < full.0) × (table.new ≡ table.old)) }
     ensures claims { IfNone result (Claims table.old table.new from count) }
 {
     let lacking = table.lacking(from, count);
@@ -90,7 +91,8 @@ fn ask_in_room<S: Store>(
     request: Request<'_>,
 ) -> Option<Answer>
     requires can { CanAsk shape.now table.old passes.old.items history.old spare.old (S.events store.now) (asked_of request) pass }
-    ensures ends { AskEnds result (asked_of request.entry) (S.events store.now) pass (asking shape.now table.old passes.old.items history.old spare.old) (asking shape.now table.new passes.new.items history.new spare.new) }
+    ensures ends { AskEnds result (asked_of request.entry) (S.events store.now) pass
+        (asking shape.now table.old passes.old.items history.old spare.old) (asking shape.now table.new passes.new.items history.new spare.new) }
     ensures running { S.tells store.now → (history.new ≡ history.old) ⊎ IsRunning (S.events store.now) (S.disk store.now) }
 {
     let need = need_of(shape, request);

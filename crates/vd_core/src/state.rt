@@ -77,7 +77,7 @@ impl<S: Store, B: Base> Model for Core<S, B> {
         × (S.tells c.store → IsLogged c.passes.items c.history (S.disk c.store))
         × IsRecorded c.shape c.state c.passes.items c.flusher c.keeper
         × (S.tells c.store → B.tells c.base → IsSafelyKept S.Store B.Base c.state c.keeper c.flusher c.passes.items c.history c.store c.base)
-        × (S.records c.store → B.tells c.base → S.tells c.store ⊎ IsSafelyStopped c.state.header c.history (S.events c.store) (S.disk c.store) (B.content c.base))
+        × (S.records c.store → B.tells c.base → S.tells c.store ⊎ IsSafelyStopped S.Store B.Base c.state.header c.history c.store c.base)
         × IsTold S.Store c.store };
 }
 
@@ -98,6 +98,8 @@ impl<S: Store, B: Base> Core<S, B> {
         ensures history { result.now ≡ self.now.history }
         ensures known { IsHistoryOf S.Store B.Base self.now }
     {
+        // For what its clause says alone: a store that tells logs.
+        let _flight = self.store.in_flight();
         &self.history
     }
 

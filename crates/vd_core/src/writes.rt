@@ -31,8 +31,10 @@ impl<S: Store, B: Base> Core<S, B> {
     /// exactly where another pass holds the block and one of the two writes, by the lowest such pass; then nothing changes.
     pub fn enter(&mut self, pass: u32) -> Result<(), Busy>
         requires phase { IsAt self.old.passes pass (λ p. (p.phase ≡ Asked) × (p.flush ≡ false)) }
-        ensures busy { IfErr result (λ busy. IsKeptOut self.old.shape (map region_of self.old.passes) (map region_of self.new.passes) pass self.old.passes self.new.passes busy.by) }
-        ensures enters { OnOk result (EntersBlock self.old.shape self.old.table.chunks (map region_of self.old.passes) (map region_of self.new.passes) pass self.old.passes self.new.passes) }
+        ensures busy { IfErr result (λ busy. IsKeptOut self.old.shape (map region_of self.old.passes)
+            (map region_of self.new.passes) pass self.old.passes self.new.passes busy.by) }
+        ensures enters { OnOk result (EntersBlock self.old.shape self.old.table.chunks (map region_of self.old.passes)
+            (map region_of self.new.passes) pass self.old.passes self.new.passes) }
         ensures others { self.new ≡ record self.old { passes = self.new.passes } }
     {
         enter_block(
@@ -81,7 +83,12 @@ impl<S: Store, B: Base> Core<S, B> {
         ensures number { IsAt self.new.passes pass (IsNumbered OfStore (S.last self.old.store) (S.last self.new.store)) }
         ensures running { S.tells self.old.store → IsRunning (S.events self.old.store) (S.disk self.old.store) }
         ensures keeps { KeepsStore S.Store self.old.store self.new.store }
-        ensures others { self.new ≡ record self.old { store = self.new.store; passes = self.new.passes; history = self.new.history; opening = self.new.opening } }
+        ensures others { self.new ≡ record self.old {
+          store = self.new.store;
+          passes = self.new.passes;
+          history = self.new.history;
+          opening = self.new.opening;
+        } }
     {
         issue_piece(
             &mut self.store,
@@ -94,7 +101,8 @@ impl<S: Store, B: Base> Core<S, B> {
         );
     }
 
-    /// Settles the write of a pass. Where it is done its block is fresh, and owed to the next flush unless every image has it; where it failed the pass is ready with a store fault.
+    /// Settles the write of a pass. Where it is done its block is fresh, and owed to the next flush unless every image has it; where
+    /// it failed the pass is ready with a store fault.
     pub fn settle_issue(&mut self, pass: u32) -> Step
         requires phase { IsAt self.old.passes pass (λ p. p.phase ≡ Issuing) }
         ensures settled { (answer : AnySettled) × (result ≡ step_of (outcome_of answer)) × SettlesWrite S.Store answer pass self.old self.new
@@ -102,7 +110,14 @@ impl<S: Store, B: Base> Core<S, B> {
             × IsCaused answer (S.faults self.old.store) (S.faults self.new.store) (S.late self.old.store) (S.late self.new.store)
             × IsAt self.old.passes pass (λ p. self.new.keeping ≡ owed_after answer p.block self.old.keeping) }
         ensures keeps { KeepsStore S.Store self.old.store self.new.store }
-        ensures others { self.new ≡ record self.old { store = self.new.store; fresh = self.new.fresh; keeping = self.new.keeping; passes = self.new.passes; history = self.new.history; opening = self.new.opening } }
+        ensures others { self.new ≡ record self.old {
+          store = self.new.store;
+          fresh = self.new.fresh;
+          keeping = self.new.keeping;
+          passes = self.new.passes;
+          history = self.new.history;
+          opening = self.new.opening;
+        } }
     {
         let outcome = settle_write(
             &mut self.store,

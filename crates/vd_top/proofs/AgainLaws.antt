@@ -5,6 +5,8 @@ use Rattle.std.proofs.lemmas.Bool.{eq-eqb}
 use Rattle.std.proofs.lemmas.Option.{slice_get_within}
 use Rattle.vd_law.specs.declared.entry.Sector.{Sector}
 use Rattle.vd_law.specs.Entries.{Entry, past}
+use Rattle.vd_device.specs.declared.store.Store as store
+use Rattle.vd_device.specs.declared.base.Base as base
 use Rattle.vd_device.specs.Disks.{Disk, IsHonest}
 use Rattle.vd_device.specs.Orders.{IsInOrder}
 use Rattle.vd_format.specs.declared.header.Header.{Header}
@@ -21,6 +23,7 @@ use Rattle.vd_core.specs.Showing.{MayHold, ShowsCould}
 use Rattle.vd_safety.specs.Held.{IsOpenAgain}
 use Rattle.vd_safety.proofs.Clean.{honest-left}
 use Rattle.vd_trace.specs.Traces.{Script, Showing}
+use Rattle.vd_top.specs.Devices.{Devices}
 use Rattle.vd_top.specs.Outcomes.{ShownLine, Reopened}
 use Rattle.vd_top.specs.Showing.{IsJudged}
 use Rattle.vd_top.specs.Reopening.{IsShownBy, Is_read, Store_failed, Base_failed, IsAllowedLine, IsAllowed, Device_failed, Shows_allowed, Reopens, Reopening_failed, Is_refused_again, Opens_again}
@@ -69,23 +72,27 @@ not_refused kept h held refusals.NoMemory opens same judged refused = refused
 
 -- ---- what is shown is allowed
 
-line_allowed : {told base_told closed : Type 0} {held base : List Sector} {SF : ℕ → Type 0} {BF : Type 0} {kept h : Header} {start : List Sector} {entries : List Entry} {line : Showing} (shows : ShownLine) → told → base_told → geometry_of h ≡ geometry_of kept → Opens (length held) (image_of held) h
-    → IsOpenAgain kept base start entries held → (closed → ShowsCould kept base start entries held) → line.first + line.count ≤ h.size → IsShownBy (told × base_told) held base h SF BF line shows → IsAllowedLine start entries closed shows
-line_allowed {held = held} {h = h} {start = start} {entries = entries} {line = line} shows t b geometry opens again could within (Is_read sectors size right) = λ i v at.
-    let same = one_header held again.header h again.opens opens in
-    let inside : line.first + i < h.size = (let k = slice_get_within sectors i v at in omega (arith, k, size, within)) in
+line_allowed : {S B : Type 0} {g : store.Ghosts S} {h : base.Ghosts B} {d d' : Devices S B} {closed : Type 0} {kept header : Header} {start : List Sector} {entries : List Entry} {line : Showing} (shows : ShownLine)
+    → g.tells d'.store → h.tells d'.base → geometry_of header ≡ geometry_of kept → Opens (length (g.disk d'.store).held) (image_of (g.disk d'.store).held) header
+    → IsOpenAgain kept (h.content d'.base) start entries (g.disk d'.store).held → (closed → ShowsCould kept (h.content d'.base) start entries (g.disk d'.store).held)
+    → line.first + line.count ≤ header.size → IsShownBy g h header d d' line shows → IsAllowedLine start entries closed shows
+line_allowed {g = g} {d' = d'} {header = header} {line = line} shows t b geometry opens again could within (Is_read sectors size right) = λ i v at.
+    let same = one_header (g.disk d'.store).held again.header header again.opens opens in
+    let inside : line.first + i < header.size = (let k = slice_get_within sectors i v at in omega (arith, k, size, within)) in
     let there = (right (t, b)).current opens.version i v at in (
       again.allowed_again (line.first + i) v (let e = ap (λ (x : Header). x.size) same in omega (arith, inside, e)) (rw same there),
-      λ closed. (could closed).each h geometry (line.first + i) v inside there,
+      λ closed. (could closed).each header geometry (line.first + i) v inside there,
     )
 line_allowed shows t b geometry opens again could within (Store_failed ticket failed) = tt
 line_allowed shows t b geometry opens again could within (Base_failed ticket failed) = tt
 
-pub allowed_again : {told base_told closed : Type 0} {held base : List Sector} {StoreFault SF : ℕ → Type 0} {BF : Type 0} {kept : Header} {start : List Sector} {entries : List Entry} (trace : Script) (reopened : Reopened) → range_past kept.size trace ≡ None
-    → Reopens kept trace.shows told base_told held base StoreFault SF BF reopened → told → base_told → IsOpenAgain kept base start entries held → (closed → ShowsCould kept base start entries held) → IsAllowed start entries closed reopened
+pub allowed_again : {S B : Type 0} {g : store.Ghosts S} {h : base.Ghosts B} {d d' : Devices S B} {closed : Type 0} {kept : Header} {start : List Sector} {entries : List Entry} (trace : Script) (reopened : Reopened) → range_past kept.size trace ≡ None
+    → Reopens g h kept trace.shows d d' reopened → g.tells d'.store → h.tells d'.base → IsOpenAgain kept (h.content d'.base) start entries (g.disk d'.store).held
+    → (closed → ShowsCould kept (h.content d'.base) start entries (g.disk d'.store).held) → IsAllowed start entries closed reopened
 allowed_again trace reopened inside (Reopening_failed ticket fault) t b again could = Device_failed ticket
-allowed_again {held = held} {kept = kept} trace reopened inside (Is_refused_again e judged refused) t b again could = absurd (not_refused kept again.header held e again.opens again.geometry judged (refused t))
-allowed_again {closed = closed} {kept = kept} {start = start} {entries = entries} trace reopened inside (Opens_again h shown local of geometry opens all are) t b again could = Shows_allowed shown local of each
+allowed_again {g = g} {d' = d'} {kept = kept} trace reopened inside (Is_refused_again e judged refused) t b again could =
+    absurd (not_refused kept again.header (g.disk d'.store).held e again.opens again.geometry judged (refused t))
+allowed_again {closed = closed} {kept = kept} {start = start} {entries = entries} trace reopened inside (Opens_again header shown local of geometry opens all are) t b again could = Shows_allowed shown local of each
   where
     each : (i : ℕ) (line : ShownLine) → slice_get shown i ≡ Some line → IsAllowedLine start entries closed line
     each i line at =

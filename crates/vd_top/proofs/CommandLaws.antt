@@ -1,25 +1,27 @@
 -- What a command answers, and the causes of its status.
-use Rattle.std.proofs.Common.{ℕ, zero, suc, ◌≡◌, ◌⊎◌, min, inl, inr, Bool, true, false, List, Option, Some, None, refl, sym, ◌∙◌, ap, subst, arith}
+use Rattle.std.proofs.Common.{ℕ, zero, suc, ◌≡◌, ◌≤◌, ◌⊎◌, min, inl, inr, Bool, true, false, List, Option, Some, None, refl, sym, ◌∙◌, ap, subst, arith}
 use Rattle.std.specs.Prelude.{◌↔◌, ◌==◌, IsTrue, if◌then◌else◌}
-use Rattle.vd_law.specs.declared.entry.Sector.{Sector}
-use Rattle.vd_device.specs.Disks.{Disk}
-use Rattle.vd_law.specs.Histories.{Numbered}
+use Rattle.vd_device.specs.declared.store.Store as store
+use Rattle.vd_device.specs.declared.base.Base as base
 use Rattle.vd_format.specs.Headers.{IsValid}
 use Rattle.vd_format.specs.declared.header.Header.{Header}
 use Rattle.vd_command.specs.declared.command.Command.{Command}
 use Rattle.vd_command.specs.declared.command.Command.TheVariants.{Show, Make, Run}
 use Rattle.vd_command.specs.Words.{Spells, made}
+use Rattle.vd_io.specs.declared.sink.Sink as sink
+use Rattle.vd_io.specs.declared.source.Source as source
 use Rattle.vd_io.specs.Streams.{Rose}
-use Rattle.vd_reading.specs.Quiet.{IsFault}
 use Rattle.vd_trace.specs.Traces.{Script}
 use Rattle.vd_replay.specs.declared.error.OpenError.{OpenError as Refusal}
 use Rattle.vd_report.specs.declared.line.Line.{Line}
 use Rattle.vd_top.specs.Statuses.{status_of_line}
+use Rattle.vd_top.specs.declared.ending.End.{End}
+use Rattle.vd_top.specs.Devices.{Devices, devices, HaveFailed}
 use Rattle.vd_top.specs.Outcomes.{Outcome}
 use Rattle.vd_top.specs.Showing.{show_line, IsJudged, Without_memory, Store_failed, Base_failed, Image_refused, Past_the_disk, Is_shown}
 use Rattle.vd_top.specs.Making.{AsksFor, IsNoMake, new_header, MakingEnds, Too_few, Lacks_memory, Write_failed, Is_made}
 use Rattle.vd_top.specs.Tasks.{IsMaking}
-use Rattle.vd_top.specs.Commands.{IsNoCommand, Answers, Outside, Shows, Makes}
+use Rattle.vd_top.specs.Commands.{IsNoCommand, Answers, Outside, Shows, Is_made_for}
 use Rattle.vd_top.specs.Running.{AsksRun, IsReadLine, Source_failed, Read_without_memory, Is_bad, Is_too_much, IsOpenLine, Opened_without_memory, Open_failed, Is_refused, Is_past, RunEnds, Is_unread, Is_unopened, Ran_without_memory, Has_run}
 use Rattle.vd_top.specs.Ending.{is_fault, are_ok, reopened_status, run_status, status_of, unwritten, Ends}
 use Rattle.vd_top.proofs.RunCauses.{closing_cause, reopened_cause, reopened_not}
@@ -135,24 +137,23 @@ judged_cause : {words : List (List ℕ)} {Device Source : Type 0} (first count :
 judged_cause first count refusal spells (inl three) = known (is_show first count spells) (differs _ 3 2 three (λ e. cc)) (differs _ 3 6 three (λ e. cc)) (λ e. absurd (differs _ 3 5 three (λ d. cc) e))
 judged_cause first count refusal spells (inr eight) = known (is_show first count spells) (differs _ 8 2 eight (λ e. cc)) (differs _ 8 6 eight (λ e. cc)) (λ e. absurd (differs _ 8 5 eight (λ d. cc) e))
 
-making_cause : {words : List (List ℕ)} {Base_cause Source : Type 0} {sectors base_sectors : ℕ} {last sf sf' : ℕ} (h : Header) (outcome : Outcome) → AsksFor words base_sectors h
-    → MakingEnds h sectors (λ ticket. IsFault ticket last sf sf') outcome → HasCause words (Rose sf sf' ⊎ Base_cause) Source (status_of outcome)
-making_cause h outcome asks (Too_few small) = known (is_make asks) (λ e. cc) (λ e. cc) (λ e. absurd cc)
-making_cause h outcome asks (Lacks_memory room) = known (is_make asks) (λ e. cc) (λ e. cc) (λ e. absurd cc)
-making_cause h outcome asks (Write_failed ticket room fault) = known (is_make asks) (λ e. cc) (λ e. cc) (λ e. inl fault.rose)
-making_cause h outcome asks (Is_made room) = known (is_make asks) (λ e. cc) (λ e. cc) (λ e. absurd cc)
+module _ {S B : Type 0} (g : store.Ghosts S) (h : base.Ghosts B) {words : List (List ℕ)} (d d' : Devices S B) {Source : Type 0} where
+  making_cause : (header : Header) (outcome : Outcome) → AsksFor words (h.sectors d.base) header → MakingEnds g header d.store d'.store outcome → HasCause words (HaveFailed g h d d') Source (status_of outcome)
+  making_cause header outcome asks (Too_few small reads) = known (is_make asks) (λ e. cc) (λ e. cc) (λ e. absurd cc)
+  making_cause header outcome asks (Lacks_memory room reads) = known (is_make asks) (λ e. cc) (λ e. cc) (λ e. absurd cc)
+  making_cause header outcome asks (Write_failed ticket room fault) = known (is_make asks) (λ e. cc) (λ e. cc) (λ e. inl fault.rose)
+  making_cause header outcome asks (Is_made room) = known (is_make asks) (λ e. cc) (λ e. cc) (λ e. absurd cc)
 
--- each outcome has its cause
-pub outcome_cause : {words : List (List ℕ)} {told Source : Type 0} {sectors base_sectors : ℕ} {held base : List Sector} {store base_last sf sf' bf bf' : ℕ} (outcome : Outcome)
-    → Answers words told sectors base_sectors held base (λ ticket. IsFault ticket store sf sf') (λ ticket. IsFault ticket base_last bf bf') outcome → HasCause words (Rose sf sf' ⊎ Rose bf bf') Source (status_of outcome)
-outcome_cause outcome (Outside none) = record { outside = λ two. none; inside = λ no_command. refl; device = λ five. absurd cc; source = λ six. absurd cc }
-outcome_cause outcome (Shows first count o spells Without_memory) = known (is_show first count spells) (λ e. cc) (λ e. cc) (λ e. absurd cc)
-outcome_cause outcome (Shows first count o spells (Store_failed ticket fault)) = known (is_show first count spells) (λ e. cc) (λ e. cc) (λ e. inl fault.rose)
-outcome_cause outcome (Shows first count o spells (Base_failed ticket fault)) = known (is_show first count spells) (λ e. cc) (λ e. cc) (λ e. inr fault.rose)
-outcome_cause outcome (Shows first count o spells (Image_refused refusal judged right)) = judged_cause first count refusal spells judged
-outcome_cause outcome (Shows first count o spells (Past_the_disk past)) = known (is_show first count spells) (λ e. cc) (λ e. cc) (λ e. absurd cc)
-outcome_cause outcome (Shows first count o spells (Is_shown sectors size right)) = known (is_show first count spells) (λ e. cc) (λ e. cc) (λ e. absurd cc)
-outcome_cause outcome (Makes h o asks ends) = making_cause h o asks ends
+  -- each outcome has its cause
+  pub outcome_cause : (outcome : Outcome) → Answers g h words d d' outcome → HasCause words (HaveFailed g h d d') Source (status_of outcome)
+  outcome_cause outcome (Outside none) = record { outside = λ two. none; inside = λ no_command. refl; device = λ five. absurd cc; source = λ six. absurd cc }
+  outcome_cause outcome (Shows first count o spells Without_memory) = known (is_show first count spells) (λ e. cc) (λ e. cc) (λ e. absurd cc)
+  outcome_cause outcome (Shows first count o spells (Store_failed ticket fault)) = known (is_show first count spells) (λ e. cc) (λ e. cc) (λ e. inl fault.rose)
+  outcome_cause outcome (Shows first count o spells (Base_failed ticket fault)) = known (is_show first count spells) (λ e. cc) (λ e. cc) (λ e. inr fault.rose)
+  outcome_cause outcome (Shows first count o spells (Image_refused refusal judged right)) = judged_cause first count refusal spells judged
+  outcome_cause outcome (Shows first count o spells (Past_the_disk past)) = known (is_show first count spells) (λ e. cc) (λ e. cc) (λ e. absurd cc)
+  outcome_cause outcome (Shows first count o spells (Is_shown sectors size right)) = known (is_show first count spells) (λ e. cc) (λ e. cc) (λ e. absurd cc)
+  outcome_cause outcome (Is_made_for header o asks ends) = making_cause header o asks ends
 
 -- The words are a run's, and the status isn't 2.
 of_run : {words : List (List ℕ)} {Device Source : Type 0} {status : ℕ} → AsksRun words → (status ≡ 2 → ⊥) → (status ≡ 5 → Device) → (status ≡ 6 → Source) → HasCause words Device Source status
@@ -163,19 +164,19 @@ of_run run not_two device source = record {
   source = source;
 }
 
-read_cause : {words : List (List ℕ)} {told : Type 0} {bytes : List ℕ} {Device Source : Type 0} {line : Line} → AsksRun words → IsReadLine told bytes Source line → HasCause words Device Source (status_of_line line)
+read_cause : {I : Type 0} {i : source.Ghosts I} {source source' : I} {words : List (List ℕ)} {Device : Type 0} {line : Line} → AsksRun words → IsReadLine i source source' line → HasCause words Device (Rose (i.faults source) (i.faults source')) (status_of_line line)
 read_cause run (Source_failed failed) = of_run run (λ e. cc) (λ e. absurd cc) (λ e. failed)
 read_cause run Read_without_memory = of_run run (λ e. cc) (λ e. absurd cc) (λ e. absurd cc)
 read_cause run (Is_bad number bad) = of_run run (λ e. cc) (λ e. absurd cc) (λ e. absurd cc)
 read_cause run (Is_too_much number much) = of_run run (λ e. cc) (λ e. absurd cc) (λ e. absurd cc)
 
-open_cause : {words : List (List ℕ)} {trace : Script} {told : Type 0} {held : List Sector} {last sf sf' : ℕ} {Base_cause Source : Type 0} {line : Line} → AsksRun words → IsOpenLine trace told held (λ ticket. IsFault ticket last sf sf') line
-    → HasCause words (Rose sf sf' ⊎ Base_cause) Source (status_of_line line)
+open_cause : {S : Type 0} {g : store.Ghosts S} {s s' : S} {words : List (List ℕ)} {trace : Script} {Base_cause Source : Type 0} {line : Line} → AsksRun words → IsOpenLine g trace s s' line
+    → HasCause words (Rose (g.faults s) (g.faults s') ⊎ Base_cause) Source (status_of_line line)
 open_cause run Opened_without_memory = of_run run (λ e. cc) (λ e. absurd cc) (λ e. absurd cc)
 open_cause run (Open_failed ticket fault) = of_run run (λ e. cc) (λ e. inl fault.rose) (λ e. absurd cc)
 open_cause run (Is_refused e (inl three) right) = of_run run (differs _ 3 2 three (λ d. cc)) (λ f. absurd (differs _ 3 5 three (λ d. cc) f)) (λ f. absurd (differs _ 3 6 three (λ d. cc) f))
 open_cause run (Is_refused e (inr eight) right) = of_run run (differs _ 8 2 eight (λ d. cc)) (λ f. absurd (differs _ 8 5 eight (λ d. cc) f)) (λ f. absurd (differs _ 8 6 eight (λ d. cc) f))
-open_cause run (Is_past h number right past) = of_run run (λ e. cc) (λ e. absurd cc) (λ e. absurd cc)
+open_cause run (Is_past header number right past) = of_run run (λ e. cc) (λ e. absurd cc) (λ e. absurd cc)
 
 report_cause : {words : List (List ℕ)} {Device Source : Type 0} (closing_failed : Bool) (reopened : ℕ) (ok : Bool) → AsksRun words → (closing_failed ≡ true → Device) → (reopened ≡ 5 → Device) → (reopened ≡ 2 → ⊥) → (reopened ≡ 6 → ⊥)
     → HasCause words Device Source (run_status closing_failed reopened ok)
@@ -187,15 +188,23 @@ report_cause {words = words} {Device = Device} {Source = Source} false reopened 
     by true false = of_run run (λ e. cc) (λ e. absurd cc) (λ e. absurd cc)
     by false ok = of_run run two five (λ e. absurd (six e))
 
--- each outcome of a run has its cause
-pub run_cause : {words : List (List ℕ)} {source_told : Type 0} {bytes : List ℕ} {Source told base_told : Type 0} {disk disk' : Disk} {base : List Sector} {base_sectors last sf sf' bf bf' : ℕ} {history : Option Numbered} (outcome : Outcome) → AsksRun words
-    → RunEnds source_told bytes Source told base_told disk disk' base base_sectors (λ ticket. IsFault ticket last sf sf') sf sf' bf bf' history outcome → HasCause words (Rose sf sf' ⊎ Rose bf bf') Source (status_of outcome)
-run_cause outcome run (Is_unread line unread) = read_cause run unread
-run_cause outcome run (Is_unopened trace line read unopened) = open_cause run unopened
-run_cause outcome run Ran_without_memory = of_run run (λ e. cc) (λ e. absurd cc) (λ e. absurd cc)
-run_cause outcome run (Has_run trace h history closing reopened log read opens is behind again allowed) =
-    report_cause (is_fault closing) (reopened_status reopened) (are_ok history.log.entries) run (λ failed. closing_cause is.answer is.closed is.store_caused is.base_caused (ap is_fault (sym is.closing_is) ∙ failed)) (reopened_cause reopened (λ ticket fault. fault.0.rose) (λ ticket fault. fault.0) again)
-    (reopened_not reopened 2 (λ e. cc) (λ e. cc) (λ e. cc)) (reopened_not reopened 6 (λ e. cc) (λ e. cc) (λ e. cc))
+-- a device that failed since later has failed since earlier
+failed_earlier : (sf sf' sf'' bf bf' bf'' : ℕ) → sf ≤ sf' → bf ≤ bf' → Rose sf' sf'' ⊎ Rose bf' bf'' → Rose sf sf'' ⊎ Rose bf bf''
+failed_earlier sf sf' sf'' bf bf' bf'' store base (inl rose) = inl (omega arith)
+failed_earlier sf sf' sf'' bf bf' bf'' store base (inr rose) = inr (omega arith)
+
+module _ {S B I : Type 0} {g : store.Ghosts S} {h : base.Ghosts B} {i : source.Ghosts I} {words : List (List ℕ)} {d : Devices S B} {end : End S B} {source source' : I} where
+  -- each outcome of a run has its cause
+  pub run_cause : (outcome : Outcome) → AsksRun words → RunEnds g h i d end source source' outcome → HasCause words (HaveFailed g h d (devices end.store end.base)) (Rose (i.faults source) (i.faults source')) (status_of outcome)
+  run_cause outcome run (Is_unread line none unread) = read_cause run unread
+  run_cause outcome run (Is_unopened trace line none read unopened) = open_cause run unopened
+  run_cause outcome run (Ran_without_memory none) = of_run run (λ e. cc) (λ e. absurd cc) (λ e. absurd cc)
+  run_cause outcome run (Has_run trace kept history closing reopened closed handed read opens is leaves behind again allowed) =
+      report_cause (is_fault closing) (reopened_status reopened) (are_ok history.log.entries) run
+      (λ failed. closing_cause is.answer is.closed is.store_caused is.base_caused (ap is_fault (sym is.closing_is) ∙ failed))
+      (λ five. failed_earlier (g.faults d.store) (g.faults closed.store) (g.faults end.store) (h.faults d.base) (h.faults closed.base) (h.faults end.base)
+      leaves.store.counts.faults leaves.base.keeps.counts.faults (reopened_cause reopened again five))
+      (reopened_not reopened 2 (λ e. cc) (λ e. cc) (λ e. cc)) (reopened_not reopened 6 (λ e. cc) (λ e. cc) (λ e. cc))
 
 cause_unwritten : {words : List (List ℕ)} {Device Source : Type 0} (status : ℕ) → HasCause words Device Source status → (unwritten status ≡ 2 → IsNoCommand words) × (IsNoCommand words → unwritten status ≡ 2) × (unwritten status ≡ 5 → Device)
 cause_unwritten zero cause = ((λ e. absurd cc), (λ none. absurd (let e = cause.inside none in cc)), (λ e. absurd cc))
@@ -208,15 +217,17 @@ pub record IsCaused (words : List (List ℕ)) (Device Source Sink_failed : Type 
   pub device : status ≡ 5 → Device
   pub streams : status ≡ 6 → Source ⊎ Sink_failed
 
-pub ends_caused : (faults : ℕ) (written : List ℕ) {words : List (List ℕ)} {Device Source : Type 0} {status faults' : ℕ} {tells : Type 0} {written' : List ℕ} (outcome : Outcome) → HasCause words Device Source (status_of outcome)
-    → Ends outcome status faults faults' tells written written' → IsCaused words Device Source (Rose faults faults') status
-ends_caused faults written outcome cause (inl whole) = record {
-  outside = ((λ two. cause.outside (sym whole.0 ∙ two)), (λ none. whole.0 ∙ cause.inside none));
-  device = λ five. cause.device (sym whole.0 ∙ five);
-  streams = λ six. inl (cause.source (sym whole.0 ∙ six));
-}
-ends_caused faults written outcome cause (inr cut) = let u = cause_unwritten (status_of outcome) cause in record {
-  outside = ((λ two. u.0 (sym cut.0 ∙ two)), (λ none. cut.0 ∙ u.1 none));
-  device = λ five. u.2 (sym cut.0 ∙ five);
-  streams = λ six. inr cut.1;
-}
+pub ends_caused : {O : Type 0} {o : sink.Ghosts O} {out out' : O} {words : List (List ℕ)} {Device Source : Type 0} {status : ℕ} (outcome : Outcome) → HasCause words Device Source (status_of outcome) → Ends o outcome status out out'
+    → IsCaused words Device Source (Rose (o.faults out) (o.faults out')) status
+ends_caused outcome cause ends = elim ends.printed [
+  | inl whole ↦ record {
+      outside = ((λ two. cause.outside (sym whole.0 ∙ two)), (λ none. whole.0 ∙ cause.inside none));
+      device = λ five. cause.device (sym whole.0 ∙ five);
+      streams = λ six. inl (cause.source (sym whole.0 ∙ six));
+    }
+  | inr cut ↦ (let u = cause_unwritten (status_of outcome) cause in record {
+      outside = ((λ two. u.0 (sym cut.0 ∙ two)), (λ none. cut.0 ∙ u.1 none));
+      device = λ five. u.2 (sym cut.0 ∙ five);
+      streams = λ six. inr cut.1;
+    })
+]

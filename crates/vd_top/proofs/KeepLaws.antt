@@ -8,7 +8,7 @@ use Rattle.vd_law.specs.declared.entry.Answer.TheVariants as answers
 use Rattle.vd_law.specs.Entries.{Flush, Entry, Ask, Reply, Past, ◌▸◌, past}
 use Rattle.vd_device.specs.Disks.{Disk}
 use Rattle.vd_device.specs.Now.{call_number, flush_entries}
-use Rattle.vd_top.specs.Putting.{IsPut, IsNoSuccess, Puts, MayHave, IsLaid, Lays, Syncs, KeptBy, Keeps}
+use Rattle.vd_top.specs.Putting.{IsPut, IsNoSuccess, Puts, MayHave, IsLaid, Lays, Syncs, KeptBy, Fills}
 use Rattle.vd_top.proofs.VersionLaws.{Since, Left, left_flushed}
 use Rattle.vd_top.proofs.PutLaws.{two_events, join, puts_twice}
 
@@ -27,7 +27,7 @@ puts_sync v from to number result old new s = record {
 }
 
 -- the range was not written whole
-pub keeps_none : (v : Sector) (from to number : ℕ) (old new : Disk) → Lays v from to old new → Keeps (Err number) v from to old new
+pub keeps_none : (v : Sector) (from to number : ℕ) (old new : Disk) → Lays v from to old new → Fills (Err number) v from to old new
 keeps_none v from to number old new lays = record { more = lays.more; puts = lays.puts; kept = lays.quiet }
 
 -- a flush that succeeds makes what was written all that a crash may leave
@@ -51,7 +51,7 @@ kept_by v from to number (Ok done) old mid new first quiet laid sync = record {
 kept_by v from to number (Err failed) old mid new first quiet laid sync = join IsNoSuccess first (flush_entries number (Err failed)) quiet (tt, (tt, tt))
 
 -- the range was written, and a flush was tried
-pub keeps_one : (v : Sector) (from to number : ℕ) (result : Result ⊤ ℕ) (old mid new : Disk) → Lays v from to old mid → IsLaid v from to mid → Syncs (flush_entries number result) mid new → Keeps result v from to old new
+pub keeps_one : (v : Sector) (from to number : ℕ) (result : Result ⊤ ℕ) (old mid new : Disk) → Lays v from to old mid → IsLaid v from to mid → Syncs (flush_entries number result) mid new → Fills result v from to old new
 keeps_one v from to number result old mid new lays laid sync = record {
   more = lays.more ++ flush_entries number result;
   puts = puts_twice v from to lays.more (flush_entries number result) old mid new lays.puts (puts_sync v from to number result mid new sync);

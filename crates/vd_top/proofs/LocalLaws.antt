@@ -5,6 +5,7 @@ use Rattle.std.specs.Int.{div_ceil}
 use Rattle.std.proofs.lemmas.List.{length-take}
 use Rattle.std.proofs.lemmas.List.Sums.{count_by_more_yes, count_by_more_no, count_by-le-length}
 use Rattle.std.proofs.lemmas.Option.{slice_get_within, get_or_from_slice_get}
+use Rattle.vd_device.specs.declared.store.Store as store
 use Rattle.vd_bits.specs.Marks.{count_true}
 use Rattle.vd_format.specs.Layouts.{blocks_of}
 use Rattle.vd_law.specs.declared.entry.Sector.{Sector}
@@ -60,15 +61,15 @@ mask_local held s b state whole within bit at = (there, back)
         (state.fresh b bit at).1 (said.entry, said.stands, has)
 
 -- the numbers of local blocks that a state tells
-pub counts_local : (told : Type 0) (held : List Sector) (s : State) (local of : ℕ) → IsWhole s → (told → IsState (length held) (image_of held) s.header s) → of ≡ div_ceil s.header.tracked s.header.block → of ≤ blocks_of s.header
-    → local ≡ count_true (take of s.fresh.bits) → AreLocal told held s.header local of
-counts_local told held s local of whole says of_is inside local_is = record {
+pub counts_local : {S : Type 0} {g : store.Ghosts S} {store : S} (s : State) (local of : ℕ) → IsWhole s → (g.tells store → IsState (length (g.disk store).held) (image_of (g.disk store).held) s.header s)
+    → of ≡ div_ceil s.header.tracked s.header.block → of ≤ blocks_of s.header → local ≡ count_true (take of s.fresh.bits) → AreLocal g s.header store local of
+counts_local {g = g} {store} s local of whole says of_is inside local_is = record {
   of_is = of_is;
   are = take of s.fresh.bits;
   many = length-take of s.fresh.bits ∙ (let k = whole.sized.fresh in omega arith);
   local_is = local_is;
   each = λ t b is at. (
       let less : b < of = (let k = slice_get_within (take of s.fresh.bits) b is at in let n = length-take of s.fresh.bits in omega arith) in
-      mask_local held s b (says t) whole (omega (arith, less)) is (sym (get_take of s.fresh.bits b less) ∙ at)
+      mask_local (g.disk store).held s b (says t) whole (omega (arith, less)) is (sym (get_take of s.fresh.bits b less) ∙ at)
       );
 }

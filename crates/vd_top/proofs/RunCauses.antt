@@ -10,13 +10,16 @@ use Rattle.vd_law.specs.declared.entry.Answer.{Answer}
 use Rattle.vd_law.specs.declared.entry.Answer.TheVariants as answers
 use Rattle.vd_law.specs.Entries.{Flush, Entry, Ask, Reply}
 use Rattle.vd_format.specs.declared.header.Header.{Header}
-use Rattle.vd_io.specs.Streams.{Rose}
+use Rattle.vd_device.specs.declared.store.Store as store
+use Rattle.vd_device.specs.declared.base.Base as base
+use Rattle.vd_device.specs.Calls.{Rose}
 use Rattle.vd_replay.proofs.ListLaws.{get_some}
 use Rattle.vd_passes.specs.Causes.{Device, OfStore, OfBase, named_by, named, faults_named, AreCaused}
 use Rattle.vd_serve.specs.Serving.{Closes}
 use Rattle.vd_trace.specs.Traces.{Showing}
 use Rattle.vd_report.specs.declared.line.Line.{Line}
 use Rattle.vd_top.specs.Statuses.{status_of_line}
+use Rattle.vd_top.specs.Devices.{Devices}
 use Rattle.vd_top.specs.Outcomes.{ShownLine, Reopened, Refused, Opened}
 use Rattle.vd_top.specs.Ending.{is_fault, has_failed, reopened_status}
 use Rattle.vd_top.specs.Showing.{show_line}
@@ -53,10 +56,11 @@ closing_cause (answers.NoRoom events sectors) closes store base fault = absurd c
 closing_cause (answers.Worn generation) closes store base fault = absurd cc
 
 -- so has a line that shows sectors
-shown_cause : {told : Type 0} {held base : List Sector} {h : Header} {SF : ℕ → Type 0} {Rise BF : Type 0} {line : Showing} (shows : ShownLine) → ((ticket : ℕ) → SF ticket → Rise) → IsShownBy told held base h SF BF line shows → has_failed shows ≡ true → Rise ⊎ BF
-shown_cause shows rises (Is_read sectors size right) failed = absurd cc
-shown_cause shows rises (Store_failed ticket fault) failed = inl (rises ticket fault)
-shown_cause shows rises (Base_failed ticket fault) failed = inr fault
+shown_cause : {S B : Type 0} {g : store.Ghosts S} {h : base.Ghosts B} {header : Header} {d d' : Devices S B} {line : Showing} (shows : ShownLine) → IsShownBy g h header d d' line shows → has_failed shows ≡ true
+    → Rose (g.faults d.store) (g.faults d'.store) ⊎ Rose (h.faults d.base) (h.faults d'.base)
+shown_cause shows (Is_read sectors size right) failed = absurd cc
+shown_cause shows (Store_failed ticket fault) failed = inl fault.rose
+shown_cause shows (Base_failed ticket rose) failed = inr rose
 
 abbrev Failing : List ShownLine → Type 0
 Failing shown = (i : ℕ) × ((shows : ShownLine) × (slice_get shown i ≡ Some shows) × (has_failed shows ≡ true))
@@ -69,12 +73,12 @@ first_failed : (shown : List ShownLine) → list_any has_failed shown ≡ true �
 first_failed [] any = absurd cc
 first_failed (s ∷ shown) any = failing_by s shown (has_failed s) refl any (first_failed shown)
 
-shows_cause : {told : Type 0} {held base : List Sector} {h : Header} {SF : ℕ → Type 0} {Rise BF : Type 0} (trace_lines : List Showing) (shown : List ShownLine) → ((ticket : ℕ) → SF ticket → Rise) → AreShownBy told held base h SF BF trace_lines shown
-    → list_any has_failed shown ≡ true → Rise ⊎ BF
-shows_cause trace_lines shown rises all any =
+shows_cause : {S B : Type 0} {g : store.Ghosts S} {h : base.Ghosts B} {header : Header} {d d' : Devices S B} (trace_lines : List Showing) (shown : List ShownLine) → AreShownBy g h header d d' trace_lines shown
+    → list_any has_failed shown ≡ true → Rose (g.faults d.store) (g.faults d'.store) ⊎ Rose (h.faults d.base) (h.faults d'.base)
+shows_cause trace_lines shown all any =
     let failed = first_failed shown any in
     let line = get_some trace_lines failed.0 (let k = slice_get_within shown failed.0 failed.1.0 failed.1.1 in let m = all.many in omega arith) in
-    shown_cause failed.1.0 rises (all.each failed.0 line.0 failed.1.0 line.1 failed.1.1) failed.1.2
+    shown_cause failed.1.0 (all.each failed.0 line.0 failed.1.0 line.1 failed.1.1) failed.1.2
 
 if_five : (b : Bool) (other : ℕ) → (other ≡ 5 → ⊥) → (if b then 5 else other) ≡ 5 → b ≡ true
 if_five true other not_five is = refl
@@ -88,11 +92,11 @@ no_fault : (line : Line) → (status_of_line line ≡ 3) ⊎ (status_of_line lin
 no_fault line (inl three) fault = let n = eqb-true (status_of_line line) 5 fault in omega (arith, n, three)
 no_fault line (inr eight) fault = let n = eqb-true (status_of_line line) 5 fault in omega (arith, n, eight)
 
-pub reopened_cause : {kept : Header} {shows : List Showing} {told base_told : Type 0} {held base : List Sector} {StoreFault SF : ℕ → Type 0} {Rise BF : Type 0} (reopened : Reopened) → ((ticket : ℕ) → StoreFault ticket → Rise) → ((ticket : ℕ) → SF ticket → Rise)
-    → Reopens kept shows told base_told held base StoreFault SF BF reopened → reopened_status reopened ≡ 5 → Rise ⊎ BF
-reopened_cause reopened fails rises (Reopening_failed ticket fault) five = inl (fails ticket fault)
-reopened_cause reopened fails rises (Is_refused_again e judged right) five = absurd (no_fault (show_line e) judged (if_five (is_fault (show_line e)) 3 (λ e. cc) five))
-reopened_cause {shows = shows} reopened fails rises (Opens_again h shown local of same opens all are) five = shows_cause shows shown rises all (if_five (list_any has_failed shown) 0 (λ e. cc) five)
+pub reopened_cause : {S B : Type 0} {g : store.Ghosts S} {h : base.Ghosts B} {kept : Header} {shows : List Showing} {d d' : Devices S B} (reopened : Reopened) → Reopens g h kept shows d d' reopened → reopened_status reopened ≡ 5
+    → Rose (g.faults d.store) (g.faults d'.store) ⊎ Rose (h.faults d.base) (h.faults d'.base)
+reopened_cause reopened (Reopening_failed ticket fault) five = inl fault.rose
+reopened_cause reopened (Is_refused_again e judged right) five = absurd (no_fault (show_line e) judged (if_five (is_fault (show_line e)) 3 (λ e. cc) five))
+reopened_cause {shows = shows} reopened (Opens_again header shown local of same opens all are) five = shows_cause shows shown all (if_five (list_any has_failed shown) 0 (λ e. cc) five)
 
 pub reopened_not : (reopened : Reopened) (n : ℕ) → (5 ≡ n → ⊥) → (3 ≡ n → ⊥) → (0 ≡ n → ⊥) → reopened_status reopened ≡ n → ⊥
 reopened_not (Refused line) n five three zero_not is = if_not (is_fault line) 3 n five three is

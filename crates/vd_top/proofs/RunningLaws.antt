@@ -15,6 +15,10 @@ use Rattle.vd_law.specs.Entries as law
 use Rattle.vd_law.specs.Entries.{Asked, Entry, Ask, Issue, Done, Broke, Seen, Reply, Past, nothing, ◌▸◌, past}
 use Rattle.vd_law.specs.Calls.{Progress, progress}
 use Rattle.vd_law.specs.Rules.{Each, IsAnswerTo, ReplyFits, IsAnswered, IsRegular, is_ok}
+use Rattle.vd_device.specs.declared.store.Store as store
+use Rattle.vd_io.specs.declared.source.Source as source
+use Rattle.vd_io.specs.Streams.{Rose}
+use Rattle.vd_reading.specs.Quiet.{OnlyReads, AddsFlush, IsStoreFault}
 use Rattle.vd_format.specs.declared.header.Header.{Header}
 use Rattle.vd_format.specs.declared.header.HeaderError.TheVariants as header_errors
 use Rattle.vd_format.specs.Headers.{IsValid}
@@ -30,51 +34,29 @@ use Rattle.vd_report.specs.declared.line.Line.{Line}
 use Rattle.vd_report.specs.declared.line.Line.TheVariants as lines
 use Rattle.vd_image.specs.Openings.{Opens}
 use Rattle.vd_replay.specs.Images.{image_of}
-use Rattle.vd_replay.specs.States.{Says as StateSays}
+use Rattle.vd_replay.specs.States.{IsOpened, Says as StateSays}
 use Rattle.vd_replay.specs.Finding.{ForStore}
 use Rattle.vd_replay.specs.Refusals.{Refused}
 use Rattle.vd_replay.specs.declared.state.State.{State}
 use Rattle.vd_replay.specs.declared.error.OpenError.{OpenError}
 use Rattle.vd_replay.specs.declared.error.OpenError.TheVariants as refusals
-use Rattle.vd_top.specs.Showing.{show_line}
+use Rattle.vd_top.specs.Showing.{show_line, IsJudged}
 use Rattle.vd_top.specs.Ending.{are_ok, is_ok_reply}
-use Rattle.vd_top.specs.Running.{trace_line, past as past_of, ReadsScript, IsReadLine, Source_failed, Read_without_memory, Is_bad, Is_too_much, OpensFor, IsOpenLine, Opened_without_memory, Open_failed, Is_refused, Is_past}
+use Rattle.vd_top.specs.Running.{trace_line, past as past_of, ReadsScript, IsReadLine, Source_failed, Read_without_memory, Is_bad, Is_too_much, OpensFor, IsOpen, IsOpenLine, Opened_without_memory, Open_failed, Is_refused, Is_past}
 
 -- The trace.
 
-unread_by : {told : Type 0} {bytes : List ℕ} {SourceFailed : Type 0} (e : TraceError) → (told → ReadsTrace 1 bytes (Err e)) → (e ≡ trace_errors.Source → SourceFailed) → IsReadLine told bytes SourceFailed (trace_line e)
-unread_by (trace_errors.Bad number) reads cause = Is_bad number reads
-unread_by (trace_errors.TooMuch number) reads cause = Is_too_much number reads
-unread_by trace_errors.Source reads cause = Source_failed (cause refl)
-unread_by trace_errors.NoMemory reads cause = Read_without_memory
+module _ {I : Type 0} {i : source.Ghosts I} {source source' : I} where
+  unread_by : (e : TraceError) → (i.tells source' → ReadsTrace 1 (i.rest source) (Err e)) → (e ≡ trace_errors.Source → Rose (i.faults source) (i.faults source')) → IsReadLine i source source' (trace_line e)
+  unread_by (trace_errors.Bad number) reads cause = Is_bad number reads
+  unread_by (trace_errors.TooMuch number) reads cause = Is_too_much number reads
+  unread_by trace_errors.Source reads cause = Source_failed (cause refl)
+  unread_by trace_errors.NoMemory reads cause = Read_without_memory
 
-pub unread : {told : Type 0} {bytes : List ℕ} {SourceFailed : Type 0} (e : TraceError) (line : Line) → line ≡ trace_line e → (told → ReadsTrace 1 bytes (Err e)) → (e ≡ trace_errors.Source → SourceFailed)
-    → IsReadLine told bytes SourceFailed line
-unread {told = told} {bytes = bytes} {SourceFailed = SourceFailed} e line is reads cause = subst (λ (l : Line). IsReadLine told bytes SourceFailed l) (sym is) (unread_by e reads cause)
-
-pub reads_script : {told : Type 0} {bytes : List ℕ} (trace : Script) → trace.guests ≡ 1 → (told → ReadsTrace 1 bytes (Ok trace)) → ReadsScript told bytes trace
-reads_script trace one reads = record { guests = one; read = reads }
+  pub unread : (e : TraceError) (line : Line) → line ≡ trace_line e → (i.tells source' → ReadsTrace 1 (i.rest source) (Err e)) → (e ≡ trace_errors.Source → Rose (i.faults source) (i.faults source')) → IsReadLine i source source' line
+  unread e line is reads cause = subst (λ (l : Line). IsReadLine i source source' l) (sym is) (unread_by e reads cause)
 
 -- The image.
-
-not_opened_by : {told : Type 0} {held held' : List Sector} {StoreFault : ℕ → Type 0} (trace : Script) (e : OpenError) → (told → held' ≡ held) → ForStore StoreFault e → (told → Refused 2 held' e) → IsOpenLine trace told held StoreFault (show_line e)
-not_opened_by trace (refusals.Store ticket) same fault right = Open_failed ticket fault
-not_opened_by trace refusals.NoMemory same fault right = Opened_without_memory
-not_opened_by trace (refusals.Header header_errors.NotImage) same fault right = Is_refused (refusals.Header header_errors.NotImage) (inl refl) (λ t. subst (λ (x : List Sector). Refused 2 x (refusals.Header header_errors.NotImage)) (same t) (right t))
-not_opened_by trace (refusals.Header (header_errors.Version version)) same fault right = Is_refused (refusals.Header (header_errors.Version version)) (inl refl) (λ t. subst (λ (x : List Sector). Refused 2 x (refusals.Header (header_errors.Version version))) (same t) (right t))
-not_opened_by trace (refusals.Header (header_errors.Field field)) same fault right = Is_refused (refusals.Header (header_errors.Field field)) (inl refl) (λ t. subst (λ (x : List Sector). Refused 2 x (refusals.Header (header_errors.Field field))) (same t) (right t))
-not_opened_by trace (refusals.TooSmall need have) same fault right = Is_refused (refusals.TooSmall need have) (inl refl) (λ t. subst (λ (x : List Sector). Refused 2 x (refusals.TooSmall need have)) (same t) (right t))
-not_opened_by trace refusals.OldVersion same fault right = Is_refused refusals.OldVersion (inl refl) (λ t. subst (λ (x : List Sector). Refused 2 x refusals.OldVersion) (same t) (right t))
-not_opened_by trace (refusals.BadEntry chunk value) same fault right = Is_refused (refusals.BadEntry chunk value) (inl refl) (λ t. subst (λ (x : List Sector). Refused 2 x (refusals.BadEntry chunk value)) (same t) (right t))
-not_opened_by trace (refusals.BadRecord slot) same fault right = Is_refused (refusals.BadRecord slot) (inl refl) (λ t. subst (λ (x : List Sector). Refused 2 x (refusals.BadRecord slot)) (same t) (right t))
-not_opened_by trace (refusals.DoubleChunk a b) same fault right = Is_refused (refusals.DoubleChunk a b) (inl refl) (λ t. subst (λ (x : List Sector). Refused 2 x (refusals.DoubleChunk a b)) (same t) (right t))
-not_opened_by trace (refusals.Changed field) same fault right = Is_refused (refusals.Changed field) (inl refl) (λ t. subst (λ (x : List Sector). Refused 2 x (refusals.Changed field)) (same t) (right t))
-not_opened_by trace refusals.NotBuilt same fault right = Is_refused refusals.NotBuilt (inr refl) (λ t. subst (λ (x : List Sector). Refused 2 x refusals.NotBuilt) (same t) (right t))
-
-pub not_opened_for : {told : Type 0} {held held' : List Sector} {StoreFault : ℕ → Type 0} (trace : Script) (e : OpenError) (line : Line) → line ≡ show_line e → (told → held' ≡ held) → ForStore StoreFault e → (told → Refused 2 held' e)
-    → IsOpenLine trace told held StoreFault line
-not_opened_for {told = told} {held = held} {StoreFault = StoreFault} trace e line is same fault right =
-    subst (λ (l : Line). IsOpenLine trace told held StoreFault l) (sym is) (not_opened_by trace e same fault right)
 
 -- a valid header is of version 2 where it is of no earlier one
 pub version_two : (h : Header) → IsValid h → 2 ≤ h.version → h.version ≡ 2
@@ -84,26 +66,53 @@ version_two h valid least = elim valid.version [ inl one ↦ omega arith | inr t
 opens_by : (held held' : List Sector) (s : State) → s.header.version ≡ 2 → held' ≡ held → StateSays held' s → Opens (length held) (image_of held) s.header
 opens_by held held' s two same says = subst (λ (x : List Sector). Opens (length x) (image_of x) s.header) same (says.current two).opens
 
-pub line_past : {told : Type 0} {held held' : List Sector} {StoreFault : ℕ → Type 0} (trace : Script) (s : State) (number : ℕ) → IsValid s.header → 2 ≤ s.header.version → (told → held' ≡ held) → (told → StateSays held' s) → Some number ≡ past_of s.header.size trace
-    → IsOpenLine trace told held StoreFault (lines.LinePastTheDisk number)
-line_past {held = held} {held' = held'} trace s number valid least same says at = Is_past s.header number (λ t. opens_by held held' s (version_two s.header valid least) (same t) (says t)) (sym at)
+module _ {S : Type 0} {g : store.Ghosts S} {s s' : S} (trace : Script) where
+  refused : (e : OpenError) → IsJudged e → OnlyReads g s s' → (g.tells s' → Refused 2 (g.disk s').held e) → IsOpenLine g trace s s' (show_line e)
+  refused e judged reads right = Is_refused e judged (λ t. subst (λ (x : List Sector). Refused 2 x e) (reads.held t) (right t))
 
-pub opens_for : {told : Type 0} {held held' : List Sector} (trace : Script) (s : State) → IsValid s.header → 2 ≤ s.header.version → (told → held' ≡ held) → (told → StateSays held' s) → None ≡ past_of s.header.size trace → OpensFor trace told held s.header
-opens_for {held = held} {held' = held'} trace s valid least same says at = record {
-  valid = valid;
-  version = version_two s.header valid least;
-  inside = sym at;
-  opens = λ t. opens_by held held' s (version_two s.header valid least) (same t) (says t);
-}
+  not_opened_by : (e : OpenError) → OnlyReads g s s' → ForStore (IsStoreFault g s s') e → (g.tells s' → Refused 2 (g.disk s').held e) → IsOpenLine g trace s s' (show_line e)
+  not_opened_by (refusals.Store ticket) reads fault right = Open_failed ticket fault
+  not_opened_by refusals.NoMemory reads fault right = Opened_without_memory
+  not_opened_by (refusals.Header header_errors.NotImage) reads fault right = refused (refusals.Header header_errors.NotImage) (inl refl) reads right
+  not_opened_by (refusals.Header (header_errors.Version version)) reads fault right = refused (refusals.Header (header_errors.Version version)) (inl refl) reads right
+  not_opened_by (refusals.Header (header_errors.Field field)) reads fault right = refused (refusals.Header (header_errors.Field field)) (inl refl) reads right
+  not_opened_by (refusals.TooSmall need have) reads fault right = refused (refusals.TooSmall need have) (inl refl) reads right
+  not_opened_by refusals.OldVersion reads fault right = refused refusals.OldVersion (inl refl) reads right
+  not_opened_by (refusals.BadEntry chunk value) reads fault right = refused (refusals.BadEntry chunk value) (inl refl) reads right
+  not_opened_by (refusals.BadRecord slot) reads fault right = refused (refusals.BadRecord slot) (inl refl) reads right
+  not_opened_by (refusals.DoubleChunk a b) reads fault right = refused (refusals.DoubleChunk a b) (inl refl) reads right
+  not_opened_by (refusals.Changed field) reads fault right = refused (refusals.Changed field) (inl refl) reads right
+  not_opened_by refusals.NotBuilt reads fault right = refused refusals.NotBuilt (inr refl) reads right
 
--- it was told so before, when the same was held
-pub opens_told : {told told' : Type 0} {trace : Script} {held held' : List Sector} {h : Header} → (told' → told) → (told' → held' ≡ held) → OpensFor trace told held' h → OpensFor trace told' held h
-opens_told {held = held} {held' = held'} {h = h} before same opens = record {
-  valid = opens.valid;
-  version = opens.version;
-  inside = opens.inside;
-  opens = λ t. subst (λ (x : List Sector). Opens (length x) (image_of x) h) (same t) (opens.opens (before t));
-}
+  pub not_opened_for : (e : OpenError) (line : Line) → line ≡ show_line e → OnlyReads g s s' → ForStore (IsStoreFault g s s') e → (g.tells s' → Refused 2 (g.disk s').held e) → IsOpenLine g trace s s' line
+  not_opened_for e line is reads fault right = subst (λ (l : Line). IsOpenLine g trace s s' l) (sym is) (not_opened_by e reads fault right)
+
+  module _ (state : State) (opened : IsOpened (g.sectors s') state) (least : 2 ≤ state.header.version) (reads : OnlyReads g s s') (says : g.tells s' → StateSays (g.disk s').held state) where
+    two : state.header.version ≡ 2
+    two = version_two state.header opened.readable.sized.valid least
+
+    pub line_past : (number : ℕ) → Some number ≡ past_of state.header.size trace → IsOpenLine g trace s s' (lines.LinePastTheDisk number)
+    line_past number at = Is_past state.header number (λ t. opens_by (g.disk s).held (g.disk s').held state two (reads.held t) (says t)) (sym at)
+
+    pub opens_for : None ≡ past_of state.header.size trace → OpensFor g trace state.header s s'
+    opens_for at = record {
+      valid = opened.readable.sized.valid;
+      version = two;
+      inside = sym at;
+      opens = λ t. opens_by (g.disk s).held (g.disk s').held state two (reads.held t) (says t);
+    }
+
+    pub is_open : None ≡ past_of state.header.size trace → (g.tells s' → AddsFlush (g.disk s) (g.disk s')) → IsOpen g trace state s'
+    is_open at flushed = record {
+      opens = record { valid = opened.readable.sized.valid; version = two; inside = sym at; opens = λ t. opens_by (g.disk s').held (g.disk s').held state two refl (says t) };
+      opened = opened;
+      flushed = λ t. (g.disk s, flushed t);
+      says = says;
+    }
+
+-- it was told so before
+pub opens_told : {S : Type 0} {g : store.Ghosts S} {s s' s'' : S} {trace : Script} {h : Header} → (g.tells s'' → g.tells s') → OpensFor g trace h s s' → OpensFor g trace h s s''
+opens_told before opens = record { valid = opens.valid; version = opens.version; inside = opens.inside; opens = λ t. opens.opens (before t) }
 
 -- All requests of a trace with no range past the disk are served, and its lines show sectors of the disk.
 

@@ -1,5 +1,5 @@
 -- A trace that a core has served is a run.
-use Rattle.std.proofs.Common.{ℕ, ◌≡◌, ◌*◌, ◌≤◌, List, ◌++◌, length, refl, ap, sym, ◌∙◌, subst, arith}
+use Rattle.std.proofs.Common.{ℕ, ◌≡◌, ◌*◌, ◌<◌, ◌≤◌, inl, inr, List, ◌++◌, length, refl, ap, sym, ◌∙◌, subst, arith, append_assoc, length-append}
 use Rattle.std.proofs.Math.Nat.{div-add-mod}
 use Rattle.std.proofs.lemmas.Option.{slice_get_within}
 use Rattle.vd_law.specs.declared.entry.Sector.{Sector}
@@ -10,17 +10,23 @@ use Rattle.vd_law.specs.Entries as law
 use Rattle.vd_law.specs.Entries.{Asked, Entry, call_of}
 use Rattle.vd_law.specs.Histories.{Numbered}
 use Rattle.vd_law.specs.Rules.{IsRegular, IsLegal}
-use Rattle.vd_device.specs.Disks.{Disk, IsHonest, IsRunning, IsClean}
+use Rattle.vd_device.specs.declared.store.Store as store
+use Rattle.vd_device.specs.declared.base.Base as base
+use Rattle.vd_device.specs.declared.patient.Patient.{Patient}
+use Rattle.vd_device.specs.Disks.{Disk, HasStopped, HasStood, IsHonest, IsRunning}
+use Rattle.vd_device.specs.Stores.{IsTold, KeepsStore}
+use Rattle.vd_device.specs.Bases.{KeepsBase}
 use Rattle.vd_format.specs.declared.header.Header.{Header}
 use Rattle.vd_format.specs.declared.map.Entry.{Entry as MapEntry}
 use Rattle.vd_format.specs.Headers.{IsValid}
 use Rattle.vd_format.specs.Layouts.{blocks_of, chunks_of}
 use Rattle.vd_reading.specs.Background.{zero_sector as read_zero}
-use Rattle.vd_reading.specs.Quiet.{AddsNoWrite, OnlyReadsBase}
-use Rattle.vd_image.specs.Image.{HasNoLater}
+use Rattle.vd_reading.specs.Quiet.{AddsNoWrite}
+use Rattle.vd_reading.proofs.QuietLaws.{adds_twice}
 use Rattle.vd_image.specs.Layouts.{layout_of}
 use Rattle.vd_image.specs.Decoders.{format_of}
-use Rattle.vd_image.specs.CrashImages.{base_at, IsCrashImage}
+use Rattle.vd_image.specs.Image.{Format, Layout}
+use Rattle.vd_image.specs.CrashImages.{base_at}
 use Rattle.vd_image.specs.Made.{zero_sector}
 use Rattle.vd_crash.specs.CrashSafe.{IsCrashSafe}
 use Rattle.vd_safety.specs.Held.{IsOpenAgain}
@@ -38,16 +44,18 @@ use Rattle.vd_core.specs.View.{View}
 use Rattle.vd_core.specs.Asking.{Suffices}
 use Rattle.vd_core.specs.Start.{Opening, opening_at, IsStart, WasSafe}
 use Rattle.vd_core.specs.Storing.{AreFullsCaused}
-use Rattle.vd_core.specs.Leaving.{LeavesStore, LeavesBase}
 use Rattle.vd_core.specs.Showing.{EndsFlushed, MayHold, ShowsCould}
-use Rattle.vd_core.specs.Opening.{shape_of, IsOpened, AreReplied, IsNumberedIn}
+use Rattle.vd_core.specs.Opening.{shape_of, IsOpened, IsNumberedIn}
+use Rattle.vd_core.specs.History.{HasOpening, IsHistoryOf, HasEnded}
+use Rattle.vd_core.proofs.Opened.{opening-stands}
 use Rattle.vd_serve.specs.Serving.{IsUnused, IsServed, Closes}
 use Rattle.vd_serve.specs.Driving.{IsSameDisk, with_flush}
+use Rattle.vd_serve.specs.Waiting.{patient_store, patient_base}
 use Rattle.vd_report.specs.declared.line.Line.{Line}
 use Rattle.vd_report.specs.declared.line.Line.TheVariants as lines
-use Rattle.vd_top.specs.Leaving.{Leaves}
-use Rattle.vd_top.specs.Orders.{IsReadSince}
-use Rattle.vd_top.specs.Running.{IsDisk, IsRun, IsReopenable, closing_line}
+use Rattle.vd_top.specs.Devices.{Devices, devices, AreTold, AreRead, Leaves}
+use Rattle.vd_top.specs.Orders.{IsOpenedFrom, OpensQuietly, Opened_within, Had_stopped}
+use Rattle.vd_top.specs.Running.{IsDisk, HadDisk, WasGood, IsRun, IsReopenable, RunsTrace, closing_line}
 use Rattle.vd_top.proofs.ClosingLaws.{closed_ok, ends_flushed}
 use Rattle.vd_top.proofs.StartLaws.{same_zeros, start_is, clean_later}
 use Rattle.vd_top.proofs.SafeLaws.{flush_reads, was_safe}
@@ -57,27 +65,26 @@ use Rattle.vd_top.proofs.LaterLaws.{safe_later}
 pub whole_disk : (h : Header) → IsValid h → h.block * blocks_of h ≡ h.size
 whole_disk h valid = let parts = div-add-mod h.size h.block in let rest = valid.whole_blocks in omega arith
 
-pub opened_unused : {S B : Type 0} {s : State} {room : Room} {store : S} {base : B} {base_sectors events faults base_faults : ℕ} {disk : Disk} {core : View S B} → IsOpened s 2 room store base base_sectors events faults base_faults disk core
-    → IsUnused core.passes core.flusher core.history.log.entries
-opened_unused opened = record {
-  resting = record {
-    two = opened.passes_are.many;
-    idle = λ i p there. let new = opened.passes_are.each i p there in new.phase;
-    free = opened.flusher_is;
-  };
-  empty = ap (λ (n : Numbered). n.log.entries) opened.history_is;
-}
+module _ {S B : Type 0} {g : store.Ghosts S} {h : base.Ghosts B} {s : State} {room : Room} {store : S} {base : B} {core : View S B} where
+  pub opened_unused : IsOpened g h s 2 room store base core → IsUnused core.passes core.flusher core.history.log.entries
+  opened_unused opened = record {
+    resting = record {
+      two = opened.passes_are.many;
+      idle = λ i p there. let new = opened.passes_are.each i p there in new.phase;
+      free = opened.flusher_is;
+    };
+    empty = ap (λ (n : Numbered). n.log.entries) opened.history_is;
+  }
 
--- the size of an opened disk
-pub opened_size : {S B : Type 0} {s : State} {room : Room} {store : S} {base : B} {base_sectors events faults base_faults : ℕ} {disk : Disk} {core : View S B} → IsValid s.header → IsOpened s 2 room store base base_sectors events faults base_faults disk core
-    → core.shape.block * core.shape.blocks ≡ s.header.size
-opened_size {s = s} valid opened = ap (λ (x : Shape). x.block * x.blocks) opened.shape_is ∙ whole_disk s.header valid
+  -- the size of an opened disk
+  pub opened_size : IsValid s.header → IsOpened g h s 2 room store base core → core.shape.block * core.shape.blocks ≡ s.header.size
+  opened_size valid opened = ap (λ (x : Shape). x.block * x.blocks) opened.shape_is ∙ whole_disk s.header valid
 
 suffices_all : (need left : Room) → left ≡ need → Suffices need left
 suffices_all need left same = let e = ap (λ (r : Room). r.events) same in let s = ap (λ (r : Room). r.sectors) same in (omega arith, omega arith)
 
-pub opened_room : {S B : Type 0} {s : State} {room : Room} {store : S} {base : B} {base_sectors events faults base_faults : ℕ} {disk : Disk} {core : View S B} (asks : List Asking) → room ≡ with_flush (need_of s.header.block asks)
-    → IsOpened s 2 room store base base_sectors events faults base_faults disk core → Suffices (with_flush (need_of core.shape.block asks)) core.spare
+pub opened_room : {S B : Type 0} {g : store.Ghosts S} {h : base.Ghosts B} {s : State} {room : Room} {store : S} {base : B} {core : View S B} (asks : List Asking) → room ≡ with_flush (need_of s.header.block asks)
+    → IsOpened g h s 2 room store base core → Suffices (with_flush (need_of core.shape.block asks)) core.spare
 opened_room {core = core} asks needed opened =
     suffices_all (with_flush (need_of core.shape.block asks)) core.spare (opened.spare_is ∙ needed ∙ ap (λ (n : ℕ). with_flush (need_of n asks)) (sym (ap (λ (x : Shape). x.block) opened.shape_is)))
 
@@ -92,23 +99,6 @@ same_twice x y = record {
   header = y.header ∙ x.header;
   entries = y.entries ∙ x.entries;
 }
-
--- What a core leaves that has served the trace and is closed.
-pub record Finishes {S B : Type 0} (told base_told : Type 0) (disk' : Disk) (core : View S B) (content : List Sector) (faults base_faults : ℕ) (history : Numbered) : Type 0 where
-  pub history_is : history ≡ core.history
-  pub regular : IsRegular (core.shape.block * core.shape.blocks) history.log.entries
-  pub legal : told → base_told → (start : List Sector) → IsStart core.opening content core.header start → IsLegal start history.log.entries
-  pub safe : told → base_told → (start : List Sector) → IsStart core.opening content core.header start → WasSafe core.opening core.header
-      → IsCrashSafe (format_of core.header) (layout_of core.header) (base_at read_zero content) read_zero disk'.start disk'.log start history
-  pub numbers : told → IsNumberedIn disk'.log history
-  pub reopens : told → base_told → (start : List Sector) → IsStart core.opening content core.header start → WasSafe core.opening core.header → (image : List Sector) → IsCrashImage disk'.start disk'.log image → IsOpenAgain core.header content start history.log.entries image
-  pub settled : told → base_told → (start : List Sector) → IsStart core.opening content core.header start → WasSafe core.opening core.header → EndsFlushed history.log.entries → (held : List Sector) → MayHold disk' held → ShowsCould core.header content start history.log.entries held
-  pub holds : told → MayHold disk' disk'.held
-  pub replied : AreReplied history.log.entries
-  pub store_caused : AreCaused OfStore history.log.entries core.store_faults faults
-  pub base_caused : AreCaused OfBase history.log.entries core.base_faults base_faults
-  pub traced : told → AreTraced disk'.log history.log.entries history.numbers
-  pub full : AreFullsCaused core.shape core.entries (length core.table.chunks) core.table.storage history.log.entries
 
 fulls_same : (shape shape' : Shape) (had had' : List MapEntry) (chunks chunks' storage storage' : ℕ) (entries : List Entry) → shape' ≡ shape → had' ≡ had → chunks' ≡ chunks → storage' ≡ storage → AreFullsCaused shape' had' chunks' storage' entries → AreFullsCaused shape had chunks storage entries
 fulls_same shape shape' had had' chunks chunks' storage storage' entries s m c t full =
@@ -136,93 +126,6 @@ again_moved h h' base base' start entries held header also again =
 shows_moved : (h h' : Header) (base base' start : List Sector) (entries : List Entry) (held : List Sector) → h' ≡ h → base' ≡ base → ShowsCould h' base' start entries held → ShowsCould h base start entries held
 shows_moved h h' base base' start entries held header also shows =
     subst (λ (xs : List Sector). ShowsCould h xs start entries held) also (subst (λ (x : Header). ShowsCould x base' start entries held) header shows)
-
--- The core as it was opened, after it has served the trace, and after its closing; and the store as it was handed in, opened, and in
--- the end.
-pub served_run : {S B : Type 0} {told base_told : Type 0} {disk disk' : Disk} {s : State} {room : Room} {store : S} {base : B} {base_sectors events faults faults' base_faults base_faults' : ℕ} (core core' core'' : View S B) (content content' : List Sector) (trace : Script)
-    (answer : Answer) (history : Numbered) → IsSized s → s.header.version ≡ 2 → (told → StateSays disk.held s) → (told → IsRunning events disk) → (told → IsHonest disk) → IsOpened s 2 room store base base_sectors events faults base_faults disk core
-    → IsServed (script trace 1) core'.passes core'.history.log.entries → IsSameDisk core core' → Closes answer core'.history.log.entries core''.history.log.entries → IsSameDisk core' core'' → (told → core''.opening ≡ core.opening) → (base_told → content' ≡ content)
-    → Finishes told base_told disk' core'' content' faults' base_faults' history → (old : Disk) → (told → IsReadSince old disk)
-    → IsRun trace s.header base_sectors told base_told old disk' content faults faults' base_faults base_faults' history (closing_line answer) × (told → IsNumberedIn disk'.log history) × IsReopenable s.header told base_told old disk' content history (closing_line answer)
-served_run {told = told} {base_told = base_told} {disk = disk} {disk' = disk'} {s = s} {base_sectors = base_sectors} {events = events} {faults' = faults'} {base_faults' = base_faults'} core core' core'' content content' trace answer history sized two says runs honest opened served first closed second opening same_content ends old since = (
-  record {
-    served = core'.history.log.entries;
-    asked = served.asked;
-    alone = served.alone;
-    answer = answer;
-    closed = subst (λ (n : Numbered). Closes answer core'.history.log.entries n.log.entries) (sym ends.history_is) closed;
-    closing_is = refl;
-    replied = ends.replied;
-    regular = subst (λ (n : ℕ). IsRegular n history.log.entries) (ap (λ (x : Shape). x.block * x.blocks) shaped ∙ whole_disk s.header sized.valid) ends.regular;
-    legal = λ t b clean start is. ends.legal t b start (begins t b clean start is);
-    safe = λ t b clean no_later start is.
-        safe_moved s.header core''.header content content' disk' start history header_same (same_content b) (ends.safe t b start (begins t b clean start is) (safely t clean no_later));
-    store_caused = subst (λ (n : ℕ). AreCaused OfStore history.log.entries n faults') (disk_same.store_faults ∙ opened.store_faults_are) ends.store_caused;
-    base_caused = subst (λ (n : ℕ). AreCaused OfBase history.log.entries n base_faults') (disk_same.base_faults ∙ opened.base_faults_are) ends.base_caused;
-    traced = ends.traced;
-    had = s.map;
-    had_is = λ t chunk within. (let state = (says t).current two in subst (λ (xs : List Sector). IsEntryOf s.header (image_of xs) s.map chunk) (since t).held (state.entries chunk within));
-    full = fulls_same (shape_of s.header base_sectors) core''.shape s.map core''.entries (chunks_of s.header) (length core''.table.chunks) s.header.storage core''.table.storage history.log.entries shaped (disk_same.entries ∙ opened.entries_are)
-        (disk_same.chunks ∙ ap (λ (t : Given). length t.chunks) opened.table_is ∙ sized.table) (disk_same.storage ∙ ap (λ (t : Given). t.storage) opened.table_is ∙ sized.storage) ends.full;
-  },
-  ends.numbers,
-  λ t b clean no_later start is.
-      let from = begins t b clean start is in
-      let safely_from = safely t clean no_later in (
-        again_moved s.header core''.header content content' start history.log.entries disk'.held header_same (same_content b) (ends.reopens t b start from safely_from disk'.held (ends.holds t).left),
-        λ said. shows_moved s.header core''.header content content' start history.log.entries disk'.held header_same (same_content b) (ends.settled t b start from safely_from (flushed_ok said) disk'.held (ends.holds t)),
-      ),
-)
-  where
-    disk_same : IsSameDisk core core''
-    disk_same = same_twice first second
-
-    shaped : core''.shape ≡ shape_of s.header base_sectors
-    shaped = disk_same.shape ∙ opened.shape_is
-
-    flushed_ok : closing_line answer ≡ lines.Ok → EndsFlushed history.log.entries
-    flushed_ok said =
-        let closed_so = subst (λ (n : Numbered). Closes answer core'.history.log.entries n.log.entries) (sym ends.history_is) closed in
-        ends_flushed answer (closed_ok answer ends.regular closed_so said) closed_so
-
-    header_same : core''.header ≡ s.header
-    header_same = disk_same.header ∙ opened.header_is
-
-    begins : told → base_told → IsClean old → (start : List Sector) → IsDisk s.header old.held content start → IsStart core''.opening content' core''.header start
-    begins t b clean start is =
-        start_moved (opening_at events disk) core''.opening content content' s.header core''.header start (opening t ∙ opened.opening_is) (same_content b) header_same
-        (start_is disk events s.header s content start (runs t) (honest t) (clean_later old disk (flush_reads old disk (since t).flushed) clean) ((says t).current two)
-        (subst (λ (xs : List Sector). IsDisk s.header xs content start) (sym (since t).held) is))
-
-    safely : told → IsClean old → HasNoLater (format_of s.header) (layout_of s.header) (image_of old.held) s.header.generation → WasSafe core''.opening core''.header
-    safely t clean no_later =
-        let state = (says t).current two in
-        was_safe_moved (opening_at events disk) core''.opening s.header core''.header (opening t ∙ opened.opening_is) header_same (was_safe old disk events s.header (since t) (runs t) (honest t) clean state.opens no_later)
-
--- What it leaves of the devices.
-
-pub served_leaves : {idle : Type 0} {sectors sectors' sectors'' depth depth' depth'' events events' events'' faults faults' faults'' late late' late'' : ℕ} {tells tells' tells'' records records' records'' : Type 0} → idle
-    → LeavesStore sectors sectors' depth depth' events events' faults faults' late late' tells tells' records records' → LeavesStore sectors' sectors'' depth' depth'' events' events'' faults' faults'' late' late'' tells' tells'' records' records''
-    → Leaves idle sectors sectors'' depth depth'' faults faults'' tells tells'' records records''
-served_leaves idle x y = record {
-  idle = idle;
-  sectors_same = y.sectors_same ∙ x.sectors_same;
-  depth_same = y.depth_same ∙ x.depth_same;
-  calm = (let p = x.faults_rise in let q = y.faults_rise in omega arith);
-  told_before = λ t. x.told_before (y.told_before t);
-  recorded_before = λ r. x.recorded_before (y.recorded_before r);
-}
-
-pub served_base : {idle : Type 0} {sectors sectors' sectors'' depth depth' depth'' faults faults' faults'' late late' late'' : ℕ} {tells tells' tells'' : Type 0} {content content' content'' : List Sector} → idle
-    → LeavesBase sectors sectors' depth depth' faults faults' late late' tells tells' content content' → LeavesBase sectors' sectors'' depth' depth'' faults' faults'' late' late'' tells' tells'' content' content''
-    → OnlyReadsBase idle sectors sectors'' faults faults'' tells tells'' content content''
-served_base idle x y = record {
-  idle = idle;
-  sectors_same = y.sectors_same ∙ x.sectors_same;
-  calm = (let p = x.faults_rise in let q = y.faults_rise in omega arith);
-  told_before = λ t. x.told_before (y.told_before t);
-  content_same = λ t. y.content_same t ∙ x.content_same (y.told_before t);
-}
 
 -- The store is counted from when it was handed in, and its log goes on behind the closing.
 
@@ -260,26 +163,175 @@ traced_later {log = log} {history = history} {numbers = numbers} more traced to 
 traced_on : {history : List Entry} {numbers : List ℕ} (old new : Disk) → AddsNoWrite old new → AreTraced old.log history numbers → AreTraced new.log history numbers
 traced_on {history = history} {numbers = numbers} old new adds traced = subst (λ (l : List Entry). AreTraced l history numbers) (sym adds.log) (traced_later adds.more traced)
 
--- A run until the store is handed out, which behind the serving is only read, and in which the opening is counted too.
-pub run_wider : {trace : Script} {h : Header} {base_sectors f0 f1 f2 f3 base_faults base_faults' base_faults'' : ℕ} {t2 t3 base_told base_told' : Type 0} {d0 d2 d3 : Disk} {base : List Sector} {history : Numbered} {closing : Line} → f0 ≤ f1 → f2 ≤ f3 → base_faults' ≤ base_faults'' → (t3 → t2) → (base_told' → base_told)
-    → (t3 → AddsNoWrite d2 d3) → IsRun trace h base_sectors t2 base_told d0 d2 base f1 f2 base_faults base_faults' history closing → (t2 → IsNumberedIn d2.log history)
-    → IsRun trace h base_sectors t3 base_told' d0 d3 base f0 f3 base_faults base_faults'' history closing
-run_wider {h = h} {d0 = d0} {d2 = d2} {d3 = d3} {base = base} {history = history} before behind base_behind told base_earlier reads_on run numbers = record {
-  served = run.served;
-  asked = run.asked;
-  alone = run.alone;
-  answer = run.answer;
-  closed = run.closed;
-  closing_is = run.closing_is;
-  replied = run.replied;
-  regular = run.regular;
-  legal = λ t b. run.legal (told t) (base_earlier b);
-  safe = λ t b clean no_later start is.
-      safe_later (format_of h) (layout_of h) (base_at zero_sector base) zero_sector d2 d3 start history (reads_on t) (numbers (told t)) (run.safe (told t) (base_earlier b) clean no_later start is);
-  store_caused = caused_wider before behind run.store_caused;
-  base_caused = caused_wider (omega arith) base_behind run.base_caused;
-  traced = λ t. traced_on d2 d3 (reads_on t) (run.traced (told t));
-  had = run.had;
-  had_is = λ t. run.had_is (told t);
-  full = run.full;
+-- ---- the moments of a run
+
+-- a history that was opened behind the log's end has no moment in it
+no_moment : {f : Format} {l : Layout} {under : ℕ → Sector} {zeros : Sector} {start disk : List Sector} (log : List Entry) (history : Numbered) → length log < history.opened → IsCrashSafe f l under zeros start log disk history
+no_moment log history past = record {
+  sound = λ k image since until crash. absurd (omega (arith, past, since, until));
+  allowed = λ k image since until crash s v less has. absurd (omega (arith, past, since, until));
 }
+
+-- a store that took nothing more
+stood_adds : {old mid new : Disk} {events : ℕ} → AddsNoWrite old mid → HasStood events mid new → AddsNoWrite old new
+stood_adds adds stood = record { start = stood.start ∙ adds.start; more = adds.more; none = adds.none; log = stood.log ∙ adds.log }
+
+-- ---- the serving
+
+-- A core that was opened over this store and base, that has then served the trace, and that is closed.
+module _ {S B : Type 0} (g : store.Ghosts S) (h : base.Ghosts B) (s : State) (room : Room) (store : S) (base : B) (core core' core'' : View (Patient S) (Patient B)) (trace : Script) (answer : Answer)
+    (sized : IsSized s) (two : s.header.version ≡ 2) (says : g.tells store → StateSays (g.disk store).held s) (told : IsTold g store) (runs : g.tells store → IsRunning (g.events store) (g.disk store)) (honest : g.tells store → IsHonest (g.disk store))
+    (opened : IsOpened (patient_store g) (patient_base h) s 2 room (record { inner = store }) (record { inner = base }) core) (opening : HasOpening (patient_store g) core)
+    (served : IsServed (script trace 1) core'.passes core'.history.log.entries) (first_same : IsSameDisk core core') (closed : Closes answer core'.history.log.entries core''.history.log.entries) (second_same : IsSameDisk core' core'')
+    (keeps : KeepsStore (patient_store g) core.store core''.store) (base_keeps : KeepsBase (patient_base h) core.base core''.base)
+    (known : IsHistoryOf (patient_store g) (patient_base h) core'') (ended : HasEnded (patient_store g) (patient_base h) core'')
+    (recorded : g.tells core''.store.inner → g.records core''.store.inner) (holds : g.tells core''.store.inner → MayHold (g.disk core''.store.inner) (g.disk core''.store.inner).held) where
+  kept : KeepsStore (patient_store g) (record { inner = store }) core''.store
+  kept = subst (λ (p : Patient S). KeepsStore (patient_store g) p core''.store) opened.store_is keeps
+
+  base_kept : KeepsBase (patient_base h) (record { inner = base }) core''.base
+  base_kept = subst (λ (p : Patient B). KeepsBase (patient_base h) p core''.base) opened.base_is base_keeps
+
+  disk_same : IsSameDisk core core''
+  disk_same = same_twice first_same second_same
+
+  shaped : core''.shape ≡ shape_of s.header (h.sectors base)
+  shaped = disk_same.shape ∙ opened.shape_is
+
+  header_same : core''.header ≡ s.header
+  header_same = disk_same.header ∙ opened.header_is
+
+  opened_is : core''.history.opened ≡ g.events store
+  opened_is = disk_same.opened ∙ ap (λ (n : Numbered). n.opened) opened.history_is
+
+  opening_same : g.records core''.store.inner → core''.opening ≡ opening_at (g.events store) (g.disk store)
+  opening_same r = opening-stands (patient_store g) core core'' opening known.opening keeps disk_same.opened r ∙ opened.opening_is
+
+  content_same : h.tells core''.base.inner → h.content core''.base.inner ≡ h.content base
+  content_same b = base_kept.telling.content b
+
+  flushed_ok : closing_line answer ≡ lines.Ok → EndsFlushed core''.history.log.entries
+  flushed_ok said = ends_flushed answer (closed_ok answer known.regular closed said) closed
+
+  module _ (first : S) (from : IsOpenedFrom g first store) where
+    begins : g.tells store → g.records core''.store.inner → h.tells core''.base.inner → (start : List Sector) → HadDisk g h s.header start (devices first base)
+        → IsStart core''.opening (h.content core''.base.inner) core''.header start
+    begins t r b start had =
+        let since = from.since t in
+        start_moved (opening_at (g.events store) (g.disk store)) core''.opening (h.content base) (h.content core''.base.inner) s.header core''.header start (opening_same r) (content_same b) header_same
+        (start_is (g.disk store) (g.events store) s.header s (h.content base) start (runs t) (honest t) (clean_later (g.disk first) (g.disk store) (flush_reads (g.disk first) (g.disk store) since.flushed) had.clean) ((says t).current two)
+        (subst (λ (xs : List Sector). IsDisk s.header xs (h.content base) start) (sym since.held) had.disk))
+
+    safely : g.tells store → g.records core''.store.inner → (start : List Sector) → WasGood g h s.header start (devices first base) → WasSafe core''.opening core''.header
+    safely t r start good =
+        let state = (says t).current two in
+        was_safe_moved (opening_at (g.events store) (g.disk store)) core''.opening s.header core''.header (opening_same r) header_same
+        (was_safe (g.disk first) (g.disk store) (g.events store) s.header (from.since t) (runs t) (honest t) good.had.clean state.opens good.no_later)
+
+    safe_at : g.records core''.store.inner → h.tells core''.base.inner → (start : List Sector) → WasGood g h s.header start (devices first base)
+        → IsCrashSafe (format_of s.header) (layout_of s.header) (base_at zero_sector (h.content base)) zero_sector (g.disk core''.store.inner).start (g.disk core''.store.inner).log start core''.history
+    safe_at r b start good = elim (told (kept.telling.recorded_before r)) [
+      | inl t ↦ safe_moved s.header core''.header (h.content base) (h.content core''.base.inner) (g.disk core''.store.inner) start core''.history header_same (content_same b) (known.safe r b start (begins t r b start good.had) (safely t r start good))
+      | inr stopped ↦ (let stood = kept.telling.stood r stopped in no_moment (g.disk core''.store.inner).log core''.history (let long = ap length stood.log in omega (arith, stopped, long, opened_is)))
+    ]
+
+    opens_at : g.records core''.store.inner → OpensQuietly (g.disk first) (g.disk core''.store.inner) core''.history.opened
+    opens_at r =
+        let before = kept.telling.recorded_before r in
+        let adds = from.reads.recorded before in
+        elim (told before) [
+          | inl t ↦ (let on = kept.telling.goes_on r in
+              Opened_within adds.more on.more (on.start ∙ adds.start) adds.none (on.log ∙ ap (λ (l : List Entry). l ++ on.more) adds.log ∙ append_assoc (g.disk first).log adds.more on.more)
+              (opened_is ∙ runs t ∙ ap length adds.log ∙ length-append (g.disk first).log adds.more))
+          | inr stopped ↦ (let stood = kept.telling.stood r stopped in Had_stopped (stood_adds adds stood) (let long = ap length stood.log in omega (arith, stopped, long, opened_is)))
+        ]
+
+    pub served_run : RunsTrace g h trace s.header (devices first base) (devices core''.store.inner core''.base.inner) core''.history (closing_line answer)
+    served_run = record {
+      run = record {
+        served = core'.history.log.entries;
+        asked = served.asked;
+        alone = served.alone;
+        answer = answer;
+        closed = closed;
+        closing_is = refl;
+        replied = ended.replied;
+        regular = subst (λ (n : ℕ). IsRegular n core''.history.log.entries) (ap (λ (x : Shape). x.block * x.blocks) shaped ∙ whole_disk s.header sized.valid) known.regular;
+        legal = λ both start had. known.legal both.0 both.1 start (begins (kept.telling.told_before both.0) (recorded both.0) both.1 start had);
+        opening = opens_at;
+        safe = safe_at;
+        store_caused = caused_wider from.reads.keeps.counts.faults (omega arith)
+            (subst (λ (n : ℕ). AreCaused OfStore core''.history.log.entries n (g.faults core''.store.inner)) (disk_same.store_faults ∙ opened.store_faults_are) known.store_faults);
+        base_caused = subst (λ (n : ℕ). AreCaused OfBase core''.history.log.entries n (h.faults core''.base.inner)) (disk_same.base_faults ∙ opened.base_faults_are) known.base_faults;
+        traced = known.traced;
+        had = s.map;
+        had_is = λ t chunk within. (
+            let before = kept.telling.told_before t in let state = (says before).current two in
+            subst (λ (xs : List Sector). IsEntryOf s.header (image_of xs) s.map chunk) (from.since before).held (state.entries chunk within));
+        full = fulls_same (shape_of s.header (h.sectors base)) core''.shape s.map core''.entries (chunks_of s.header) (length core''.table.chunks) s.header.storage core''.table.storage core''.history.log.entries shaped (disk_same.entries ∙ opened.entries_are)
+            (disk_same.chunks ∙ ap (λ (t : Given). length t.chunks) opened.table_is ∙ sized.table) (disk_same.storage ∙ ap (λ (t : Given). t.storage) opened.table_is ∙ sized.storage) known.full;
+      };
+      numbered = ended.numbers;
+      again = λ both start good.
+          let t = both.0 in let b = both.1 in let before = kept.telling.told_before t in
+          let is = begins before (recorded t) b start good.had in
+          let safe = safely before (recorded t) start good in
+          let held = (g.disk core''.store.inner).held in (
+            again_moved s.header core''.header (h.content base) (h.content core''.base.inner) start core''.history.log.entries held header_same (content_same b) (ended.reopens t b start is safe held (holds t).left),
+            λ said. shows_moved s.header core''.header (h.content base) (h.content core''.base.inner) start core''.history.log.entries held header_same (content_same b)
+                (ended.settled t b start is safe (flushed_ok said) held (holds t)),
+          );
+    }
+
+-- ---- until the devices are handed out
+
+-- A run until the devices are handed out, which behind the serving are only read.
+module _ {S B : Type 0} {g : store.Ghosts S} {h : base.Ghosts B} {trace : Script} {kept : Header} {d mid d' : Devices S B} {history : Numbered} {closing : Line}
+    (leaves : Leaves g h d mid) (reads : AreRead g h mid d') (runs : RunsTrace g h trace kept d mid history closing) where
+  opens_on : g.records d'.store → OpensQuietly (g.disk d.store) (g.disk d'.store) history.opened
+  opens_on r =
+      let before = reads.store.keeps.telling.recorded_before r in
+      let adds = reads.store.recorded r in
+      elim (runs.run.opening before) [
+        | Opened_within first more start none log is ↦
+            Opened_within first (more ++ adds.more) (adds.start ∙ start) none
+            (adds.log ∙ ap (λ (l : List Entry). l ++ adds.more) log ∙ append_assoc (g.disk d.store).log (first ++ more) adds.more ∙ ap (λ (l : List Entry). (g.disk d.store).log ++ l) (append_assoc first more adds.more)) is
+        | Had_stopped none past ↦ elim (leaves.store.telling.state before) [
+            | inl t ↦ absurd (let within = (runs.numbered t).opened in omega (arith, within, past))
+            | inr stopped ↦ (let stood = reads.store.keeps.telling.stood r stopped in Had_stopped (stood_adds none stood) (let long = ap length stood.log in omega (arith, past, long)))
+          ]
+      ]
+
+  safe_on : g.records d'.store → h.tells d'.base → (start : List Sector) → WasGood g h kept start d
+      → IsCrashSafe (format_of kept) (layout_of kept) (base_at zero_sector (h.content d.base)) zero_sector (g.disk d'.store).start (g.disk d'.store).log start history
+  safe_on r b start good =
+      let before = reads.store.keeps.telling.recorded_before r in
+      let safe = runs.run.safe before (reads.base.keeps.telling.told_before b) start good in
+      elim (leaves.store.telling.state before) [
+        | inl t ↦ safe_later (format_of kept) (layout_of kept) (base_at zero_sector (h.content d.base)) zero_sector (g.disk mid.store) (g.disk d'.store) start history (reads.store.recorded r) (runs.numbered t) safe
+        | inr stopped ↦ (let stood = reads.store.keeps.telling.stood r stopped in
+            subst (λ (xs : List Sector). IsCrashSafe (format_of kept) (layout_of kept) (base_at zero_sector (h.content d.base)) zero_sector xs (g.disk d'.store).log start history) (sym stood.start)
+            (subst (λ (es : List Entry). IsCrashSafe (format_of kept) (layout_of kept) (base_at zero_sector (h.content d.base)) zero_sector (g.disk mid.store).start es start history) (sym stood.log) safe))
+      ]
+
+  pub run_wider : IsRun g h trace kept d d' history closing
+  run_wider =
+      let run = runs.run in let told = reads.store.keeps.telling.told_before in record {
+        served = run.served;
+        asked = run.asked;
+        alone = run.alone;
+        answer = run.answer;
+        closed = run.closed;
+        closing_is = run.closing_is;
+        replied = run.replied;
+        regular = run.regular;
+        legal = λ both start had. run.legal (told both.0, reads.base.keeps.telling.told_before both.1) start had;
+        opening = opens_on;
+        safe = safe_on;
+        store_caused = caused_wider (omega arith) reads.store.keeps.counts.faults run.store_caused;
+        base_caused = caused_wider (omega arith) reads.base.keeps.counts.faults run.base_caused;
+        traced = λ t. traced_on (g.disk mid.store) (g.disk d'.store) (reads.store.added t) (run.traced (told t));
+        had = run.had;
+        had_is = λ t. run.had_is (told t);
+        full = run.full;
+      }

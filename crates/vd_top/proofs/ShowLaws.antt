@@ -3,7 +3,12 @@ use Rattle.std.proofs.Common.{ℕ, ◌≡◌, ◌+◌, ◌≤◌, inl, inr, true
 use Rattle.std.proofs.Math.Seq.{take-append_seam}
 use Rattle.std.specs.Prelude.{nat_lt}
 use Rattle.vd_law.specs.declared.entry.Sector.{Sector}
+use Rattle.vd_device.specs.declared.store.Store as store
+use Rattle.vd_device.specs.declared.base.Base as base
+use Rattle.vd_reading.specs.Quiet.{OnlyReads, IsStoreFault}
+use Rattle.vd_reading.proofs.QuietLaws.{fault_of}
 use Rattle.vd_format.specs.declared.header.HeaderError.TheVariants as header_errors
+use Rattle.vd_io.specs.declared.sink.Sink as sink
 use Rattle.vd_replay.specs.Finding.{ForStore}
 use Rattle.vd_replay.specs.Refusals.{Refused}
 use Rattle.vd_replay.specs.States.{IsSized, Says as StateSays}
@@ -13,29 +18,10 @@ use Rattle.vd_replay.specs.declared.error.OpenError.{OpenError}
 use Rattle.vd_replay.specs.declared.error.OpenError.TheVariants as refusals
 use Rattle.vd_report.specs.declared.line.Line.{Line}
 use Rattle.vd_report.specs.declared.line.Line.TheVariants as lines
+use Rattle.vd_top.specs.Devices.{Devices, AreRead}
 use Rattle.vd_top.specs.Ending.{Ends}
 use Rattle.vd_top.specs.Outcomes.{Outcome, Says, Shown}
-use Rattle.vd_top.specs.Showing.{show_line, OpensAs, ShowsDisk, IsInDisk, Finds, Without_memory, Store_failed, Image_refused, Past_the_disk, Is_shown}
-
-not_opened : {told : Type 0} {held held' base : List Sector} {first count : ℕ} {StoreFailed BaseFailed : ℕ → Type 0} (e : OpenError) → (told → held' ≡ held) → ForStore StoreFailed e → (told → Refused 1 held' e)
-    → Finds told held base first count StoreFailed BaseFailed (Says (show_line e))
-not_opened (refusals.Store ticket) same fault right = Store_failed ticket fault
-not_opened refusals.NoMemory same fault right = Without_memory
-not_opened (refusals.Header header_errors.NotImage) same fault right = Image_refused (refusals.Header header_errors.NotImage) (inl refl) (λ t. subst (λ (x : List Sector). Refused 1 x (refusals.Header header_errors.NotImage)) (same t) (right t))
-not_opened (refusals.Header (header_errors.Version version)) same fault right = Image_refused (refusals.Header (header_errors.Version version)) (inl refl) (λ t. subst (λ (x : List Sector). Refused 1 x (refusals.Header (header_errors.Version version))) (same t) (right t))
-not_opened (refusals.Header (header_errors.Field field)) same fault right = Image_refused (refusals.Header (header_errors.Field field)) (inl refl) (λ t. subst (λ (x : List Sector). Refused 1 x (refusals.Header (header_errors.Field field))) (same t) (right t))
-not_opened (refusals.TooSmall need have) same fault right = Image_refused (refusals.TooSmall need have) (inl refl) (λ t. subst (λ (x : List Sector). Refused 1 x (refusals.TooSmall need have)) (same t) (right t))
-not_opened refusals.OldVersion same fault right = Image_refused refusals.OldVersion (inl refl) (λ t. subst (λ (x : List Sector). Refused 1 x refusals.OldVersion) (same t) (right t))
-not_opened (refusals.BadEntry chunk value) same fault right = Image_refused (refusals.BadEntry chunk value) (inl refl) (λ t. subst (λ (x : List Sector). Refused 1 x (refusals.BadEntry chunk value)) (same t) (right t))
-not_opened (refusals.BadRecord slot) same fault right = Image_refused (refusals.BadRecord slot) (inl refl) (λ t. subst (λ (x : List Sector). Refused 1 x (refusals.BadRecord slot)) (same t) (right t))
-not_opened (refusals.DoubleChunk a b) same fault right = Image_refused (refusals.DoubleChunk a b) (inl refl) (λ t. subst (λ (x : List Sector). Refused 1 x (refusals.DoubleChunk a b)) (same t) (right t))
-not_opened (refusals.Changed field) same fault right = Image_refused (refusals.Changed field) (inl refl) (λ t. subst (λ (x : List Sector). Refused 1 x (refusals.Changed field)) (same t) (right t))
-not_opened refusals.NotBuilt same fault right = Image_refused refusals.NotBuilt (inr refl) (λ t. subst (λ (x : List Sector). Refused 1 x refusals.NotBuilt) (same t) (right t))
-
-pub not_opened_line : {told : Type 0} {held held' base : List Sector} {first count : ℕ} {StoreFailed BaseFailed : ℕ → Type 0} (e : OpenError) (line : Line) → line ≡ show_line e → (told → held' ≡ held) → ForStore StoreFailed e → (told → Refused 1 held' e)
-    → Finds told held base first count StoreFailed BaseFailed (Says line)
-not_opened_line {told = told} {held = held} {base = base} {first = first} {count = count} {StoreFailed = StoreFailed} {BaseFailed = BaseFailed} e line is same fault right =
-    subst (λ (l : Line). Finds told held base first count StoreFailed BaseFailed (Says l)) (sym is) (not_opened e same fault right)
+use Rattle.vd_top.specs.Showing.{show_line, OpensAs, ShowsDisk, IsInDisk, IsJudged, Finds, Without_memory, Store_failed, Image_refused, Past_the_disk, Is_shown}
 
 -- what a state says comes from an image that opens by its header
 opens_as : (held : List Sector) (s : State) → IsSized s → StateSays held s → OpensAs held s.header
@@ -43,11 +29,6 @@ opens_as held s sized says = elim sized.valid.version [
   | inl one ↦ (let old = says.old one in inr (record { reads = old.reads; version = one; room = old.room; fresh = old.is_fresh }))
   | inr two ↦ inl (says.current two).opens
 ]
-
-pub past_it : {told : Type 0} {held held' base : List Sector} {first count : ℕ} {StoreFailed BaseFailed : ℕ → Type 0} (s : State) → IsSized s → (told → held' ≡ held) → (told → StateSays held' s) → nat_lt s.header.size (first + count) ≡ true
-    → Finds told held base first count StoreFailed BaseFailed (Says lines.PastTheDisk)
-past_it {first = first} {count = count} s sized same says past =
-    Past_the_disk (λ t. record { header = s.header; opens = subst (λ (x : List Sector). OpensAs x s.header) (same t) (opens_as _ s sized (says t)); past = ltb-true s.header.size (first + count) past })
 
 -- the disk that is read by a state is the image's
 pub disk_shown : (held base : List Sector) (s : State) (first : ℕ) (sectors : List Sector) → IsDisk held base s first sectors → ShowsDisk held base s.header first sectors
@@ -65,21 +46,47 @@ in_disk held mid after base base' s first count sectors same stays same_base siz
       subst (λ (x : List Sector). ShowsDisk held x s.header first sectors) same_base over_it;
 }
 
-pub found_it : {told : Type 0} {held mid after base base' : List Sector} {first : ℕ} {StoreFailed BaseFailed : ℕ → Type 0} (s : State) (room sectors : List Sector) → IsSized s → length sectors ≡ length room → (told → mid ≡ held) → (told → after ≡ mid) → (told → base' ≡ base)
-    → (told → StateSays mid s) → (told → StateSays after s → IsDisk after base' s first sectors) → nat_lt s.header.size (first + length room) ≡ false
-    → Finds told held base first (length room) StoreFailed BaseFailed (Shown first sectors)
-found_it {first = first} s room sectors sized size same stays same_base says disk within =
-    Is_shown sectors size (λ t. in_disk _ _ _ _ _ s first (length room) sectors (same t) (stays t) (same_base t) sized (says t) (disk t) (ltb-false s.header.size (first + length room) within))
+module _ {S B : Type 0} {g : store.Ghosts S} {h : base.Ghosts B} {first count : ℕ} {d d' : Devices S B} where
+  -- the image itself was refused
+  refused : (e : OpenError) → IsJudged e → OnlyReads g d.store d'.store → (g.tells d'.store → Refused 1 (g.disk d'.store).held e) → Finds g h first count d d' (Says (show_line e))
+  refused e judged reads right = Image_refused e judged (λ t. subst (λ (x : List Sector). Refused 1 x e) (reads.held t.0) (right t.0))
 
-pub ends_shown : (first faults : ℕ) (written : List ℕ) {status faults' : ℕ} {tells : Type 0} {written' : List ℕ} (sectors room : List Sector) → sectors ≡ room
-    → Ends (Shown first sectors) status faults faults' tells written written' → Ends (Shown first room) status faults faults' tells written written'
-ends_shown first faults written {status = status} {faults' = faults'} {tells = tells} {written' = written'} sectors room same ends =
-    subst (λ (xs : List Sector). Ends (Shown first xs) status faults faults' tells written written') same ends
+  not_opened : (e : OpenError) → OnlyReads g d.store d'.store → ForStore (IsStoreFault g d.store d'.store) e → (g.tells d'.store → Refused 1 (g.disk d'.store).held e) → Finds g h first count d d' (Says (show_line e))
+  not_opened (refusals.Store ticket) reads fault right = Store_failed ticket (fault_of fault)
+  not_opened refusals.NoMemory reads fault right = Without_memory
+  not_opened (refusals.Header header_errors.NotImage) reads fault right = refused (refusals.Header header_errors.NotImage) (inl refl) reads right
+  not_opened (refusals.Header (header_errors.Version version)) reads fault right = refused (refusals.Header (header_errors.Version version)) (inl refl) reads right
+  not_opened (refusals.Header (header_errors.Field field)) reads fault right = refused (refusals.Header (header_errors.Field field)) (inl refl) reads right
+  not_opened (refusals.TooSmall need have) reads fault right = refused (refusals.TooSmall need have) (inl refl) reads right
+  not_opened refusals.OldVersion reads fault right = refused refusals.OldVersion (inl refl) reads right
+  not_opened (refusals.BadEntry chunk value) reads fault right = refused (refusals.BadEntry chunk value) (inl refl) reads right
+  not_opened (refusals.BadRecord slot) reads fault right = refused (refusals.BadRecord slot) (inl refl) reads right
+  not_opened (refusals.DoubleChunk a b) reads fault right = refused (refusals.DoubleChunk a b) (inl refl) reads right
+  not_opened (refusals.Changed field) reads fault right = refused (refusals.Changed field) (inl refl) reads right
+  not_opened refusals.NotBuilt reads fault right = refused refusals.NotBuilt (inr refl) reads right
+
+  pub not_opened_line : (e : OpenError) (line : Line) → line ≡ show_line e → OnlyReads g d.store d'.store → ForStore (IsStoreFault g d.store d'.store) e → (g.tells d'.store → Refused 1 (g.disk d'.store).held e)
+      → Finds g h first count d d' (Says line)
+  not_opened_line e line is reads fault right = subst (λ (l : Line). Finds g h first count d d' (Says l)) (sym is) (not_opened e reads fault right)
+
+  pub past_it : (s : State) → IsSized s → OnlyReads g d.store d'.store → (g.tells d'.store → StateSays (g.disk d'.store).held s) → nat_lt s.header.size (first + count) ≡ true → Finds g h first count d d' (Says lines.PastTheDisk)
+  past_it s sized reads says past =
+      Past_the_disk (λ t. record { header = s.header; opens = subst (λ (x : List Sector). OpensAs x s.header) (reads.held t.0) (opens_as _ s sized (says t.0)); past = ltb-true s.header.size (first + count) past })
+
+  -- the image was opened, and then its sectors were read
+  pub found_it : (mid : S) (s : State) (sectors : List Sector) → IsSized s → length sectors ≡ count → OnlyReads g d.store mid → AreRead g h (record { store = mid; base = d.base }) d' → (g.tells mid → StateSays (g.disk mid).held s)
+      → (g.tells d'.store → h.tells d'.base → StateSays (g.disk d'.store).held s → IsDisk (g.disk d'.store).held (h.content d'.base) s first sectors) → nat_lt s.header.size (first + count) ≡ false
+      → Finds g h first count d d' (Shown first sectors)
+  found_it mid s sectors sized size opening reads says disk within =
+      Is_shown sectors size (λ t. (let before = reads.store.keeps.telling.told_before t.0 in in_disk (g.disk d.store).held (g.disk mid).held (g.disk d'.store).held (h.content d.base) (h.content d'.base) s first count sectors
+      (opening.held before) (reads.store.held t.0) (reads.base.keeps.telling.content t.1) sized (says before) (disk t.0 t.1) (ltb-false s.header.size (first + count) within)))
+
+pub ends_shown : {O : Type 0} {o : sink.Ghosts O} {out out' : O} {status : ℕ} (first : ℕ) (sectors room : List Sector) → sectors ≡ room → Ends o (Shown first sectors) status out out' → Ends o (Shown first room) status out out'
+ends_shown {o = o} {out} {out'} {status} first sectors room same ends = subst (λ (xs : List Sector). Ends o (Shown first xs) status out out') same ends
 
 -- as many were asked for
-pub found_many : {told : Type 0} {held base : List Sector} {first n m : ℕ} {StoreFailed BaseFailed : ℕ → Type 0} {outcome : Outcome} → n ≡ m → Finds told held base first n StoreFailed BaseFailed outcome → Finds told held base first m StoreFailed BaseFailed outcome
-found_many {told = told} {held = held} {base = base} {first = first} {StoreFailed = StoreFailed} {BaseFailed = BaseFailed} {outcome = outcome} same found =
-    subst (λ (k : ℕ). Finds told held base first k StoreFailed BaseFailed outcome) same found
+pub found_many : {S B : Type 0} {g : store.Ghosts S} {h : base.Ghosts B} {first n m : ℕ} {d d' : Devices S B} {outcome : Outcome} → n ≡ m → Finds g h first n d d' outcome → Finds g h first m d d' outcome
+found_many {g = g} {h} {first} {d = d} {d'} {outcome} same found = subst (λ (k : ℕ). Finds g h first k d d' outcome) same found
 
 -- a list whose front was replaced by one as long as it
 pub whole_room : {X : Type 0} (size : ℕ) (new old : List X) → length new ≡ length old → size ≡ length old → take size (new ++ drop (length new) old) ≡ new

@@ -10,7 +10,7 @@ use Rattle.std.proofs.lemmas.Option.{slice_get_within}
 use Rattle.vd_reading.proofs.BackgroundLaws.{slice_get_replicate}
 use Rattle.vd_image.specs.Made.{zero_sector, header_sector}
 use Rattle.vd_format.specs.Headers.{spelling}
-use Rattle.vd_top.specs.Putting.{AreAll, IsPut, Puts, IsKept, Keeps, Story, Begun, Blanked, Headed, IsWritten}
+use Rattle.vd_top.specs.Putting.{AreAll, IsPut, Puts, IsKept, Fills, Story, Begun, Blanked, Headed, IsWritten}
 use Rattle.vd_top.proofs.VersionLaws.{Fits, Left, left_more}
 use Rattle.vd_top.proofs.PutLaws.{each_event, fits_outside}
 
@@ -21,13 +21,13 @@ firm_after_puts P v from to s more old new apart p left =
     let there : Left P new.start (past old.log) s = subst (λ (start : List Sector). Left P start (past old.log) s) (sym p.start) left in
     subst (λ (l : List Entry). Left P new.start (past l) s) (sym p.log) (left_more P new.start old.log more s fits there)
 
-pub story_begun : (header zeros : Sector) (end number : ℕ) (old new : Disk) → Keeps (Err number) zeros 0 1 old new → Story header zeros end old new
+pub story_begun : (header zeros : Sector) (end number : ℕ) (old new : Disk) → Fills (Err number) zeros 0 1 old new → Story header zeros end old new
 story_begun header zeros end number old new k = Begun k.more k.puts k.kept
 
-pub story_blanked : (header zeros : Sector) (end number : ℕ) (old mid new : Disk) → Keeps (Ok tt) zeros 0 1 old mid → Keeps (Err number) zeros 1 end mid new → Story header zeros end old new
+pub story_blanked : (header zeros : Sector) (end number : ℕ) (old mid new : Disk) → Fills (Ok tt) zeros 0 1 old mid → Fills (Err number) zeros 1 end mid new → Story header zeros end old new
 story_blanked header zeros end number old mid new a b = Blanked a.more b.more mid a.puts a.kept b.puts
 
-pub story_headed : (header zeros : Sector) (end : ℕ) (result : Result ⊤ ℕ) (old mid ready new : Disk) → Keeps (Ok tt) zeros 0 1 old mid → Keeps (Ok tt) zeros 1 end mid ready → Keeps result header 0 1 ready new → Story header zeros end old new
+pub story_headed : (header zeros : Sector) (end : ℕ) (result : Result ⊤ ℕ) (old mid ready new : Disk) → Fills (Ok tt) zeros 0 1 old mid → Fills (Ok tt) zeros 1 end mid ready → Fills result header 0 1 ready new → Story header zeros end old new
 story_headed header zeros end result old mid ready new a b d = Headed a.more b.more d.more mid ready a.puts a.kept b.puts b.kept.firm d.puts
 
 written_ok : (header zeros : Sector) (end : ℕ) (ready new : Disk) (second more : List Entry) → IsKept zeros 1 end second ready → Puts header 0 1 more ready new → IsKept header 0 1 more new → IsWritten header zeros end new
@@ -39,7 +39,7 @@ written_ok header zeros end ready new second more b puts d = record {
 }
 
 -- where the header was made durable too, the image is written whole
-pub written_whole : {told : Type 0} (header zeros : Sector) (end : ℕ) (result : Result ⊤ ℕ) (ready new : Disk) → (told → (mid : Disk) × Keeps (Ok tt) zeros 1 end mid ready) → (told → Keeps result header 0 1 ready new)
+pub written_whole : {told : Type 0} (header zeros : Sector) (end : ℕ) (result : Result ⊤ ℕ) (ready new : Disk) → (told → (mid : Disk) × Fills (Ok tt) zeros 1 end mid ready) → (told → Fills result header 0 1 ready new)
     → OnOk result (told → IsWritten header zeros end new)
 written_whole header zeros end (Ok done) ready new b d = λ told. (let k = (b told).1 in let h = d told in written_ok header zeros end ready new k.more h.more k.kept h.puts h.kept)
 written_whole header zeros end (Err number) ready new b d = tt

@@ -1,23 +1,43 @@
 -- What the words are answered.
-use Rattle.std.specs.Prelude.{ℕ, List}
-use Rattle.vd_law.specs.declared.entry.Sector.{Sector}
+use Rattle.std.specs.Prelude.{ℕ, ◌≡◌, ◌<◌, List, None}
+use Rattle.vd_device.specs.declared.store.Store as store
+use Rattle.vd_device.specs.declared.base.Base as base
+use Rattle.vd_io.specs.declared.source.Source as source
 use Rattle.vd_format.specs.declared.header.Header.{Header}
+use Rattle.vd_format.specs.Layouts.{need_of}
 use Rattle.vd_command.specs.declared.command.Command.TheVariants.{Show}
 use Rattle.vd_command.specs.Words.{Spells}
 use Rattle.vd_report.specs.declared.line.Line.TheVariants.{BadWords}
+use Rattle.vd_top.specs.declared.ending.End.{End}
+use Rattle.vd_top.specs.Devices.{Devices, devices}
 use Rattle.vd_top.specs.Outcomes.{Outcome, Says}
 use Rattle.vd_top.specs.Showing.{Finds, IsNoShow}
-use Rattle.vd_top.specs.Running.{IsNoRun}
+use Rattle.vd_top.specs.Running.{AsksRun, IsNoRun, RunEnds}
 use Rattle.vd_top.specs.Making.{AsksFor, IsNoMake, MakingEnds}
+use Rattle.vd_top.specs.Images.{Makes}
 
 -- the words are none of the commands that are done
 abbrev pub IsNoCommand : List (List ℕ) → Type 0
 IsNoCommand words = IsNoShow words × IsNoMake words × IsNoRun words
 
--- the answer to words, on a store and a base of so many sectors that hold these where they tell it
-pub data Answers (words : List (List ℕ)) (told : Type 0) (sectors base_sectors : ℕ) (held base : List Sector) (StoreFailed BaseFailed : ℕ → Type 0) : Outcome → Type 0 where
-  Outside : IsNoCommand words → Answers words told sectors base_sectors held base StoreFailed BaseFailed (Says BadWords)
-  Shows : (first count : ℕ) (outcome : Outcome) → Spells words (Show first count) → Finds told held base first count StoreFailed BaseFailed outcome
-      → Answers words told sectors base_sectors held base StoreFailed BaseFailed outcome
-  Makes : (h : Header) (outcome : Outcome) → AsksFor words base_sectors h → MakingEnds h sectors StoreFailed outcome
-      → Answers words told sectors base_sectors held base StoreFailed BaseFailed outcome
+module _ {S B : Type 0} (g : store.Ghosts S) (h : base.Ghosts B) where
+  -- the answer to words that are no run
+  pub data Answers (words : List (List ℕ)) (d d' : Devices S B) : Outcome → Type 0 where
+    Outside : IsNoCommand words → Answers words d d' (Says BadWords)
+    Shows : (first count : ℕ) (outcome : Outcome) → Spells words (Show first count) → Finds g h first count d d' outcome → Answers words d d' outcome
+    Is_made_for : (header : Header) (outcome : Outcome) → AsksFor words (h.sectors d.base) header → MakingEnds g header d.store d'.store outcome → Answers words d d' outcome
+
+  -- what making leaves of the image that the words ask for, where they do
+  abbrev pub MakesWhatIsAsked : (words : List (List ℕ)) (status : ℕ) → (d d' : Devices S B) → Type 0
+  MakesWhatIsAsked words status d d' = (header : Header) → AsksFor words (h.sectors d.base) header → Makes g header status d.store d'.store
+
+  -- the words ask for no image that has room
+  abbrev pub HasNoRoomFor : (words : List (List ℕ)) → Devices S B → Type 0
+  HasNoRoomFor words d = (header : Header) → AsksFor words (h.sectors d.base) header → g.sectors d.store < need_of header
+
+module _ {S B I : Type 0} (g : store.Ghosts S) (h : base.Ghosts B) (i : source.Ghosts I) where
+  -- The answer to words, with what was handed out. The source is only read by a run.
+  pub data IsDone (words : List (List ℕ)) (d : Devices S B) (end : End S B) (source source' : I) : Outcome → Type 0 where
+    Is_answered : (outcome : Outcome) → IsNoRun words → source' ≡ source → end.history ≡ None → Answers g h words d (devices end.store end.base) outcome
+        → IsDone words d end source source' outcome
+    Is_run : (outcome : Outcome) → AsksRun words → RunEnds g h i d end source source' outcome → IsDone words d end source source' outcome

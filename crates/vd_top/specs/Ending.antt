@@ -4,6 +4,7 @@ use Rattle.std.specs.List.{list_all, list_any, flat_map}
 use Rattle.vd_law.specs.Entries.{Entry, Reply}
 use Rattle.vd_law.specs.Rules.{is_ok}
 use Rattle.vd_report.specs.Replies.{history_text, sum_text}
+use Rattle.vd_io.specs.declared.sink.Sink as sink
 use Rattle.vd_io.specs.Streams.{Rose, WritesPart}
 use Rattle.vd_report.specs.declared.line.Line.{Line}
 use Rattle.vd_report.specs.declared.line.Line.TheVariants as lines
@@ -12,6 +13,7 @@ use Rattle.vd_report.specs.declared.line.About.TheVariants as about
 use Rattle.vd_report.specs.Lines.{line_text, about_text}
 use Rattle.vd_report.specs.Tokens.{show_text}
 use Rattle.vd_top.specs.Statuses.{status_of_line}
+use Rattle.vd_top.specs.Streams.{KeepsSink}
 use Rattle.vd_top.specs.Outcomes.{ShownLine, Sectors, Failed, Reopened, Refused, Opened, Outcome, Says, Shown, Reported}
 
 -- each reply is Ok
@@ -68,7 +70,7 @@ unwritten (suc zero) = 6
 unwritten (suc (suc n)) = suc (suc n)
 
 -- The text was written, and the status is the outcome's; or the sink failed, and a front of the text was written.
-abbrev pub Ends : Outcome → (status faults faults' : ℕ) (tells : Type 0) (written written' : List ℕ) → Type 0
-Ends outcome status faults faults' tells written written' =
-    ((status ≡ status_of outcome) × (tells → written' ≡ written ++ text_of outcome))
-    ⊎ ((status ≡ unwritten (status_of outcome)) × Rose faults faults' × (tells → WritesPart (text_of outcome) written written'))
+pub record Ends {O : Type 0} (o : sink.Ghosts O) (outcome : Outcome) (status : ℕ) (out out' : O) : Type 0 where
+  pub keeps : KeepsSink o out out'
+  pub printed : ((status ≡ status_of outcome) × (o.tells out' → o.written out' ≡ o.written out ++ text_of outcome))
+      ⊎ ((status ≡ unwritten (status_of outcome)) × Rose (o.faults out) (o.faults out') × (o.tells out' → WritesPart (text_of outcome) (o.written out) (o.written out')))

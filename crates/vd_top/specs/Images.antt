@@ -9,6 +9,7 @@ use Rattle.vd_format.specs.declared.header.Header.{Header}
 use Rattle.vd_format.specs.declared.header.HeaderError.TheVariants.{NotImage}
 use Rattle.vd_format.specs.Headers.{header_of}
 use Rattle.vd_format.specs.Layouts.{storage_start}
+use Rattle.vd_device.specs.declared.store.Store as store
 use Rattle.vd_device.specs.Disks.{Disk}
 use Rattle.vd_image.specs.Image.{background, HasNoLater, DiskHas}
 use Rattle.vd_image.specs.Layouts.{layout_of}
@@ -16,6 +17,7 @@ use Rattle.vd_image.specs.Decoders.{format_of}
 use Rattle.vd_image.specs.Openings.{Opens}
 use Rattle.vd_image.specs.CrashImages.{sectors_or, IsCrashImage}
 use Rattle.vd_image.specs.Made.{zero_sector, header_sector}
+use Rattle.vd_top.specs.Making.{IsWhole}
 use Rattle.vd_top.specs.Putting.{AreAll}
 
 -- The store's sectors are a new image with this header: it opens, no slot has a record of a later generation, and over
@@ -53,3 +55,9 @@ pub record MakesSafely (h : Header) (old new : Disk) : Type 0 where
 pub record HasNewImage (h : Header) (d : Disk) : Type 0 where
   pub held : IsNewImage h d.held
   pub durable : (image : List Sector) → IsCrashImage d.start d.log image → IsNewImage h image
+
+-- What `make` with this status leaves of a store: its making leaves no image or the whole one wherever it is cut off, and what it
+-- has made is whole.
+pub record Makes {S : Type 0} (g : store.Ghosts S) (h : Header) (status : ℕ) (s s' : S) : Type 0 where
+  pub safe : g.tells s' → g.records s' → MakesSafely h (g.disk s) (g.disk s')
+  pub made : IsWhole status → g.tells s' → g.records s' → HasNewImage h (g.disk s')

@@ -1,5 +1,7 @@
 pub mod Statuses
 pub mod Outcomes
+pub mod Devices
+pub mod Streams
 pub mod Showing
 pub mod Making
 pub mod Writing
@@ -9,6 +11,5 @@ pub mod Running
 pub mod Commands
 pub mod Tasks
 pub mod Ending
-pub mod Leaving
 pub mod Putting
 pub mod Images

@@ -2,6 +2,8 @@
 use Rattle.std.specs.Prelude.{ℕ, ◌≡◌, ◌<◌, ◌≤◌, ◌⊎◌, min, List}
 use Rattle.vd_format.specs.declared.header.Header.{Header}
 use Rattle.vd_format.specs.Layouts.{need_of}
+use Rattle.vd_device.specs.declared.store.Store as store
+use Rattle.vd_reading.specs.Quiet.{OnlyReads, IsCallFault}
 use Rattle.vd_command.specs.declared.command.Command.TheVariants.{Make}
 use Rattle.vd_command.specs.Words.{Spells, made}
 use Rattle.vd_report.specs.declared.line.Line.TheVariants as lines
@@ -25,13 +27,14 @@ pub record AsksFor (words : List (List ℕ)) (base_sectors : ℕ) (h : Header) :
 abbrev pub IsNoMake : List (List ℕ) → Type 0
 IsNoMake words = (size block chunk storage slots : ℕ) → Spells words (Make size block chunk storage slots) → ⊥
 
--- What becomes of making the image with this header on a store of so many sectors: it has too few, or there is no memory,
--- which is free, or a call fails, or the image is made.
-pub data MakingEnds (h : Header) (sectors : ℕ) (StoreFailed : ℕ → Type 0) : Outcome → Type 0 where
-  Too_few : sectors < need_of h → MakingEnds h sectors StoreFailed (Says (lines.TooSmall (need_of h) sectors))
-  Lacks_memory : need_of h ≤ sectors → MakingEnds h sectors StoreFailed (Says lines.NoMemory)
-  Write_failed : (ticket : ℕ) → need_of h ≤ sectors → StoreFailed ticket → MakingEnds h sectors StoreFailed (Says (lines.StoreFault ticket))
-  Is_made : need_of h ≤ sectors → MakingEnds h sectors StoreFailed (Says (lines.Made (need_of h)))
+module _ {S : Type 0} (g : store.Ghosts S) where
+  -- What becomes of making the image with this header: the store has too few sectors, or there is no memory, which is free, and
+  -- then nothing is written; or a call fails, or the image is made.
+  pub data MakingEnds (h : Header) (s s' : S) : Outcome → Type 0 where
+    Too_few : g.sectors s < need_of h → OnlyReads g s s' → MakingEnds h s s' (Says (lines.TooSmall (need_of h) (g.sectors s)))
+    Lacks_memory : need_of h ≤ g.sectors s → OnlyReads g s s' → MakingEnds h s s' (Says lines.NoMemory)
+    Write_failed : (ticket : ℕ) → need_of h ≤ g.sectors s → IsCallFault g s s' ticket → MakingEnds h s s' (Says (lines.StoreFault ticket))
+    Is_made : need_of h ≤ g.sectors s → MakingEnds h s s' (Says (lines.Made (need_of h)))
 
 -- the image was made, whether or not this could be printed
 abbrev pub IsWhole : (status : ℕ) → Type 0

@@ -83,7 +83,7 @@ KeptBy (Ok done) v from to more d = IsKept v from to more d
 KeptBy (Err number) v from to more d = AllByRecursion IsNoSuccess more
 
 -- a range was written and flushed, or this was tried
-pub record Keeps (result : Result ⊤ ℕ) (v : Sector) (from to : ℕ) (old new : Disk) : Type 0 where
+pub record Fills (result : Result ⊤ ℕ) (v : Sector) (from to : ℕ) (old new : Disk) : Type 0 where
   pub more : List Entry
   pub puts : Puts v from to more old new
   pub kept : KeptBy result v from to more new

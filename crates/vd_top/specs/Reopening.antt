@@ -5,6 +5,10 @@ use Rattle.std.specs.List.{Contains}
 use Rattle.vd_law.specs.declared.entry.Sector.{Sector}
 use Rattle.vd_law.specs.Entries.{Entry}
 use Rattle.vd_law.specs.Contents.{could, may}
+use Rattle.vd_device.specs.declared.store.Store as store
+use Rattle.vd_device.specs.declared.base.Base as base
+use Rattle.vd_device.specs.Calls.{Rose}
+use Rattle.vd_reading.specs.Quiet.{IsLoggedFault, IsStoreFault}
 use Rattle.vd_format.specs.declared.header.Header.{Header}
 use Rattle.vd_bits.specs.Marks.{count_true}
 use Rattle.vd_image.specs.Image.{geometry_of, IsLocal}
@@ -16,32 +20,13 @@ use Rattle.vd_replay.specs.Refusals.{RefusedAgain}
 use Rattle.vd_replay.specs.declared.error.OpenError.{OpenError}
 use Rattle.vd_trace.specs.Traces.{Showing}
 use Rattle.vd_report.specs.declared.line.Line.TheVariants as lines
+use Rattle.vd_top.specs.Devices.{Devices, AreTold}
 use Rattle.vd_top.specs.Outcomes.{ShownLine, Sectors, Failed, Reopened, Refused, Opened}
 use Rattle.vd_top.specs.Showing.{show_line, IsJudged, ShowsDisk}
-
--- What a line of the trace shows of the image with this header: the sectors of its range, or the ticket with which a device has failed.
-pub data IsShownBy (told : Type 0) (held base : List Sector) (h : Header) (StoreFailed : ℕ → Type 0) (BaseFailed : Type 0) (line : Showing) : ShownLine → Type 0 where
-  Is_read : (sectors : List Sector) → length sectors ≡ line.count → (told → ShowsDisk held base h line.first sectors) → IsShownBy told held base h StoreFailed BaseFailed line (Sectors line.first sectors)
-  Store_failed : (ticket : ℕ) → StoreFailed ticket → IsShownBy told held base h StoreFailed BaseFailed line (Failed line.first (lines.StoreFault ticket))
-  Base_failed : (ticket : ℕ) → BaseFailed → IsShownBy told held base h StoreFailed BaseFailed line (Failed line.first (lines.BaseFault ticket))
-
--- each of these lines, in order, shows this
-pub record AreShownBy (told : Type 0) (held base : List Sector) (h : Header) (StoreFailed : ℕ → Type 0) (BaseFailed : Type 0) (trace_lines : List Showing) (shown : List ShownLine) : Type 0 where
-  pub many : length shown ≡ length trace_lines
-  pub each : (i : ℕ) (line : Showing) (shows : ShownLine) → slice_get trace_lines i ≡ Some line → slice_get shown i ≡ Some shows → IsShownBy told held base h StoreFailed BaseFailed line shows
 
 -- the block is local in the image with this header
 abbrev pub IsLocalIn : (held : List Sector) → Header → (block : ℕ) → Type 0
 IsLocalIn held h block = (storage : ℕ) × IsLocal (format_of h) (layout_of h) (image_of held) h.generation block storage
-
--- so many blocks begin in the tracked part of the disk, and so many of these are local
-pub record AreLocal (told : Type 0) (held : List Sector) (h : Header) (local of : ℕ) : Type 0 where
-  pub of_is : of ≡ div_ceil h.tracked h.block
-  -- whether each of them is
-  pub are : List Bool
-  pub many : length are ≡ of
-  pub local_is : local ≡ count_true are
-  pub each : told → (b : ℕ) (is : Bool) → slice_get are b ≡ Some is → (is ≡ true) ↔ IsLocalIn held h b
 
 -- Each sector that a line shows is one that the history allows and, behind a closing that succeeded, one that could stand there.
 abbrev pub IsAllowedLine : (start : List Sector) → List Entry → (closed : Type 0) → ShownLine → Type 0
@@ -54,11 +39,36 @@ pub data IsAllowed (start : List Sector) (entries : List Entry) (closed : Type 0
   Device_failed : (ticket : ℕ) → IsAllowed start entries closed (Refused (lines.StoreFault ticket))
   Shows_allowed : (shown : List ShownLine) (local of : ℕ) → ((i : ℕ) (line : ShownLine) → slice_get shown i ≡ Some line → IsAllowedLine start entries closed line) → IsAllowed start entries closed (Opened shown local of)
 
--- How the image opens again that had the header `kept`: the store failed; or it is refused by what the store holds; or it opens by
--- the header that it has now, and what is shown and counted is what the store holds.
-pub data Reopens (kept : Header) (trace_lines : List Showing) (told base_told : Type 0) (held base : List Sector) (StoreFault StoreFailed : ℕ → Type 0) (BaseFailed : Type 0) : Reopened → Type 0 where
-  Reopening_failed : (ticket : ℕ) → StoreFault ticket → Reopens kept trace_lines told base_told held base StoreFault StoreFailed BaseFailed (Refused (lines.StoreFault ticket))
-  Is_refused_again : (e : OpenError) → IsJudged e → (told → RefusedAgain kept held e) → Reopens kept trace_lines told base_told held base StoreFault StoreFailed BaseFailed (Refused (show_line e))
-  Opens_again : (h : Header) (shown : List ShownLine) (local of : ℕ) → geometry_of h ≡ geometry_of kept → (told → Opens (length held) (image_of held) h)
-      → AreShownBy (told × base_told) held base h StoreFailed BaseFailed trace_lines shown → AreLocal told held h local of
-      → Reopens kept trace_lines told base_told held base StoreFault StoreFailed BaseFailed (Opened shown local of)
+module _ {S : Type 0} (g : store.Ghosts S) where
+  -- so many blocks begin in the tracked part of the disk, and so many of these are local in what the store holds
+  pub record AreLocal (h : Header) (s : S) (local of : ℕ) : Type 0 where
+    pub of_is : of ≡ div_ceil h.tracked h.block
+    -- whether each of them is
+    pub are : List Bool
+    pub many : length are ≡ of
+    pub local_is : local ≡ count_true are
+    pub each : g.tells s → (b : ℕ) (is : Bool) → slice_get are b ≡ Some is → (is ≡ true) ↔ IsLocalIn (g.disk s).held h b
+
+module _ {S B : Type 0} (g : store.Ghosts S) (h : base.Ghosts B) where
+  -- What a line of the trace shows of the image with this header that the devices hold in the end: the sectors of its range, or the
+  -- ticket with which a device has failed since the devices were as at first.
+  pub data IsShownBy (header : Header) (d d' : Devices S B) (line : Showing) : ShownLine → Type 0 where
+    Is_read : (sectors : List Sector) → length sectors ≡ line.count → (AreTold g h d' → ShowsDisk (g.disk d'.store).held (h.content d'.base) header line.first sectors)
+        → IsShownBy header d d' line (Sectors line.first sectors)
+    Store_failed : (ticket : ℕ) → IsLoggedFault g d.store d'.store ticket → IsShownBy header d d' line (Failed line.first (lines.StoreFault ticket))
+    Base_failed : (ticket : ℕ) → Rose (h.faults d.base) (h.faults d'.base) → IsShownBy header d d' line (Failed line.first (lines.BaseFault ticket))
+
+  -- each of these lines, in order, shows this
+  pub record AreShownBy (header : Header) (d d' : Devices S B) (trace_lines : List Showing) (shown : List ShownLine) : Type 0 where
+    pub many : length shown ≡ length trace_lines
+    pub each : (i : ℕ) (line : Showing) (shows : ShownLine) → slice_get trace_lines i ≡ Some line → slice_get shown i ≡ Some shows → IsShownBy header d d' line shows
+
+  -- How the image opens again that had the header `kept`: the store failed; or it is refused by what the store holds; or it opens by
+  -- the header that it has now, and what is shown and counted is what the store holds. Each failed ticket that is named is one of a
+  -- call since the devices were as at first.
+  pub data Reopens (kept : Header) (trace_lines : List Showing) (d d' : Devices S B) : Reopened → Type 0 where
+    Reopening_failed : (ticket : ℕ) → IsStoreFault g d.store d'.store ticket → Reopens kept trace_lines d d' (Refused (lines.StoreFault ticket))
+    Is_refused_again : (e : OpenError) → IsJudged e → (g.tells d'.store → RefusedAgain kept (g.disk d'.store).held e) → Reopens kept trace_lines d d' (Refused (show_line e))
+    Opens_again : (header : Header) (shown : List ShownLine) (local of : ℕ) → geometry_of header ≡ geometry_of kept
+        → (g.tells d'.store → Opens (length (g.disk d'.store).held) (image_of (g.disk d'.store).held) header)
+        → AreShownBy header d d' trace_lines shown → AreLocal g header d'.store local of → Reopens kept trace_lines d d' (Opened shown local of)

@@ -1,6 +1,9 @@
 -- What `show` answers: sectors, or one line that says why not.
 use Rattle.std.specs.Prelude.{ℕ, ◌≡◌, ◌+◌, ◌<◌, ◌≤◌, ◌⊎◌, true, List, length, Some, ⊤, Result, Ok, Err, slice_get}
 use Rattle.vd_law.specs.declared.entry.Sector.{Sector}
+use Rattle.vd_device.specs.declared.store.Store as store
+use Rattle.vd_device.specs.declared.base.Base as base
+use Rattle.vd_reading.specs.Quiet.{IsCallFault, IsFault}
 use Rattle.vd_format.specs.declared.header.Header.{Header}
 use Rattle.vd_format.specs.declared.header.HeaderError.{HeaderError}
 use Rattle.vd_format.specs.declared.header.HeaderError.TheVariants as header_errors
@@ -24,6 +27,7 @@ use Rattle.vd_command.specs.Words.{Spells}
 use Rattle.vd_report.specs.declared.line.Line.{Line}
 use Rattle.vd_report.specs.declared.line.Line.TheVariants as lines
 use Rattle.vd_top.specs.Statuses.{status_of_line}
+use Rattle.vd_top.specs.Devices.{Devices, AreTold}
 use Rattle.vd_top.specs.Outcomes.{Outcome, Says, Shown}
 
 abbrev pub header_line : HeaderError → Line
@@ -88,15 +92,17 @@ abbrev pub outcome_of : Result ⊤ Line → (first : ℕ) → List Sector → Ou
 outcome_of (Ok found) first sectors = Shown first sectors
 outcome_of (Err line) first sectors = Says line
 
--- What is found: there is no memory, which is free, or a device failed, or the image decides, by what the devices hold
--- where they tell it: it is refused, with status 3 or 8, or the range lies past its disk, or its sectors are shown.
-pub data Finds (told : Type 0) (held base : List Sector) (first count : ℕ) (StoreFailed BaseFailed : ℕ → Type 0) : Outcome → Type 0 where
-  Without_memory : Finds told held base first count StoreFailed BaseFailed (Says lines.NoMemory)
-  Store_failed : (ticket : ℕ) → StoreFailed ticket → Finds told held base first count StoreFailed BaseFailed (Says (lines.StoreFault ticket))
-  Base_failed : (ticket : ℕ) → BaseFailed ticket → Finds told held base first count StoreFailed BaseFailed (Says (lines.BaseFault ticket))
-  Image_refused : (e : refusal.OpenError) → IsJudged e → (told → Refused 1 held e) → Finds told held base first count StoreFailed BaseFailed (Says (show_line e))
-  Past_the_disk : (told → IsPastDisk held first count) → Finds told held base first count StoreFailed BaseFailed (Says lines.PastTheDisk)
-  Is_shown : (sectors : List Sector) → length sectors ≡ count → (told → IsInDisk held base first count sectors) → Finds told held base first count StoreFailed BaseFailed (Shown first sectors)
+module _ {S B : Type 0} (g : store.Ghosts S) (h : base.Ghosts B) where
+  -- What is found: there is no memory, which is free, or a device failed, or the image decides, by what the devices held as they
+  -- were handed in, where they tell it: it is refused, with status 3 or 8, or the range lies past its disk, or its sectors are shown.
+  pub data Finds (first count : ℕ) (d d' : Devices S B) : Outcome → Type 0 where
+    Without_memory : Finds first count d d' (Says lines.NoMemory)
+    Store_failed : (ticket : ℕ) → IsCallFault g d.store d'.store ticket → Finds first count d d' (Says (lines.StoreFault ticket))
+    Base_failed : (ticket : ℕ) → IsFault h d.base d'.base ticket → Finds first count d d' (Says (lines.BaseFault ticket))
+    Image_refused : (e : refusal.OpenError) → IsJudged e → (AreTold g h d' → Refused 1 (g.disk d.store).held e) → Finds first count d d' (Says (show_line e))
+    Past_the_disk : (AreTold g h d' → IsPastDisk (g.disk d.store).held first count) → Finds first count d d' (Says lines.PastTheDisk)
+    Is_shown : (sectors : List Sector) → length sectors ≡ count → (AreTold g h d' → IsInDisk (g.disk d.store).held (h.content d.base) first count sectors)
+        → Finds first count d d' (Shown first sectors)
 
 -- the words are no `show`
 abbrev pub IsNoShow : List (List ℕ) → Type 0

@@ -4,14 +4,13 @@ ghost use Rattle.std.specs.Prelude.{◌≡◌, ℕ, ◌<◌, ◌≤◌, ◌↔�
 ghost use Rattle.vd_format.specs.declared.header.Header.{Header as AnyHeader};
 ghost use Rattle.vd_format.specs.Layouts.{need_of};
 ghost use Rattle.vd_io.specs.Streams.{Rose};
-ghost use Rattle.vd_reading.specs.Quiet.{OnlyReads, OnlyReadsBase, IsFault};
+ghost use Rattle.vd_reading.specs.Quiet.{OnlyReads};
+ghost use Rattle.vd_top.specs.Devices.{devices, Leaves, HaveFailed};
 ghost use Rattle.vd_top.specs.Outcomes.{Outcome};
-ghost use Rattle.vd_top.specs.Making.{AsksFor, IsNoMake, IsWhole};
-ghost use Rattle.vd_top.specs.Commands.{Answers, IsNoCommand};
-ghost use Rattle.vd_top.specs.Running.{AsksRun, IsNoRun, RunEnds};
+ghost use Rattle.vd_top.specs.Making.{AsksFor, IsNoMake};
+ghost use Rattle.vd_top.specs.Commands.{Answers, HasNoRoomFor, IsDone, IsNoCommand, MakesWhatIsAsked};
+ghost use Rattle.vd_top.specs.Running.{AsksRun, IsNoRun};
 ghost use Rattle.vd_top.specs.Ending.{Ends};
-ghost use Rattle.vd_top.specs.Leaving.{Leaves};
-ghost use Rattle.vd_top.specs.Images.{MakesSafely, HasNewImage};
 ghost use Rattle.vd_top.specs.Tasks.{IsTask};
 
 use crate::ending::End;
@@ -25,6 +24,7 @@ use vd_device::{Base, Store};
 use vd_header::{Header, layout_of};
 use vd_io::sink::Sink;
 use vd_io::source::Source;
+use vd_reading::sectors_at_rest;
 use vd_report::line::Line;
 
 /// What is to be done.
@@ -114,18 +114,14 @@ fn obey<S: Store, B: Base, O: Sink>(
     requires store_idle { S.flies store.old [] }
     requires base_idle { B.flies base.old [] }
     requires no_run { IsNoRun (map string_bytes words.now) }
-    ensures answer { (outcome : Outcome)
-        × Answers (map string_bytes words.now) (S.tells store.new × B.tells base.new) (S.sectors store.old) (B.sectors base.old) (S.disk store.old).held (B.content base.old)
-        (λ ticket. IsFault ticket (S.last store.new) (S.faults store.old) (S.faults store.new)) (λ ticket. IsFault ticket (B.last base.new) (B.faults base.old) (B.faults base.new)) outcome
-        × Ends outcome result (O.faults out.old) (O.faults out.new) (O.tells out.new) (O.written out.old) (O.written out.new) }
-    ensures store { Leaves (S.flies store.new []) (S.sectors store.old) (S.sectors store.new) (S.depth store.old) (S.depth store.new) (S.faults store.old) (S.faults store.new) (S.tells store.old) (S.tells store.new) (S.records store.old) (S.records store.new) }
-    ensures unwritten { ((h : AnyHeader) → AsksFor (map string_bytes words.now) (B.sectors base.old) h → S.sectors store.old < need_of h) → OnlyReads (S.flies store.new []) (S.sectors store.old) (S.sectors store.new) (S.depth store.old) (S.depth store.new) (S.faults store.old) (S.faults store.new) (S.tells store.old) (S.tells store.new) (S.records store.old) (S.records store.new) (S.disk store.old) (S.disk store.new) }
-    ensures safe { (h : AnyHeader) → AsksFor (map string_bytes words.now) (B.sectors base.old) h → S.tells store.new → S.records store.new → MakesSafely h (S.disk store.old) (S.disk store.new) }
-    ensures made { (h : AnyHeader) → AsksFor (map string_bytes words.now) (B.sectors base.old) h → IsWhole result → S.tells store.new → S.records store.new → HasNewImage h (S.disk store.new) }
-    ensures base { OnlyReadsBase (B.flies base.new []) (B.sectors base.old) (B.sectors base.new) (B.faults base.old) (B.faults base.new) (B.tells base.old) (B.tells base.new) (B.content base.old) (B.content base.new) }
-    ensures told_before { O.tells out.new → O.tells out.old }
-    ensures calm { O.faults out.old ≤ O.faults out.new }
+    ensures answer { (outcome : Outcome) × Answers S.Store B.Base (map string_bytes words.now) (devices store.old base.old) (devices store.new base.new) outcome
+        × Ends O.Sink outcome result out.old out.new }
+    ensures makes { MakesWhatIsAsked S.Store B.Base (map string_bytes words.now) result (devices store.old base.old) (devices store.new base.new) }
+    ensures unwritten { HasNoRoomFor S.Store B.Base (map string_bytes words.now) (devices store.old base.old) → OnlyReads S.Store store.old store.new }
+    ensures leaves { Leaves S.Store B.Base (devices store.old base.old) (devices store.new base.new) }
 {
+    // For what its clause says alone: the store is ready.
+    let _sectors = sectors_at_rest(store);
     match task_of(words, base.sectors()) {
         Task::Show { first, count } => show(alloc, out, store, base, first, count),
         Task::Make(header) => make(alloc, out, store, &header),
@@ -157,37 +153,26 @@ pub fn still<S: Store, B: Base, I: Source, O: Sink>(
     requires store_idle { S.flies store [] }
     requires base_idle { B.flies base [] }
 
-    // What was answered, how it was printed, and the status.
-    ensures answer { IsNoRun (map string_bytes words.now) → (outcome : Outcome)
-        × Answers (map string_bytes words.now) (S.tells result.store × B.tells result.base) (S.sectors store) (B.sectors base) (S.disk store).held (B.content base)
-        (λ ticket. IsFault ticket (S.last result.store) (S.faults store) (S.faults result.store)) (λ ticket. IsFault ticket (B.last result.base) (B.faults base) (B.faults result.base)) outcome
-        × Ends outcome result.status (O.faults out.old) (O.faults out.new) (O.tells out.new) (O.written out.old) (O.written out.new) }
-
-    // What a run was answered: why no guest was served; or the report of a legal history, which is handed out, and of the
-    // image that it has left. Each ticket that the reopening or a line that shows sectors names as a store fault has a Reply
-    // in the told log that isn't Ok, behind the serving.
-    ensures ran { AsksRun (map string_bytes words.now) → (outcome : Outcome)
-        × RunEnds (I.tells trace.new) (I.rest trace.old) (Rose (I.faults trace.old) (I.faults trace.new)) (S.tells result.store) (B.tells result.base) (S.disk store) (S.disk result.store) (B.content base) (B.sectors base)
-        (λ ticket. IsFault ticket (S.last result.store) (S.faults store) (S.faults result.store)) (S.faults store) (S.faults result.store) (B.faults base) (B.faults result.base) result.history outcome
-        × Ends outcome result.status (O.faults out.old) (O.faults out.new) (O.tells out.new) (O.written out.old) (O.written out.new) }
+    // What was answered, how it was printed, and the status. A run is answered by one line, which says why no guest was served;
+    // or by the report of a legal history, which is handed out, and of the image that it has left. Each ticket that the reopening
+    // or a line that shows sectors names as a store fault has a Reply in the told log that isn't Ok, behind the serving.
+    ensures answer { (outcome : Outcome) × IsDone S.Store B.Base I.Source (map string_bytes words.now) (devices store base) result trace.old trace.new outcome
+        × Ends O.Sink outcome result.status out.old out.new }
 
     // The causes of statuses.
     ensures outside { (result.status ≡ 2) ↔ IsNoCommand (map string_bytes words.now) }
-    ensures device { result.status ≡ 5 → Rose (S.faults store) (S.faults result.store) ⊎ Rose (B.faults base) (B.faults result.base) }
+    ensures device { result.status ≡ 5 → HaveFailed S.Store B.Base (devices store base) (devices result.store result.base) }
     ensures streams { result.status ≡ 6 → Rose (I.faults trace.old) (I.faults trace.new) ⊎ Rose (O.faults out.old) (O.faults out.new) }
 
     // A made image is whole, and its making leaves no image or the whole one wherever it is cut off.
-    ensures made { (h : AnyHeader) → AsksFor (map string_bytes words.now) (B.sectors base) h → IsWhole result.status → S.tells result.store → S.records result.store → HasNewImage h (S.disk result.store) }
-    ensures safe { (h : AnyHeader) → AsksFor (map string_bytes words.now) (B.sectors base) h → S.tells result.store → S.records result.store → MakesSafely h (S.disk store) (S.disk result.store) }
+    ensures makes { MakesWhatIsAsked S.Store B.Base (map string_bytes words.now) result.status (devices store base) (devices result.store result.base) }
 
-    // Nothing is written but by a run and where the words make an image that has room, and nothing is left in flight.
-    ensures unwritten { IsNoRun (map string_bytes words.now) → ((h : AnyHeader) → AsksFor (map string_bytes words.now) (B.sectors base) h → S.sectors store < need_of h) → OnlyReads (S.flies result.store []) (S.sectors store) (S.sectors result.store) (S.depth store) (S.depth result.store) (S.faults store) (S.faults result.store) (S.tells store) (S.tells result.store) (S.records store) (S.records result.store) (S.disk store) (S.disk result.store) }
-    ensures store { Leaves (S.flies result.store []) (S.sectors store) (S.sectors result.store) (S.depth store) (S.depth result.store) (S.faults store) (S.faults result.store) (S.tells store) (S.tells result.store) (S.records store) (S.records result.store) }
-    ensures base { OnlyReadsBase (B.flies result.base []) (B.sectors base) (B.sectors result.base) (B.faults base) (B.faults result.base) (B.tells base) (B.tells result.base) (B.content base) (B.content result.base) }
-    ensures told_before { O.tells out.new → O.tells out.old }
-    ensures calm { O.faults out.old ≤ O.faults out.new }
-    ensures unread { IsNoRun (map string_bytes words.now) → trace.new ≡ trace.old }
-    ensures history { IsNoRun (map string_bytes words.now) → result.history ≡ None }
+    // Nothing is written but by a run that serves a guest and where the words make an image that has room; and nothing is left in flight.
+    ensures unwritten { result.history ≡ None → HasNoRoomFor S.Store B.Base (map string_bytes words.now) (devices store base) → OnlyReads S.Store store result.store }
+    ensures leaves { Leaves S.Store B.Base (devices store base) (devices result.store result.base) }
+
+    // No other command reads the source or has a history.
+    ensures alone { IsNoRun (map string_bytes words.now) → (trace.new ≡ trace.old) × (result.history ≡ None) }
 {
     if is_run(words) {
         return run(alloc, trace, out, store, base);

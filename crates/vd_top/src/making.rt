@@ -3,14 +3,14 @@
 ghost use Rattle.std.specs.Prelude.{◌≡◌, ◌≤◌, ◌<◌, [], length, OnOk, IfErr};
 ghost use Rattle.vd_format.specs.Headers.{IsValid};
 ghost use Rattle.vd_format.specs.Layouts.{storage_start, need_of};
-ghost use Rattle.vd_reading.specs.Quiet.{IsReady, OnlyReads, IsFault};
+ghost use Rattle.vd_device.specs.Stores.{KeepsStore};
+ghost use Rattle.vd_reading.specs.Quiet.{IsReady, OnlyReads, IsCallFault};
 ghost use Rattle.vd_image.specs.Made.{zero_sector, header_sector};
 ghost use Rattle.vd_top.specs.Outcomes.{Outcome};
 ghost use Rattle.vd_top.specs.Ending.{Ends};
-ghost use Rattle.vd_top.specs.Leaving.{Leaves};
 ghost use Rattle.vd_top.specs.Putting.{AreAll, Story, IsWritten};
-ghost use Rattle.vd_top.specs.Images.{MakesSafely, HasNewImage};
-ghost use Rattle.vd_top.specs.Making.{MakingEnds, IsWhole};
+ghost use Rattle.vd_top.specs.Images.{Makes};
+ghost use Rattle.vd_top.specs.Making.{MakingEnds};
 
 use crate::filling::fill;
 use crate::printing::say;
@@ -27,7 +27,7 @@ use vd_report::line::Line;
 fn sectors_to_write<S: Store>(store: &S) -> u64
     requires idle { S.flies store.now [] }
     ensures value { result ≡ S.sectors store.now }
-    ensures ready { IsReady (S.flies store.now []) (S.depth store.now) (S.tells store.now) (S.disk store.now) }
+    ensures ready { IsReady S.Store store.now }
     ensures held { S.tells store.now → length (S.disk store.now).held ≡ result }
     ensures start { S.records store.now → length (S.disk store.now).start ≡ result }
 {
@@ -37,12 +37,13 @@ fn sectors_to_write<S: Store>(store: &S) -> u64
 
 /// Writes the image. Its first sector is zeros until all else is durable, so that a crash leaves no image or the whole one.
 fn write_image<S: Store>(store: &mut S, zeros: &[Sector], header: &Header) -> Result<(), u64>
-    requires ready { IsReady (S.flies store.old []) (S.depth store.old) (S.tells store.old) (S.disk store.old) }
+    requires ready { IsReady S.Store store.old }
     requires zeros { AreAll zero_sector zeros.now × (length zeros.now ≡ MOST) }
     requires valid { IsValid header.now }
     requires large { need_of header.now ≤ S.sectors store.old }
-    ensures fault { IfErr result (λ number. IsFault number (S.last store.new) (S.faults store.old) (S.faults store.new)) }
-    ensures leaves { Leaves (S.flies store.new []) (S.sectors store.old) (S.sectors store.new) (S.depth store.old) (S.depth store.new) (S.faults store.old) (S.faults store.new) (S.tells store.old) (S.tells store.new) (S.records store.old) (S.records store.new) }
+    ensures fault { IfErr result (IsCallFault S.Store store.old store.new) }
+    ensures idle { S.flies store.new [] }
+    ensures keeps { KeepsStore S.Store store.old store.new }
     ensures story { S.tells store.new → Story (header_sector header.now) zero_sector (storage_start header.now) (S.disk store.old) (S.disk store.new) }
     ensures written { OnOk result (S.tells store.new → IsWritten (header_sector header.now) zero_sector (storage_start header.now) (S.disk store.new)) }
 {
@@ -59,14 +60,11 @@ pub fn make<S: Store, O: Sink>(alloc: Global, out: &mut O, store: &mut S, header
     requires store_idle { S.flies store.old [] }
     requires valid { IsValid header.now }
     requires version { header.now.version ≡ 2 }
-    ensures leaves { Leaves (S.flies store.new []) (S.sectors store.old) (S.sectors store.new) (S.depth store.old) (S.depth store.new) (S.faults store.old) (S.faults store.new) (S.tells store.old) (S.tells store.new) (S.records store.old) (S.records store.new) }
-    ensures unwritten { S.sectors store.old < need_of header.now → OnlyReads (S.flies store.new []) (S.sectors store.old) (S.sectors store.new) (S.depth store.old) (S.depth store.new) (S.faults store.old) (S.faults store.new) (S.tells store.old) (S.tells store.new) (S.records store.old) (S.records store.new) (S.disk store.old) (S.disk store.new) }
-    ensures safe { S.tells store.new → S.records store.new → MakesSafely header.now (S.disk store.old) (S.disk store.new) }
-    ensures made { IsWhole result → S.tells store.new → S.records store.new → HasNewImage header.now (S.disk store.new) }
-    ensures told_before { O.tells out.new → O.tells out.old }
-    ensures calm { O.faults out.old ≤ O.faults out.new }
-    ensures answer { (outcome : Outcome) × MakingEnds header.now (S.sectors store.old) (λ ticket. IsFault ticket (S.last store.new) (S.faults store.old) (S.faults store.new)) outcome
-        × Ends outcome result (O.faults out.old) (O.faults out.new) (O.tells out.new) (O.written out.old) (O.written out.new) }
+    ensures idle { S.flies store.new [] }
+    ensures keeps { KeepsStore S.Store store.old store.new }
+    ensures unwritten { S.sectors store.old < need_of header.now → OnlyReads S.Store store.old store.new }
+    ensures makes { Makes S.Store header.now result store.old store.new }
+    ensures answer { (outcome : Outcome) × MakingEnds S.Store header.now store.old store.new outcome × Ends O.Sink outcome result out.old out.new }
 {
     let need = layout_of(header).need;
     let have = sectors_to_write(store);

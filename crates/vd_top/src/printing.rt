@@ -64,9 +64,7 @@ pub fn ended(status: u8, written: Result<(), Failed>) -> u8
 
 /// Prints a line, and answers the status with which it ends the command.
 pub fn say<O: Sink>(out: &mut O, line: Line) -> u8
-    ensures told_before { O.tells out.new → O.tells out.old }
-    ensures calm { O.faults out.old ≤ O.faults out.new }
-    ensures ends { Ends (Says line) result (O.faults out.old) (O.faults out.new) (O.tells out.new) (O.written out.old) (O.written out.new) }
+    ensures ends { Ends O.Sink (Says line) result out.old out.new }
 {
     let status = status_of(line);
     match put_line(out, line) {
@@ -83,7 +81,7 @@ pub fn put_next<O: Sink>(
     about: About,
     line: Line,
 ) -> Result<(), Failed>
-    ensures { WritesOn (about_line about line) written result (O.faults out.old) (O.faults out.new) (O.tells out.old) (O.tells out.new) (O.written out.old) (O.written out.new) }
+    ensures { WritesOn O.Sink (about_line about line) written result out.old out.new }
 {
     written?;
     put_line_about(out, about, line)
@@ -96,7 +94,7 @@ pub fn put_sectors<O: Sink>(
     first: u64,
     sectors: &[Sector],
 ) -> Result<(), Failed>
-    ensures { WritesOn (show_text first sectors.now) written result (O.faults out.old) (O.faults out.new) (O.tells out.old) (O.tells out.new) (O.written out.old) (O.written out.new) }
+    ensures { WritesOn O.Sink (show_text first sectors.now) written result out.old out.new }
 {
     written?;
     put_show(out, first, sectors)
@@ -104,9 +102,7 @@ pub fn put_sectors<O: Sink>(
 
 /// Prints sectors, and answers the status with which this ends the command.
 pub fn print_sectors<O: Sink>(out: &mut O, first: u64, sectors: &[Sector]) -> u8
-    ensures told_before { O.tells out.new → O.tells out.old }
-    ensures calm { O.faults out.old ≤ O.faults out.new }
-    ensures ends { Ends (Shown first sectors.now) result (O.faults out.old) (O.faults out.new) (O.tells out.new) (O.written out.old) (O.written out.new) }
+    ensures ends { Ends O.Sink (Shown first sectors.now) result out.old out.new }
 {
     match put_show(out, first, sectors) {
         Ok(()) => 0,

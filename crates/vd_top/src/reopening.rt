@@ -4,12 +4,11 @@ ghost use Rattle.std.specs.Prelude.{◌≡◌, ℕ, ◌+◌, ◌≤◌, [], fals
 ghost use Rattle.std.specs.Int.{div_ceil};
 ghost use Rattle.std.specs.List.{list_any, flat_map};
 ghost use Rattle.vd_format.specs.Headers.{IsValid};
-ghost use Rattle.vd_format.specs.Layouts.{blocks_of, need_of};
+ghost use Rattle.vd_format.specs.Layouts.{blocks_of};
 ghost use Rattle.vd_bits.specs.Marks.{count_true};
-ghost use Rattle.vd_reading.specs.Quiet.{OnlyReads, OnlyReadsBase, IsLoggedFault, IsStoreFault};
-ghost use Rattle.vd_replay.specs.States.{IsSized, Says};
+ghost use Rattle.vd_replay.specs.States.{IsReadable, IsSized, Says};
 ghost use Rattle.vd_trace.specs.Traces.{Showing};
-ghost use Rattle.vd_io.specs.Streams.{Rose};
+ghost use Rattle.vd_top.specs.Devices.{devices, AreRead};
 ghost use Rattle.vd_top.specs.Outcomes.{ShownLine, Reopened};
 ghost use Rattle.vd_top.specs.Ending.{has_failed, shown_text, reopened_status, reopened_text};
 ghost use Rattle.vd_top.specs.Writing.{WritesOn};
@@ -25,6 +24,7 @@ use vd_header::Header;
 use vd_io::Failed;
 use vd_io::sink::Sink;
 use vd_law::entry::Sector;
+use vd_reading::sectors_at_rest;
 use vd_replay::{State, read_disk};
 use vd_report::line::{About, Line};
 use vd_trace::trace::Trace;
@@ -65,18 +65,15 @@ fn put_shown<S: Store, B: Base, O: Sink>(
 ) -> (bool, Result<(), Failed>)
     requires store_idle { S.flies store.old [] }
     requires base_idle { B.flies base.old [] }
-    requires sized { IsSized state.now }
-    requires full { state.now.void ≡ false }
-    requires large { need_of state.now.header ≤ S.sectors store.old }
+    requires readable { IsReadable (S.sectors store.old) state.now }
     requires says { S.tells store.old → Says (S.disk store.old).held state.now }
     requires inside { first + length room.old ≤ state.now.header.size }
-    ensures store { OnlyReads (S.flies store.new []) (S.sectors store.old) (S.sectors store.new) (S.depth store.old) (S.depth store.new) (S.faults store.old) (S.faults store.new) (S.tells store.old) (S.tells store.new) (S.records store.old) (S.records store.new) (S.disk store.old) (S.disk store.new) }
-    ensures base { OnlyReadsBase (B.flies base.new []) (B.sectors base.old) (B.sectors base.new) (B.faults base.old) (B.faults base.new) (B.tells base.old) (B.tells base.new) (B.content base.old) (B.content base.new) }
+    ensures reads { AreRead S.Store B.Base (devices store.old base.old) (devices store.new base.new) }
     ensures shows { (shows : ShownLine)
         × ((line : Showing) → line.first ≡ first → line.count ≡ length room.old
-        → IsShownBy (S.tells store.new × B.tells base.new) (S.disk store.old).held (B.content base.old) state.now.header (λ ticket. IsLoggedFault ticket (S.faults store.old) (S.faults store.new) (S.tells store.new) (S.disk store.old) (S.disk store.new)) (Rose (B.faults base.old) (B.faults base.new)) line shows)
+        → IsShownBy S.Store B.Base state.now.header (devices store.old base.old) (devices store.new base.new) line shows)
         × (result.0 ≡ has_failed shows)
-        × WritesOn (shown_text shows) written result.1 (O.faults out.old) (O.faults out.new) (O.tells out.old) (O.tells out.new) (O.written out.old) (O.written out.new) }
+        × WritesOn O.Sink (shown_text shows) written result.1 out.old out.new }
 {
     match read_disk(store, base, state, first, room) {
         Ok(()) => (false, put_sectors(out, written, first, room)),
@@ -99,19 +96,18 @@ fn put_shows<S: Store, B: Base, O: Sink>(
 ) -> (bool, Result<(), Failed>)
     requires store_idle { S.flies store.old [] }
     requires base_idle { B.flies base.old [] }
-    requires sized { IsSized state.now }
-    requires full { state.now.void ≡ false }
-    requires large { need_of state.now.header ≤ S.sectors store.old }
+    requires readable { IsReadable (S.sectors store.old) state.now }
     requires says { S.tells store.old → Says (S.disk store.old).held state.now }
     requires inside { past state.now.header.size trace.now ≡ None }
     requires room { length room.old ≡ MOST }
-    ensures store { OnlyReads (S.flies store.new []) (S.sectors store.old) (S.sectors store.new) (S.depth store.old) (S.depth store.new) (S.faults store.old) (S.faults store.new) (S.tells store.old) (S.tells store.new) (S.records store.old) (S.records store.new) (S.disk store.old) (S.disk store.new) }
-    ensures base { OnlyReadsBase (B.flies base.new []) (B.sectors base.old) (B.sectors base.new) (B.faults base.old) (B.faults base.new) (B.tells base.old) (B.tells base.new) (B.content base.old) (B.content base.new) }
+    ensures reads { AreRead S.Store B.Base (devices store.old base.old) (devices store.new base.new) }
     ensures shows { (shown : List ShownLine)
-        × AreShownBy (S.tells store.new × B.tells base.new) (S.disk store.old).held (B.content base.old) state.now.header (λ ticket. IsLoggedFault ticket (S.faults store.old) (S.faults store.new) (S.tells store.new) (S.disk store.old) (S.disk store.new)) (Rose (B.faults base.old) (B.faults base.new)) trace.now.shows shown
+        × AreShownBy S.Store B.Base state.now.header (devices store.old base.old) (devices store.new base.new) trace.now.shows shown
         × (result.0 ≡ list_any has_failed shown)
-        × WritesOn (flat_map shown_text shown) written result.1 (O.faults out.old) (O.faults out.new) (O.tells out.old) (O.tells out.new) (O.written out.old) (O.written out.new) }
+        × WritesOn O.Sink (flat_map shown_text shown) written result.1 out.old out.new }
 {
+    // For what its clause says alone: the store is ready.
+    let _sectors = sectors_at_rest(store);
     let mut failed = false;
     let mut so_far = written;
     for at in 0..trace.shows() {
@@ -149,13 +145,11 @@ pub fn reopen<S: Store, B: Base, O: Sink>(
     requires version { state.old.header.version ≡ 2 }
     requires inside { past state.old.header.size trace.now ≡ None }
     requires room { length room.old ≡ MOST }
-    ensures store { OnlyReads (S.flies store.new []) (S.sectors store.old) (S.sectors store.new) (S.depth store.old) (S.depth store.new) (S.faults store.old) (S.faults store.new) (S.tells store.old) (S.tells store.new) (S.records store.old) (S.records store.new) (S.disk store.old) (S.disk store.new) }
-    ensures base { OnlyReadsBase (B.flies base.new []) (B.sectors base.old) (B.sectors base.new) (B.faults base.old) (B.faults base.new) (B.tells base.old) (B.tells base.new) (B.content base.old) (B.content base.new) }
+    ensures reads { AreRead S.Store B.Base (devices store.old base.old) (devices store.new base.new) }
     ensures opens { (reopened : Reopened)
-        × Reopens state.old.header trace.now.shows (S.tells store.new) (B.tells base.new) (S.disk store.new).held (B.content base.old) (λ ticket. IsStoreFault ticket (S.last store.new) (S.faults store.old) (S.faults store.new) (S.tells store.new) (S.disk store.old) (S.disk store.new))
-        (λ ticket. IsLoggedFault ticket (S.faults store.old) (S.faults store.new) (S.tells store.new) (S.disk store.old) (S.disk store.new)) (Rose (B.faults base.old) (B.faults base.new)) reopened
+        × Reopens S.Store B.Base state.old.header trace.now.shows (devices store.old base.old) (devices store.new base.new) reopened
         × (result.0 ≡ reopened_status reopened)
-        × WritesOn (reopened_text reopened) written result.1 (O.faults out.old) (O.faults out.new) (O.tells out.old) (O.tells out.new) (O.written out.old) (O.written out.new) }
+        × WritesOn O.Sink (reopened_text reopened) written result.1 out.old out.new }
 {
     if let Err(error) = state.reload(store) {
         let line = show_line(error);

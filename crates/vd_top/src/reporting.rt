@@ -4,8 +4,7 @@ ghost use Rattle.std.specs.Prelude.{◌≡◌, ℕ, ◌≤◌, [], Ok, None, len
 ghost use Rattle.std.specs.List.{All};
 ghost use Rattle.vd_law.specs.Entries.{entry_of};
 ghost use Rattle.vd_report.specs.Replies.{HasText, history_text, sum_text};
-ghost use Rattle.vd_reading.specs.Quiet.{OnlyReads, OnlyReadsBase, IsLoggedFault, IsStoreFault};
-ghost use Rattle.vd_io.specs.Streams.{Rose};
+ghost use Rattle.vd_top.specs.Devices.{devices, AreRead};
 ghost use Rattle.vd_replay.specs.States.{IsSized};
 ghost use Rattle.vd_top.specs.Outcomes.{Reopened, Reported};
 ghost use Rattle.vd_top.specs.Ending.{Ends, is_ok_reply, are_ok, run_status};
@@ -70,7 +69,7 @@ fn closing_line(answer: Answer) -> Line
 /// Prints the calls of guest 1.
 fn put_calls<O: Sink>(out: &mut O, history: &History) -> Result<(), Failed>
     requires { All HasText history.now.log.entries }
-    ensures { WritesOn (history_text 1 history.now.log.entries) (Ok tt) result (O.faults out.old) (O.faults out.new) (O.tells out.old) (O.tells out.new) (O.written out.old) (O.written out.new) }
+    ensures { WritesOn O.Sink (history_text 1 history.now.log.entries) (Ok tt) result out.old out.new }
 {
     put_history(out, history, 1)
 }
@@ -81,7 +80,7 @@ fn put_last<O: Sink>(
     written: Result<(), Failed>,
     history: &History,
 ) -> Result<(), Failed>
-    ensures { WritesOn (sum_text 1 history.now.log.entries) written result (O.faults out.old) (O.faults out.new) (O.tells out.old) (O.tells out.new) (O.written out.old) (O.written out.new) }
+    ensures { WritesOn O.Sink (sum_text 1 history.now.log.entries) written result out.old out.new }
 {
     written?;
     put_sum(out, history, 1)
@@ -122,14 +121,10 @@ pub fn report<S: Store, B: Base, O: Sink>(
     requires version { state.old.header.version ≡ 2 }
     requires inside { past state.old.header.size trace.now ≡ None }
     requires room { length room.old ≡ MOST }
-    ensures store { OnlyReads (S.flies store.new []) (S.sectors store.old) (S.sectors store.new) (S.depth store.old) (S.depth store.new) (S.faults store.old) (S.faults store.new) (S.tells store.old) (S.tells store.new) (S.records store.old) (S.records store.new) (S.disk store.old) (S.disk store.new) }
-    ensures base { OnlyReadsBase (B.flies base.new []) (B.sectors base.old) (B.sectors base.new) (B.faults base.old) (B.faults base.new) (B.tells base.old) (B.tells base.new) (B.content base.old) (B.content base.new) }
-    ensures told_before { O.tells out.new → O.tells out.old }
-    ensures calm { O.faults out.old ≤ O.faults out.new }
+    ensures reads { AreRead S.Store B.Base (devices store.old base.old) (devices store.new base.new) }
     ensures reported { (reopened : Reopened)
-        × Reopens state.old.header trace.now.shows (S.tells store.new) (B.tells base.new) (S.disk store.new).held (B.content base.old) (λ ticket. IsStoreFault ticket (S.last store.new) (S.faults store.old) (S.faults store.new) (S.tells store.new) (S.disk store.old) (S.disk store.new))
-        (λ ticket. IsLoggedFault ticket (S.faults store.old) (S.faults store.new) (S.tells store.new) (S.disk store.old) (S.disk store.new)) (Rose (B.faults base.old) (B.faults base.new)) reopened
-        × Ends (Reported 1 history.now.log.entries (closing_line closing) reopened) result (O.faults out.old) (O.faults out.new) (O.tells out.new) (O.written out.old) (O.written out.new) }
+        × Reopens S.Store B.Base state.old.header trace.now.shows (devices store.old base.old) (devices store.new base.new) reopened
+        × Ends O.Sink (Reported 1 history.now.log.entries (closing_line closing) reopened) result out.old out.new }
 {
     let line = closing_line(closing);
     let calls = put_calls(out, history);

@@ -1,24 +1,21 @@
 //! The command `run`: one guest's requests, and the report of their history.
 
 ghost use Rattle.std.specs.Prelude.{◌≡◌, ℕ, ◌≤◌, ◌<◌, [], None, Some, length, IfOk, IfErr};
+ghost use Rattle.std.specs.List.{All};
 ghost use Rattle.vd_device.specs.Disks.{Disk, IsHonest, IsRunning};
 ghost use Rattle.vd_device.specs.Orders.{IsInOrder};
-ghost use Rattle.vd_format.specs.Headers.{IsValid};
-ghost use Rattle.vd_format.specs.Layouts.{need_of};
-ghost use Rattle.vd_reading.specs.Quiet.{OnlyReads, OnlyReadsBase, AddsFlush, IsFault, IsLoggedFault, IsStoreFault};
-ghost use Rattle.vd_replay.specs.States.{IsSized, IsWhole, Says};
+ghost use Rattle.vd_reading.specs.Quiet.{IsReady, OnlyReads, AddsFlush};
+ghost use Rattle.vd_replay.specs.States.{IsSized};
 ghost use Rattle.vd_trace.specs.Scripts.{need_of as trace_need};
 ghost use Rattle.vd_serve.specs.Driving.{with_flush};
-ghost use Rattle.vd_io.specs.Streams.{Rose};
+ghost use Rattle.vd_report.specs.Replies.{HasText};
+ghost use Rattle.vd_top.specs.Devices.{devices, AreIdle, AreRead, Leaves};
+ghost use Rattle.vd_top.specs.Streams.{KeepsSource};
 ghost use Rattle.vd_top.specs.Outcomes.{Outcome, Reopened, Reported};
 ghost use Rattle.vd_top.specs.Reopening.{Reopens};
-ghost use Rattle.vd_report.specs.Replies.{HasText};
-ghost use Rattle.std.specs.List.{All};
 ghost use Rattle.vd_top.specs.Ending.{Ends};
-ghost use Rattle.vd_top.specs.Leaving.{Leaves};
-ghost use Rattle.vd_top.specs.Running.{trace_line, closing_line, past, ReadsScript, IsReadLine, OpensFor, IsOpenLine, IsRun, IsReopenable, RunEnds};
-ghost use Rattle.vd_core.specs.Opening.{IsNumberedIn};
-ghost use Rattle.vd_top.specs.Orders.{IsReadSince};
+ghost use Rattle.vd_top.specs.Running.{trace_line, closing_line, past, ReadsScript, IsReadLine, OpensFor, IsOpenLine, IsOpen, RunsTrace, RunEnds};
+ghost use Rattle.vd_top.specs.Orders.{IsOpenedFrom};
 
 use crate::ending::End;
 use crate::printing::say;
@@ -32,6 +29,7 @@ use vd_io::sink::Sink;
 use vd_io::source::Source;
 use vd_law::entry::{Answer, Room, Sector};
 use vd_law::history::History;
+use vd_reading::sectors_at_rest;
 use vd_replay::{State, recover};
 use vd_report::line::Line;
 use vd_serve::{close, serve};
@@ -51,10 +49,9 @@ fn line_of_trace(error: TraceError) -> Line
 
 /// The trace of one guest. The error is the line that says why there is none, of status 4, 6 or 7.
 fn read_trace<I: Source>(alloc: Global, source: &mut I) -> Result<Trace, Line>
-    ensures read { IfOk result (ReadsScript (I.tells source.new) (I.rest source.old)) }
-    ensures refused { IfErr result (IsReadLine (I.tells source.new) (I.rest source.old) (Rose (I.faults source.old) (I.faults source.new))) }
-    ensures told_before { I.tells source.new → I.tells source.old }
-    ensures calm { I.faults source.old ≤ I.faults source.new }
+    ensures read { IfOk result (ReadsScript I.Source source.old source.new) }
+    ensures refused { IfErr result (IsReadLine I.Source source.old source.new) }
+    ensures keeps { KeepsSource I.Source source.old source.new }
 {
     match Trace::read(alloc, 1, source) {
         Ok(trace) => Ok(trace),
@@ -62,8 +59,10 @@ fn read_trace<I: Source>(alloc: Global, source: &mut I) -> Result<Trace, Line>
     }
 }
 
-/// What is known of a store by what it tells.
+/// What is known of a store with nothing in flight by what it tells.
 fn look<S: Store>(store: &S)
+    requires idle { S.flies store.now [] }
+    ensures ready { IsReady S.Store store.now }
     ensures running { S.tells store.now → IsRunning (S.events store.now) (S.disk store.now) }
     ensures honest { S.tells store.now → IsHonest (S.disk store.now) }
     ensures order { S.tells store.now → IsInOrder (S.disk store.now) }
@@ -73,26 +72,23 @@ fn look<S: Store>(store: &S)
     let _sectors = store.sectors();
     let _events = store.events();
     let _flying = store.in_flight();
+    let _ready = sectors_at_rest(store);
 }
 
 /// Opens an image of version 2, on whose disk all of the trace's ranges lie. The error is the line that says why not, of
 /// status 3, 4, 5 or 7.
 fn open_for<S: Store>(alloc: Global, store: &mut S, trace: &Trace) -> Result<State, Line>
     requires idle { S.flies store.old [] }
-    ensures quiet { OnlyReads (S.flies store.new []) (S.sectors store.old) (S.sectors store.new) (S.depth store.old) (S.depth store.new) (S.faults store.old) (S.faults store.new) (S.tells store.old) (S.tells store.new) (S.records store.old) (S.records store.new) (S.disk store.old) (S.disk store.new) }
-    ensures opened { IfOk result (λ state. OpensFor trace.now (S.tells store.new) (S.disk store.old).held state.header) }
-    ensures whole { IfOk result IsWhole }
+    ensures quiet { OnlyReads S.Store store.old store.new }
+    ensures opened { IfOk result (λ state. OpensFor S.Store trace.now state.header store.old store.new) }
+    ensures ready { IfOk result (λ state. IsOpen S.Store trace.now state store.new) }
     ensures flushed { IfOk result (λ state. S.tells store.new → AddsFlush (S.disk store.old) (S.disk store.new)) }
-    ensures says { IfOk result (λ state. S.tells store.new → Says (S.disk store.new).held state) }
-    ensures large { IfOk result (λ state. need_of state.header ≤ S.sectors store.new) }
-    ensures recorded { IfOk result (λ state. S.tells store.new → S.records store.new) }
-    ensures refused { IfErr result (IsOpenLine trace.now (S.tells store.new) (S.disk store.old).held (λ ticket. IsFault ticket (S.last store.new) (S.faults store.old) (S.faults store.new))) }
+    ensures refused { IfErr result (IsOpenLine S.Store trace.now store.old store.new) }
 {
     let state = match recover(alloc, store, 2) {
         Ok(state) => state,
         Err(error) => return Err(show_line(error)),
     };
-    look(store);
     match trace.past(state.header.size) {
         Some(number) => Err(Line::LinePastTheDisk { number }),
         None => Ok(state),
@@ -132,23 +128,15 @@ fn serve_trace<S: Store, B: Base>(
     store: S,
     base: B,
 ) -> Result<Served<S, B>, Unopened<S, B>>
-    requires idle { S.flies store [] }
-    requires base_idle { B.flies base [] }
-    requires opened { OpensFor trace.now (S.tells store) (S.disk store).held state.header }
-    requires whole { IsWhole state }
-    requires flushed { S.tells store → (old : Disk) × AddsFlush old (S.disk store) }
-    requires says { S.tells store → Says (S.disk store).held state }
-    requires large { need_of state.header ≤ S.sectors store }
+    requires idle { AreIdle S.Store B.Base (devices store base) }
+    requires ready { IsOpen S.Store trace.now state store }
     requires guests { trace.now.guests ≡ 1 }
     requires sectors { length sectors.old ≡ MOST }
-    // of a store that told `old` as it was handed in
-    ensures run { IfOk result (λ served. (old : Disk) → (S.tells store → IsReadSince old (S.disk store))
-        → IsRun trace.now state.header (B.sectors base) (S.tells served.store) (B.tells served.base) old (S.disk served.store) (B.content base) (S.faults store) (S.faults served.store) (B.faults base) (B.faults served.base) served.history (closing_line served.closing)
-        × (S.tells served.store → IsNumberedIn (S.disk served.store).log served.history)
-        × IsReopenable state.header (S.tells served.store) (B.tells served.base) old (S.disk served.store) (B.content base) served.history (closing_line served.closing)) }
+    // on a store that was handed in as `first`
+    ensures run { IfOk result (λ served. (first : S) → IsOpenedFrom S.Store first store
+        → RunsTrace S.Store B.Base trace.now state.header (devices first base) (devices served.store served.base) served.history (closing_line served.closing)) }
     ensures state { IfOk result (λ served. IsSized served.state × (served.state.header ≡ state.header)) }
-    ensures store { IfOk result (λ served. Leaves (S.flies served.store []) (S.sectors store) (S.sectors served.store) (S.depth store) (S.depth served.store) (S.faults store) (S.faults served.store) (S.tells store) (S.tells served.store) (S.records store) (S.records served.store)) }
-    ensures base { IfOk result (λ served. OnlyReadsBase (B.flies served.base []) (B.sectors base) (B.sectors served.base) (B.faults base) (B.faults served.base) (B.tells base) (B.tells served.base) (B.content base) (B.content served.base)) }
+    ensures leaves { IfOk result (λ served. Leaves S.Store B.Base (devices store base) (devices served.store served.base)) }
     ensures back { IfErr result (λ refused. (refused.store ≡ store) × (refused.base ≡ base)) }
     ensures sectors { length sectors.new ≡ MOST }
 {
@@ -209,23 +197,17 @@ fn leave<S: Store, B: Base, O: Sink>(
     served: Served<S, B>,
     room: &mut [Sector],
 ) -> End<S, B>
-    requires idle { S.flies served.store [] }
-    requires base_idle { B.flies served.base [] }
+    requires idle { AreIdle S.Store B.Base (devices served.store served.base) }
     requires text { All HasText served.history.log.entries }
     requires sized { IsSized served.state }
     requires version { served.state.header.version ≡ 2 }
     requires inside { past served.state.header.size trace.now ≡ None }
     requires room { length room.old ≡ MOST }
-    ensures store { OnlyReads (S.flies result.store []) (S.sectors served.store) (S.sectors result.store) (S.depth served.store) (S.depth result.store) (S.faults served.store) (S.faults result.store) (S.tells served.store) (S.tells result.store) (S.records served.store) (S.records result.store) (S.disk served.store) (S.disk result.store) }
-    ensures base { OnlyReadsBase (B.flies result.base []) (B.sectors served.base) (B.sectors result.base) (B.faults served.base) (B.faults result.base) (B.tells served.base) (B.tells result.base) (B.content served.base) (B.content result.base) }
-    ensures recorded { S.tells result.store → S.records result.store }
+    ensures reads { AreRead S.Store B.Base (devices served.store served.base) (devices result.store result.base) }
     ensures history { result.history ≡ Some served.history }
-    ensures told_before { O.tells out.new → O.tells out.old }
-    ensures calm { O.faults out.old ≤ O.faults out.new }
     ensures reported { (reopened : Reopened)
-        × Reopens served.state.header trace.now.shows (S.tells result.store) (B.tells result.base) (S.disk result.store).held (B.content served.base) (λ ticket. IsStoreFault ticket (S.last result.store) (S.faults served.store) (S.faults result.store) (S.tells result.store) (S.disk served.store) (S.disk result.store))
-        (λ ticket. IsLoggedFault ticket (S.faults served.store) (S.faults result.store) (S.tells result.store) (S.disk served.store) (S.disk result.store)) (Rose (B.faults served.base) (B.faults result.base)) reopened
-        × Ends (Reported 1 served.history.log.entries (closing_line served.closing) reopened) result.status (O.faults out.old) (O.faults out.new) (O.tells out.new) (O.written out.old) (O.written out.new) }
+        × Reopens S.Store B.Base served.state.header trace.now.shows (devices served.store served.base) (devices result.store result.base) reopened
+        × Ends O.Sink (Reported 1 served.history.log.entries (closing_line served.closing) reopened) result.status out.old out.new }
 {
     let Served {
         mut store,
@@ -237,7 +219,6 @@ fn leave<S: Store, B: Base, O: Sink>(
     let status = report(
         out, trace, &history, closing, &mut store, &mut base, &mut state, room,
     );
-    look(&store);
     End {
         status,
         store,
@@ -262,16 +243,11 @@ pub fn run<S: Store, B: Base, I: Source, O: Sink>(
 ) -> End<S, B>
     requires idle { S.flies store [] }
     requires base_idle { B.flies base [] }
-    ensures ran { (outcome : Outcome)
-        × RunEnds (I.tells source.new) (I.rest source.old) (Rose (I.faults source.old) (I.faults source.new)) (S.tells result.store) (B.tells result.base) (S.disk store) (S.disk result.store) (B.content base) (B.sectors base)
-        (λ ticket. IsFault ticket (S.last result.store) (S.faults store) (S.faults result.store)) (S.faults store) (S.faults result.store) (B.faults base) (B.faults result.base) result.history outcome
-        × Ends outcome result.status (O.faults out.old) (O.faults out.new) (O.tells out.new) (O.written out.old) (O.written out.new) }
-    ensures store { Leaves (S.flies result.store []) (S.sectors store) (S.sectors result.store) (S.depth store) (S.depth result.store) (S.faults store) (S.faults result.store) (S.tells store) (S.tells result.store) (S.records store) (S.records result.store) }
-    ensures base { OnlyReadsBase (B.flies result.base []) (B.sectors base) (B.sectors result.base) (B.faults base) (B.faults result.base) (B.tells base) (B.tells result.base) (B.content base) (B.content result.base) }
-    ensures source_told_before { I.tells source.new → I.tells source.old }
-    ensures source_calm { I.faults source.old ≤ I.faults source.new }
-    ensures told_before { O.tells out.new → O.tells out.old }
-    ensures calm { O.faults out.old ≤ O.faults out.new }
+    ensures ran { (outcome : Outcome) × RunEnds S.Store B.Base I.Source (devices store base) result source.old source.new outcome
+        × Ends O.Sink outcome result.status out.old out.new }
+    ensures leaves { Leaves S.Store B.Base (devices store base) (devices result.store result.base) }
+    ensures unserved { result.history ≡ None → OnlyReads S.Store store result.store }
+    ensures source { KeepsSource I.Source source.old source.new }
 {
     let mut store = store;
     look(&store);

@@ -1,7 +1,7 @@
 //! The command `show`.
 
 ghost use Rattle.std.specs.Prelude.{◌≡◌, ℕ, ◌+◌, ◌^◌, ◌<◌, ◌≤◌, [], length, nat_lt};
-ghost use Rattle.vd_reading.specs.Quiet.{OnlyReads, OnlyReadsBase, IsFault};
+ghost use Rattle.vd_top.specs.Devices.{devices, AreRead};
 ghost use Rattle.vd_top.specs.Outcomes.{Outcome};
 ghost use Rattle.vd_top.specs.Showing.{outcome_of, header_line, show_line, fault_line, Finds};
 ghost use Rattle.vd_top.specs.Ending.{Ends};
@@ -13,6 +13,7 @@ use vd_device::{Base, Store};
 use vd_header::HeaderError;
 use vd_io::sink::Sink;
 use vd_law::entry::Sector;
+use vd_reading::sectors_at_rest;
 use vd_replay::{DiskFault, OpenError, read_disk, recover};
 use vd_report::line::Line;
 
@@ -75,11 +76,8 @@ fn find_sectors<S: Store, B: Base>(
 ) -> Result<(), Line>
     requires store_idle { S.flies store.old [] }
     requires base_idle { B.flies base.old [] }
-    ensures store { OnlyReads (S.flies store.new []) (S.sectors store.old) (S.sectors store.new) (S.depth store.old) (S.depth store.new) (S.faults store.old) (S.faults store.new) (S.tells store.old) (S.tells store.new) (S.records store.old) (S.records store.new) (S.disk store.old) (S.disk store.new) }
-    ensures base { OnlyReadsBase (B.flies base.new []) (B.sectors base.old) (B.sectors base.new) (B.faults base.old) (B.faults base.new) (B.tells base.old) (B.tells base.new) (B.content base.old) (B.content base.new) }
-    ensures found { Finds (S.tells store.new × B.tells base.new) (S.disk store.old).held (B.content base.old) first (length room.old)
-        (λ ticket. IsFault ticket (S.last store.new) (S.faults store.old) (S.faults store.new)) (λ ticket. IsFault ticket (B.last base.new) (B.faults base.old) (B.faults base.new))
-        (outcome_of result first room.new) }
+    ensures reads { AreRead S.Store B.Base (devices store.old base.old) (devices store.new base.new) }
+    ensures found { Finds S.Store B.Base first (length room.old) (devices store.old base.old) (devices store.new base.new) (outcome_of result first room.new) }
 {
     let state = match recover(alloc, store, 1) {
         Ok(state) => state,
@@ -107,15 +105,13 @@ pub fn show<S: Store, B: Base, O: Sink>(
     requires store_idle { S.flies store.old [] }
     requires base_idle { B.flies base.old [] }
     requires count { count ≤ MOST }
-    ensures store { OnlyReads (S.flies store.new []) (S.sectors store.old) (S.sectors store.new) (S.depth store.old) (S.depth store.new) (S.faults store.old) (S.faults store.new) (S.tells store.old) (S.tells store.new) (S.records store.old) (S.records store.new) (S.disk store.old) (S.disk store.new) }
-    ensures base { OnlyReadsBase (B.flies base.new []) (B.sectors base.old) (B.sectors base.new) (B.faults base.old) (B.faults base.new) (B.tells base.old) (B.tells base.new) (B.content base.old) (B.content base.new) }
-    ensures told_before { O.tells out.new → O.tells out.old }
-    ensures calm { O.faults out.old ≤ O.faults out.new }
+    ensures reads { AreRead S.Store B.Base (devices store.old base.old) (devices store.new base.new) }
     ensures answer { (outcome : Outcome)
-        × Finds (S.tells store.new × B.tells base.new) (S.disk store.old).held (B.content base.old) first count
-        (λ ticket. IsFault ticket (S.last store.new) (S.faults store.old) (S.faults store.new)) (λ ticket. IsFault ticket (B.last base.new) (B.faults base.old) (B.faults base.new)) outcome
-        × Ends outcome result (O.faults out.old) (O.faults out.new) (O.tells out.new) (O.written out.old) (O.written out.new) }
+        × Finds S.Store B.Base first count (devices store.old base.old) (devices store.new base.new) outcome
+        × Ends O.Sink outcome result out.old out.new }
 {
+    // For what its clause says alone: the store is ready.
+    let _sectors = sectors_at_rest(store);
     let Ok(mut room) = vec![in alloc; Sector::filled(0); count as usize] else {
         return say(out, Line::NoMemory);
     };

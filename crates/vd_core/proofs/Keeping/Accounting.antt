@@ -27,8 +27,8 @@ use Rattle.vd_passes.proofs.BlamingSteps.{enters-blamed, fetches-blamed, fetches
 use Rattle.vd_passes.proofs.Answered.{none-of-passes, set-of-passes, issues-of-passes, write_settled-of-passes, sees-of-passes, look_settled-of-passes, base_look_settled-of-passes, replies-of-passes, asks-of-passes, asks_full-of-passes}
 use Rattle.vd_core.specs.Asking.{asking, CanAsk, AskEnds}
 use Rattle.vd_core.specs.Entering.{IsKeptOut, EntersBlock}
-use Rattle.vd_core.proofs.Fetched.{FetchesIn}
-use Rattle.vd_core.specs.Kept.{counted, IsExplained}
+use Rattle.vd_core.specs.Fetching.{FetchesIn}
+use Rattle.vd_core.specs.Kept.{counted_as, IsExplained}
 use Rattle.vd_core.specs.Local.{AreLocalBy}
 use Rattle.vd_core.specs.Opening.{AreNew}
 use Rattle.vd_core.proofs.LocalSteps.{ask_ends-local, issues-local, write_settled-local, sees-local, look_settled-local, base_look_settled-local, replies-local}
@@ -36,9 +36,9 @@ use Rattle.vd_core.proofs.Storing.{new-stored}
 use Rattle.vd_core.proofs.StoringSteps.{ask_ends-stored, issues-stored, write_settled-stored, sees-stored, look_settled-stored, base_look_settled-stored, replies-stored}
 
 module _ {shape : Shape} {had : List MapEntry} {table : Given} {fresh : List Bool} {passes : List Pass} {history : List Entry} {last opened faults base_last base_opened base_faults : ℕ}
-    (was : IsExplained shape had table fresh passes history (counted last opened faults) (counted base_last base_opened base_faults)) (i : ℕ) where
+    (was : IsExplained shape had table fresh passes history (counted_as last opened faults) (counted_as base_last base_opened base_faults)) (i : ℕ) where
   pub enter-accounted : (chunks : List (Option ℕ)) (regions regions' : List (Option Region)) {passes' : List Pass} (result : Result Unit Busy) → IfErr result (λ busy. IsKeptOut shape regions regions' i passes passes' busy.by)
-      → OnOk result (EntersBlock shape chunks regions regions' i passes passes') → IsExplained shape had table fresh passes' history (counted last opened faults) (counted base_last base_opened base_faults)
+      → OnOk result (EntersBlock shape chunks regions regions' i passes passes') → IsExplained shape had table fresh passes' history (counted_as last opened faults) (counted_as base_last base_opened base_faults)
   enter-accounted chunks regions regions' {passes'} (Ok v) busy entered = let e = entered.enters in record {
     of_store = enters-blamed was.of_store e;
     of_base = enters-blamed was.of_base e;
@@ -49,7 +49,7 @@ module _ {shape : Shape} {had : List MapEntry} {table : Given} {fresh : List Boo
   enter-accounted chunks regions regions' {passes'} (Err busy) out entered = rw out.passes_same was
 
   pub fetch-accounted : {passes' : List Pass} {base_flies base_flies' : List Ticket → Type 0} {base_last' base_faults' : ℕ} → FetchesIn shape i passes passes' base_flies base_flies' → IsAt passes' i (IsNumbered OfBase base_last base_last') → base_faults ≤ base_faults'
-      → IsExplained shape had table fresh passes' history (counted last opened faults) (counted base_last' base_opened base_faults')
+      → IsExplained shape had table fresh passes' history (counted_as last opened faults) (counted_as base_last' base_opened base_faults')
   fetch-accounted {passes'} {base_flies} {base_flies'} {base_last'} {base_faults'} (inl f) number rise = let step = f.0 in record {
     of_store = fetches-store_blamed was.of_store step;
     of_base = fetches-blamed was.of_base step number rise;
@@ -67,7 +67,7 @@ module _ {shape : Shape} {had : List MapEntry} {table : Given} {fresh : List Boo
 
   pub settle_fetch-accounted : {answer : Settled} {passes' : List Pass} {base_flies base_flies' : List Ticket → Type 0} {base_tells : Type 0} {base : List Sector} {base_last' base_faults' : ℕ} (late late' : ℕ)
       → FetchSettled answer shape i passes passes' base_flies base_flies' base_tells base → base_last' ≡ base_last → IsCaused answer base_faults base_faults' late late'
-      → IsExplained shape had table fresh passes' history (counted last opened faults) (counted base_last' base_opened base_faults')
+      → IsExplained shape had table fresh passes' history (counted_as last opened faults) (counted_as base_last' base_opened base_faults')
   settle_fetch-accounted {answer} late late' step number cause = record {
     of_store = fetch_settled-store_blamed was.of_store step;
     of_base = fetch_settled-blamed was.of_base step number late late' cause;
@@ -77,7 +77,7 @@ module _ {shape : Shape} {had : List MapEntry} {table : Given} {fresh : List Boo
   }
 
   pub issue-accounted : {passes' : List Pass} {history' : List Entry} {flies flies' : List Ticket → Type 0} {tells tells' : Type 0} {disk disk' : Disk} {last' : ℕ} {fresh_before : List Bool} {content : List Sector} {faults' : ℕ} → Issues shape fresh_before content i passes passes' history history' flies flies' tells tells' disk disk' last last' → IsAt passes' i (IsNumbered OfStore last last') → faults ≤ faults'
-      → IsExplained shape had table fresh passes' history' (counted last' opened faults') (counted base_last base_opened base_faults)
+      → IsExplained shape had table fresh passes' history' (counted_as last' opened faults') (counted_as base_last base_opened base_faults)
   issue-accounted step number rise = record {
     of_store = issues-blamed was.of_store step number rise;
     of_base = issues-base_blamed was.of_base step;
@@ -87,7 +87,7 @@ module _ {shape : Shape} {had : List MapEntry} {table : Given} {fresh : List Boo
   }
 
   pub look-accounted : {passes' : List Pass} {flies flies' : List Ticket → Type 0} {tells tells' : Type 0} {disk disk' : Disk} {last' faults' : ℕ} → Looks shape i passes passes' flies flies' tells tells' disk disk' last last' → IsAt passes' i (IsNumbered OfStore last last') → faults ≤ faults'
-      → IsExplained shape had table fresh passes' history (counted last' opened faults') (counted base_last base_opened base_faults)
+      → IsExplained shape had table fresh passes' history (counted_as last' opened faults') (counted_as base_last base_opened base_faults)
   look-accounted step number rise = record {
     of_store = looks-blamed was.of_store step number rise;
     of_base = looks-base_blamed was.of_base step;
@@ -97,7 +97,7 @@ module _ {shape : Shape} {had : List MapEntry} {table : Given} {fresh : List Boo
   }
 
   pub base_look-accounted : {passes' : List Pass} {base_flies base_flies' : List Ticket → Type 0} {base_last' base_faults' : ℕ} → LooksAtBase shape i passes passes' base_flies base_flies' → IsAt passes' i (IsNumbered OfBase base_last base_last') → base_faults ≤ base_faults'
-      → IsExplained shape had table fresh passes' history (counted last opened faults) (counted base_last' base_opened base_faults')
+      → IsExplained shape had table fresh passes' history (counted_as last opened faults) (counted_as base_last' base_opened base_faults')
   base_look-accounted step number rise = record {
     of_store = base_looks-store_blamed was.of_store step;
     of_base = base_looks-blamed was.of_base step number rise;
@@ -106,7 +106,7 @@ module _ {shape : Shape} {had : List MapEntry} {table : Given} {fresh : List Boo
     of_passes = set-of-passes i (after_base_look step.pass step.ticket) step.after was.of_passes;
   }
 
-  pub reply-accounted : {answer : Answer} {passes' : List Pass} {history' : List Entry} → IsAt passes i (λ p. p.phase ≡ Ready) → Replies answer i passes passes' history history' → IsExplained shape had table fresh passes' history' (counted last opened faults) (counted base_last base_opened base_faults)
+  pub reply-accounted : {answer : Answer} {passes' : List Pass} {history' : List Entry} → IsAt passes i (λ p. p.phase ≡ Ready) → Replies answer i passes passes' history history' → IsExplained shape had table fresh passes' history' (counted_as last opened faults) (counted_as base_last base_opened base_faults)
   reply-accounted at step = record {
     of_store = replies-blamed was.of_store at step;
     of_base = replies-blamed was.of_base at step;
@@ -118,8 +118,8 @@ module _ {shape : Shape} {had : List MapEntry} {table : Given} {fresh : List Boo
 -- The ends of calls, where the passes are as the history says.
 module _ {shape : Shape} {had : List MapEntry} {table : Given} {fresh : List Bool} {places : ℕ → Option ℕ} {passes : List Pass} {history : List Entry} {sectors depth base_sectors base_depth : ℕ} {flies base_flies : List Ticket → Type 0}
     (co : IsCoherent shape fresh places passes history sectors depth base_sectors base_depth flies base_flies)
-    {last opened faults base_last base_opened base_faults : ℕ} (was : IsExplained shape had table fresh passes history (counted last opened faults) (counted base_last base_opened base_faults)) (i : ℕ) {passes' : List Pass} {history' : List Entry} where
-  pub zeros-accounted : {out out' : List Sector} → IsAt passes i (λ p. p.phase ≡ Held) → SeesZeros shape i passes passes' history history' out out' → IsExplained shape had table fresh passes' history' (counted last opened faults) (counted base_last base_opened base_faults)
+    {last opened faults base_last base_opened base_faults : ℕ} (was : IsExplained shape had table fresh passes history (counted_as last opened faults) (counted_as base_last base_opened base_faults)) (i : ℕ) {passes' : List Pass} {history' : List Entry} where
+  pub zeros-accounted : {out out' : List Sector} → IsAt passes i (λ p. p.phase ≡ Held) → SeesZeros shape i passes passes' history history' out out' → IsExplained shape had table fresh passes' history' (counted_as last opened faults) (counted_as base_last base_opened base_faults)
   zeros-accounted at step = record {
     of_store = sees_zeros-blamed co was.of_store at step;
     of_base = sees_zeros-blamed co was.of_base at step;
@@ -130,7 +130,7 @@ module _ {shape : Shape} {had : List MapEntry} {table : Given} {fresh : List Boo
 
   module _ {answer : Settled} {flies' : List Ticket → Type 0} {tells tells' : Type 0} {disk disk' : Disk} {last' faults' : ℕ} (late late' : ℕ) where
     pub settle_issue-accounted : {fresh' : List Bool} → IsAt passes i (λ p. p.phase ≡ Issuing) → WriteSettled answer i fresh fresh' passes passes' history history' flies flies' tells tells' disk disk' last last' → IsCaused answer faults faults' late late'
-        → IsExplained shape had table fresh' passes' history' (counted last' opened faults') (counted base_last base_opened base_faults)
+        → IsExplained shape had table fresh' passes' history' (counted_as last' opened faults') (counted_as base_last base_opened base_faults)
     settle_issue-accounted {fresh'} at step cause = record {
       of_store = write_settled-blamed co was.of_store step late late' cause;
       of_base = write_settled-base_blamed co was.of_base step;
@@ -140,7 +140,7 @@ module _ {shape : Shape} {had : List MapEntry} {table : Given} {fresh : List Boo
     }
 
     pub settle_look-accounted : {out out' : List Sector} → LookSettled answer i passes passes' history history' flies flies' tells tells' disk disk' last last' out out' → IsCaused answer faults faults' late late'
-        → IsExplained shape had table fresh passes' history' (counted last' opened faults') (counted base_last base_opened base_faults)
+        → IsExplained shape had table fresh passes' history' (counted_as last' opened faults') (counted_as base_last base_opened base_faults)
     settle_look-accounted {out} {out'} step cause = record {
       of_store = look_settled-blamed co was.of_store step late late' cause;
       of_base = look_settled-base_blamed co was.of_base step;
@@ -151,7 +151,7 @@ module _ {shape : Shape} {had : List MapEntry} {table : Given} {fresh : List Boo
 
   pub settle_base_look-accounted : {answer : Settled} {base_flies' : List Ticket → Type 0} {base_tells : Type 0} {base out out' : List Sector} {base_last' base_faults' : ℕ} (late late' : ℕ)
       → BaseLookSettled answer shape i passes passes' history history' base_flies base_flies' base_tells base out out' → base_last' ≡ base_last → IsCaused answer base_faults base_faults' late late'
-      → IsExplained shape had table fresh passes' history' (counted last opened faults) (counted base_last' base_opened base_faults')
+      → IsExplained shape had table fresh passes' history' (counted_as last opened faults) (counted_as base_last' base_opened base_faults')
   settle_base_look-accounted {answer} late late' step number cause = record {
     of_store = base_look_settled-store_blamed co was.of_store step;
     of_base = base_look_settled-blamed co was.of_base step number late late' cause;
@@ -164,8 +164,8 @@ module _ {shape : Shape} {had : List MapEntry} {table : Given} {fresh : List Boo
 pub ask-accounted : {shape : Shape} {had : List MapEntry} {table : Given} {fresh : List Bool} {places : ℕ → Option ℕ} {passes : List Pass} {history : Numbered} {sectors depth base_sectors base_depth : ℕ} {flies base_flies : List Ticket → Type 0}
     {last opened faults base_last base_opened base_faults : ℕ} {result : Option Answer} {request : Asked} {i : ℕ} {table' : Given} {passes' : List Pass} {history' : Numbered} {spare spare' : Room} {events : ℕ}
     → IsCoherent shape fresh places passes history.log.entries sectors depth base_sectors base_depth flies base_flies → CanAsk shape table passes history spare events request i
-    → AskEnds result request events i (asking shape table passes history spare) (asking shape table' passes' history' spare') → IsExplained shape had table fresh passes history.log.entries (counted last opened faults) (counted base_last base_opened base_faults)
-    → IsExplained shape had table' fresh passes' history'.log.entries (counted last opened faults) (counted base_last base_opened base_faults)
+    → AskEnds result request events i (asking shape table passes history spare) (asking shape table' passes' history' spare') → IsExplained shape had table fresh passes history.log.entries (counted_as last opened faults) (counted_as base_last base_opened base_faults)
+    → IsExplained shape had table' fresh passes' history'.log.entries (counted_as last opened faults) (counted_as base_last base_opened base_faults)
 ask-accounted {result = result} {request = request} {i = i} {passes' = passes'} {spare' = spare'} {events = events} co can (inl none) was = let same = none.2 in record {
   of_store = rw (same.passes_same, same.history_same) was.of_store;
   of_base = rw (same.passes_same, same.history_same) was.of_base;
@@ -191,7 +191,7 @@ ask-accounted {result = result} {request = request} {i = i} {passes' = passes'} 
 -- A core in which nothing was asked has nothing to account for.
 pub opened-accounted : {shape : Shape} {passes : List Pass} {count block last opened faults base_last base_opened base_faults : ℕ} (had : List MapEntry) (table : Given) {fresh : List Bool} → AreNew count block passes
     → ((c : ℕ) (e : MapEntry) → slice_get had c ≡ Some e → (slice_get table.chunks c ≡ Some None) ↔ (e.storage ≡ 0)) → length had ≡ length table.chunks → AreLocalBy shape had fresh [] → opened ≡ faults → base_opened ≡ base_faults
-    → IsExplained shape had table fresh passes [] (counted last opened faults) (counted base_last base_opened base_faults)
+    → IsExplained shape had table fresh passes [] (counted_as last opened faults) (counted_as base_last base_opened base_faults)
 opened-accounted {shape} {passes} {count} {block} had table {fresh} new given many local now base_now = record {
   of_store = rw now (new-blamed (replicate block zero_sector) new.each);
   of_base = rw base_now (new-blamed (replicate block zero_sector) new.each);

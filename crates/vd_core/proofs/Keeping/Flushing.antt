@@ -23,9 +23,9 @@ use Rattle.vd_passes.specs.Causes.{OfStore, IsNumbered}
 use Rattle.vd_passes.proofs.Flushing.{IsFlushing, submits_meta-coherent, submits_meta-regions, meta_settled-coherent, meta_settled-regions, ends_flush-coherent, ends_flush-regions}
 use Rattle.vd_passes.proofs.FlushingTold.{submits_meta-faithful, meta_settled-faithful, ends_flush-faithful}
 use Rattle.vd_passes.proofs.FlushingAccounts.{room-submits_meta, room-meta_settled, room-ends_flush, meta_settled-same, submits_meta-blamed, submits_meta-base_blamed, submits_meta-of-passes, submits_meta-followed, meta_settled-blamed, meta_settled-base_blamed, meta_settled-of-passes, meta_settled-followed, ends_flush-blamed, ends_flush-of-passes, ends_flush-followed}
-use Rattle.vd_core.specs.Kept.{IsKept, IsLogged, IsFaithfullyKept, counted, IsExplained}
+use Rattle.vd_core.specs.Kept.{IsKept, IsLogged, IsFaithfullyKept, counted_as, IsExplained}
 use Rattle.vd_core.proofs.Rooming.{room-same}
-use Rattle.vd_core.proofs.Starting.{GoesOn, settle-goes-on}
+use Rattle.vd_core.proofs.Starting.{HasGrown, settle-goes-on}
 use Rattle.vd_core.proofs.Keeping.Telling.{told-on, told-here, logged-on, logged-here}
 
 ends-way : {why : Option Fault} {i : ℕ} {passes passes' : List Pass} (step : EndsFlush why i passes passes') → IsFlushing step.pass
@@ -82,7 +82,7 @@ module _ {shape : Shape} {state : State} {regions : List (Option Region)} {passe
     end-told was store tell = told-here (was store tell) refl (λ start faithful. ends_flush-faithful kept.coherent step faithful)
 
 pub submit-opening : {passes passes' : List Pass} {i : ℕ} {content : List Sector} {shape : Shape} {flies flies' : List Ticket → Type 0} {tells tells' : Type 0} {disk disk' : Disk} {last last' : ℕ}
-    → SubmitsMeta content shape i passes passes' flies flies' tells tells' disk disk' last last' → tells' → GoesOn disk disk'
+    → SubmitsMeta content shape i passes passes' flies flies' tells tells' disk disk' last last' → tells' → HasGrown disk disk'
 submit-opening step store = (_, (step.told store).0)
 
 module _ {passes passes' : List Pass} {history : Numbered} {i : ℕ} where
@@ -94,10 +94,10 @@ module _ {passes passes' : List Pass} {history : Numbered} {i : ℕ} where
   end-logged step was = logged-here was refl (ends_flush-followed was.followed step)
 
 module _ {shape : Shape} {had : List MapEntry} {table : Given} {fresh : List Bool} {passes passes' : List Pass} {history : List Entry} {last opened faults base_last base_opened base_faults : ℕ}
-    (was : IsExplained shape had table fresh passes history (counted last opened faults) (counted base_last base_opened base_faults)) {i : ℕ} where
+    (was : IsExplained shape had table fresh passes history (counted_as last opened faults) (counted_as base_last base_opened base_faults)) {i : ℕ} where
   pub submit-accounted : {content : List Sector} {flies flies' : List Ticket → Type 0} {tells tells' : Type 0} {disk disk' : Disk} {store_last store_last' last' faults' : ℕ}
       → SubmitsMeta content shape i passes passes' flies flies' tells tells' disk disk' store_last store_last' → IsAt passes' i (IsNumbered OfStore last last') → faults ≤ faults'
-      → IsExplained shape had table fresh passes' history (counted last' opened faults') (counted base_last base_opened base_faults)
+      → IsExplained shape had table fresh passes' history (counted_as last' opened faults') (counted_as base_last base_opened base_faults)
   submit-accounted step number rise = record {
     of_store = submits_meta-blamed step was.of_store number rise;
     of_base = submits_meta-base_blamed step was.of_base;
@@ -107,7 +107,7 @@ module _ {shape : Shape} {had : List MapEntry} {table : Given} {fresh : List Boo
   }
 
   pub settle_meta-accounted : {answer : Settled} {flies flies' : List Ticket → Type 0} {tells tells' : Type 0} {disk disk' : Disk} {last' faults' : ℕ} (late late' : ℕ)
-      → MetaSettled answer i passes passes' flies flies' tells tells' disk disk' last last' → IsCaused answer faults faults' late late' → IsExplained shape had table fresh passes' history (counted last' opened faults') (counted base_last base_opened base_faults)
+      → MetaSettled answer i passes passes' flies flies' tells tells' disk disk' last last' → IsCaused answer faults faults' late late' → IsExplained shape had table fresh passes' history (counted_as last' opened faults') (counted_as base_last base_opened base_faults)
   settle_meta-accounted late late' step cause = record {
     of_store = meta_settled-blamed step was.of_store late late' cause;
     of_base = meta_settled-base_blamed step was.of_base;
@@ -116,7 +116,7 @@ module _ {shape : Shape} {had : List MapEntry} {table : Given} {fresh : List Boo
     of_passes = meta_settled-of-passes step was.of_passes;
   }
 
-  pub end-accounted : {why : Option Fault} → EndsFlush why i passes passes' → IsExplained shape had table fresh passes' history (counted last opened faults) (counted base_last base_opened base_faults)
+  pub end-accounted : {why : Option Fault} → EndsFlush why i passes passes' → IsExplained shape had table fresh passes' history (counted_as last opened faults) (counted_as base_last base_opened base_faults)
   end-accounted step = record {
     of_store = ends_flush-blamed step was.of_store;
     of_base = ends_flush-blamed step was.of_base;

@@ -17,7 +17,7 @@ use Rattle.vd_passes.specs.Following.{IsFollowed}
 use Rattle.vd_passes.proofs.TracingSteps.{enters-followed, fetches-followed, fills-followed, asks-followed, asks_full-followed}
 use Rattle.vd_core.specs.Asking.{asking, AskEnds}
 use Rattle.vd_core.specs.Entering.{IsKeptOut, EntersBlock}
-use Rattle.vd_core.proofs.Fetched.{FetchesIn}
+use Rattle.vd_core.specs.Fetching.{FetchesIn}
 
 module _ (shape : Shape) (chunks : List (Option ℕ)) (regions regions' : List (Option Region)) {passes passes' : List Pass} {history : List Entry} {numbers : List ℕ} {log : List Entry}
     (followed : IsFollowed passes history numbers log) (i : ℕ) where

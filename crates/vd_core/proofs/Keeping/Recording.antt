@@ -32,7 +32,7 @@ use Rattle.vd_metadata.specs.Attending.{IsAttended}
 use Rattle.vd_metadata.proofs.Others.{pass-attended, table-attended, owing-attended}
 use Rattle.vd_core.specs.Asking.{asking, AskEnds}
 use Rattle.vd_core.specs.Entering.{IsKeptOut, EntersBlock}
-use Rattle.vd_core.proofs.Fetched.{FetchesIn}
+use Rattle.vd_core.specs.Fetching.{FetchesIn}
 use Rattle.vd_core.specs.Issuing.{owed_after}
 use Rattle.vd_core.specs.Kept.{IsRecorded}
 use Rattle.vd_core.proofs.Local.{same-marks}

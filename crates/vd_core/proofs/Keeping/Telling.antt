@@ -18,12 +18,12 @@ use Rattle.vd_passes.specs.Coherent.{IsFaithful}
 use Rattle.vd_passes.specs.Following.{IsFollowed}
 use Rattle.vd_core.specs.Start.{Opening, opening_at, IsStart}
 use Rattle.vd_core.specs.Kept.{IsLogged, IsFaithfullyKept}
-use Rattle.vd_core.proofs.Starting.{GoesOn, since-more, opening-same}
+use Rattle.vd_core.proofs.Starting.{HasGrown, since-more, opening-same}
 
-pub same-opening : {passes : List Pass} {history : Numbered} {disk disk' : Disk} {opened : ℕ} → IsLogged passes history disk → GoesOn disk disk' → opened ≡ history.opened → opening_at opened disk' ≡ opening_at history.opened disk
+pub same-opening : {passes : List Pass} {history : Numbered} {disk disk' : Disk} {opened : ℕ} → IsLogged passes history disk → HasGrown disk disk' → opened ≡ history.opened → opening_at opened disk' ≡ opening_at history.opened disk
 same-opening {passes} {history} {disk} {disk'} logged on opened = ap (λ (n : ℕ). opening_at n disk') opened ∙ opening-same history.opened on logged.since
 
-pub logged-on : {passes passes' : List Pass} {history history' : Numbered} {disk disk' : Disk} → IsLogged passes history disk → GoesOn disk disk' → history'.opened ≡ history.opened
+pub logged-on : {passes passes' : List Pass} {history history' : Numbered} {disk disk' : Disk} → IsLogged passes history disk → HasGrown disk disk' → history'.opened ≡ history.opened
     → IsFollowed passes' history'.log.entries history'.numbers disk'.log → IsLogged passes' history' disk'
 logged-on {passes} {passes'} {history} {history'} logged on opened followed = record {
   since = let more = since-more history.opened on logged.since in omega (arith, more, opened);
@@ -35,7 +35,7 @@ pub logged-here : {passes passes' : List Pass} {history history' : Numbered} {di
 logged-here logged opened followed = record { since = let since = logged.since in omega (arith, since, opened); followed = followed }
 
 module _ {shape : Shape} {state : State} {table' : Given} {fresh' : Blocks} {passes passes' : List Pass} {history history' : Numbered} {S B : Type 0} {g : store.Ghosts S} {h : base.Ghosts B} {s : S} {b : B} where
-  pub told-on : {s' : S} → IsFaithfullyKept g h shape state passes history s b → IsLogged passes history (g.disk s) → GoesOn (g.disk s) (g.disk s') → history'.opened ≡ history.opened
+  pub told-on : {s' : S} → IsFaithfullyKept g h shape state passes history s b → IsLogged passes history (g.disk s) → HasGrown (g.disk s) (g.disk s') → history'.opened ≡ history.opened
       → ((start : List Sector) → IsFaithful start (background (h.content b) shape.tracked) shape state.fresh.bits (place_of shape state.table.chunks) passes history.log.entries (g.disk s) (g.last s)
       → IsFaithful start (background (h.content b) shape.tracked) shape fresh'.bits (place_of shape table'.chunks) passes' history'.log.entries (g.disk s') (g.last s'))
       → IsFaithfullyKept g h shape (record state { table = table'; fresh = fresh' }) passes' history' s' b

@@ -20,7 +20,7 @@ use Rattle.vd_safety.specs.Mirrors.{opening_for, IsSecured}
 use Rattle.vd_safety.proofs.Surroundings.{Surroundings, surroundings-of}
 use Rattle.vd_core.specs.Start.{Opening, opening_at, IsStart, WasSafe}
 use Rattle.vd_core.specs.Kept.{IsKept, IsFaithfullyKept, IsLogged, IsRecorded, IsSafelyKept}
-use Rattle.vd_core.proofs.Starting.{GoesOn}
+use Rattle.vd_core.proofs.Starting.{HasGrown}
 use Rattle.vd_core.proofs.Keeping.Telling.{same-opening}
 
 at-appended : {A : Type 0} (xs ys : List A) (i : ℕ) (x : A) → length xs ≤ i → slice_get (xs ++ ys) i ≡ Some x → slice_get ys (i - length xs) ≡ Some x
@@ -74,7 +74,7 @@ module _ {state : State} {table' : Given} {fresh' : Blocks} {k k' : Keeping} {fl
   }
 
   -- the store has gone on, by entries that write to its sectors alone
-  pub safely-on : {the_store' : S} → IsLogged passes history (sg.disk the_store) → (on : GoesOn (sg.disk the_store) (sg.disk the_store')) → ((j a : ℕ) (v : Sector) → Writes on.0 j a v → a < sg.sectors the_store)
+  pub safely-on : {the_store' : S} → IsLogged passes history (sg.disk the_store) → (on : HasGrown (sg.disk the_store) (sg.disk the_store')) → ((j a : ℕ) (v : Sector) → Writes on.0 j a v → a < sg.sectors the_store)
       → sg.sectors the_store' ≡ sg.sectors the_store → history'.opened ≡ history.opened
       → ((start : List Sector) (held : ℕ → Sector) → IsStart (opening_at history.opened (sg.disk the_store)) (bg.content the_base) state.header start → IsSecured (opening_for state.header state.map (sg.disk the_store).start held (bg.content the_base) start history.opened) state.table state.fresh.bits k flusher passes history (sg.disk the_store).log
       → IsSecured (opening_for state.header state.map (sg.disk the_store).start held (bg.content the_base) start history.opened) table' fresh'.bits k' flusher' passes' history' (sg.disk the_store').log)

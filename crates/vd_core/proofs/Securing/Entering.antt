@@ -17,7 +17,7 @@ use Rattle.vd_passes.specs.declared.pass.Phase.TheVariants.{Asked as HasAsked, H
 use Rattle.vd_passes.specs.Steps.{IsAt, FetchSettled}
 use Rattle.vd_safety.proofs.Others.{enter-secured, fetch-secured, fill-secured, settle_fetch-secured}
 use Rattle.vd_core.specs.Entering.{IsKeptOut, EntersBlock}
-use Rattle.vd_core.proofs.Fetched.{FetchesIn}
+use Rattle.vd_core.specs.Fetching.{FetchesIn}
 use Rattle.vd_core.specs.Kept.{IsKept, IsFaithfullyKept, IsRecorded, IsSafelyKept}
 use Rattle.vd_core.proofs.Securing.Carrying.{safely-here, around}
 

@@ -129,7 +129,7 @@ module _ {S B : Type 0} (g : store.Ghosts S) (h : base.Ghosts B) (x : S) (y : B)
       × (g.tells x → IsLogged passes history (g.disk x))
       × IsRecorded shape s passes None k
       × (g.tells x → h.tells y → IsSafelyKept g h s k None passes history x y)
-      × (g.records x → h.tells y → g.tells x ⊎ IsSafelyStopped s.header history (g.events x) (g.disk x) (h.content y))
+      × (g.records x → h.tells y → g.tells x ⊎ IsSafelyStopped g h s.header history x y)
       × IsTold g x
 
   pub opened-parts : {shape : Shape} {k : Keeping} {regions : List (Option Region)} {history : Numbered} {spare : Room} → shape ≡ shape_of s.header (h.sectors y) → k ≡ new_keeping s → regions ≡ replicate count None

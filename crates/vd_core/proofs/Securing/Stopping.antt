@@ -3,7 +3,7 @@ use Rattle.std.proofs.Common.{◌≡◌, ℕ, ◌-◌, ◌<◌, ◌≤◌, ◌�
 use Rattle.std.proofs.lemmas.List.{append_assoc, append-nil}
 use Rattle.vd_device.specs.declared.store.Store as store
 use Rattle.vd_device.specs.declared.base.Base as base
-use Rattle.vd_device.specs.Stores.{KeepsStore}
+use Rattle.vd_device.specs.Stores.{IsTold, KeepsStore}
 use Rattle.vd_device.specs.Bases.{KeepsBase}
 use Rattle.vd_replay.specs.declared.state.State.{State}
 use Rattle.vd_law.specs.declared.entry.Sector.{Sector}
@@ -16,7 +16,7 @@ use Rattle.vd_law.proofs.Numbers.{rising-push, last_number-push}
 use Rattle.vd_device.specs.declared.settled.Settled.{Settled}
 use Rattle.vd_device.specs.declared.settled.Settled.TheVariants.{Done, NotYet, Failed}
 use Rattle.vd_device.specs.declared.ticket.Ticket.{Ticket}
-use Rattle.vd_device.specs.Disks.{Disk, TellsOrStopped, HasStood, TellsOrStood}
+use Rattle.vd_device.specs.Disks.{Disk, HasStood, TellsOrStood}
 use Rattle.vd_format.specs.declared.header.Header.{Header}
 use Rattle.vd_image.specs.Layouts.{layout_of}
 use Rattle.vd_image.specs.Decoders.{format_of}
@@ -38,9 +38,8 @@ use Rattle.vd_core.specs.Asking.{asking, AskEnds}
 use Rattle.vd_core.specs.Outcomes.{numbers_of, read_numbers_of}
 use Rattle.vd_core.specs.Opening.{empty_history}
 use Rattle.vd_core.specs.Start.{Opening, opening_at, IsStart, WasSafe}
-use Rattle.vd_core.specs.Kept.{IsRoomy, IsLogged, IsSafelyKept, IsStillSafe, IsSafelyStopped}
-use Rattle.vd_core.proofs.Starting.{GoesOn}
-use Rattle.vd_core.proofs.Keeping.Telling.{same-opening}
+use Rattle.vd_core.specs.Kept.{IsRoomy, IsSafelyKept, IsStillSafe, IsSafelyStopped}
+use Rattle.vd_core.proofs.Starting.{opening-stood}
 use Rattle.vd_core.proofs.Securing.Words.{safely-words}
 
 -- the numbers are not above the events that there are after a call
@@ -133,58 +132,50 @@ module _ {h : Header} {base start : List Sector} {disk : Disk} where
 
 -- ---- the store stands
 
--- It told at opening what it had told, since its log stands.
-stood-opening : {events' opened opened' : ℕ} {disk disk' : Disk} → HasStood events' disk disk' → opened' ≡ opened → opening_at opened' disk' ≡ opening_at opened disk
-stood-opening {opened = opened} {disk = disk} {disk'} stood same =
-    ap (λ (n : ℕ). opening_at n disk') same ∙ ap (λ (xs : List Sector). opening_at opened (record { start = xs; log = disk'.log; held = disk'.held })) stood.start
-    ∙ ap (λ (xs : List Entry). opening_at opened (record { start = disk.start; log = xs; held = disk'.held })) stood.log
-
--- What the store had told at opening is the same after a call, whether the store tells then or has stopped.
-pub opening-stands : {passes : List Pass} {history : Numbered} {events' opened : ℕ} {disk disk' : Disk} {tells records' tells' : Type 0} → (tells → IsLogged passes history disk) → (tells' → tells) → (tells' → GoesOn disk disk')
-    → (records' → TellsOrStood tells' events' disk disk') → opened ≡ history.opened → records' → opening_at opened disk' ≡ opening_at history.opened disk
-opening-stands logged told_before on stands same recorded = elim (stands recorded) [
-  | inl told ↦ same-opening (logged (told_before told)) (on told) same
-  | inr stood ↦ stood-opening stood same
-]
-
--- A core is made. Where its store has stopped, no moment of the log has come since.
-pub opened-stopped : {h : Header} {room : Room} {events : ℕ} {disk : Disk} {base : List Sector} {records tells base_tells : Type 0} → (records → TellsOrStopped tells events disk)
-    → records → base_tells → tells ⊎ IsSafelyStopped h (empty_history room events) events disk base
-opened-stopped {disk = disk} stands recorded base_told = elim (stands recorded) [
-  | inl told ↦ inl told
-  | inr stopped ↦ inr (record {
-    stopped = stopped;
-    safe = λ start is safe. record {
-      each = refl;
-      rising = tt;
-      crash_safe = record {
-        sound = λ k image low within left. absurd (omega (arith, low, within, stopped));
-        allowed = λ k image low within left. absurd (omega (arith, low, within, stopped));
+module _ {header : Header} {S B : Type 0} {g : store.Ghosts S} {h : base.Ghosts B} {s : S} {b : B} where
+  -- A core is made. Where its store has stopped, no moment of the log has come since.
+  pub opened-stopped : {room : Room} → IsTold g s → g.records s → h.tells b → g.tells s ⊎ IsSafelyStopped g h header (empty_history room (g.events s)) s b
+  opened-stopped told recorded base_told = elim (told recorded) [
+    | inl tells ↦ inl tells
+    | inr stopped ↦ inr (record {
+      stopped = stopped;
+      safe = λ start is safe. record {
+        each = refl;
+        rising = tt;
+        crash_safe = record {
+          sound = λ k image low within left. absurd (omega (arith, low, within, stopped));
+          allowed = λ k image low within left. absurd (omega (arith, low, within, stopped));
+        };
       };
-    };
-  })
-]
+    })
+  ]
 
--- nothing of the store and the base has changed
-pub stopped-same : {h : Header} {history history' : Numbered} {events : ℕ} {disk : Disk} {base : List Sector} {records tells base_tells : Type 0} → (records → base_tells → tells ⊎ IsSafelyStopped h history events disk base)
-    → history'.opened ≡ history.opened → (length disk.log < events → (start : List Sector) → IsStillSafe h base start disk history → IsStillSafe h base start disk history')
-    → records → base_tells → tells ⊎ IsSafelyStopped h history' events disk base
-stopped-same {h} {history} {history'} {events} {disk} {base} was opened next recorded base_told = elim (was recorded base_told) [
-  | inl told ↦ inl told
-  | inr before ↦ inr (record {
-    stopped = before.stopped;
-    safe = λ start is safe. next before.stopped start (before.safe start (subst (λ (n : ℕ). IsStart (opening_at n disk) base h start) opened is) (subst (λ (n : ℕ). WasSafe (opening_at n disk) h) opened safe));
-  })
-]
+  -- nothing of the store and the base has changed
+  pub stopped-same : {history history' : Numbered} → (g.records s → h.tells b → g.tells s ⊎ IsSafelyStopped g h header history s b) → history'.opened ≡ history.opened
+      → (length (g.disk s).log < g.events s → (start : List Sector) → IsStillSafe header (h.content b) start (g.disk s) history → IsStillSafe header (h.content b) start (g.disk s) history')
+      → g.records s → h.tells b → g.tells s ⊎ IsSafelyStopped g h header history' s b
+  stopped-same {history} {history'} was opened next recorded base_told = elim (was recorded base_told) [
+    | inl told ↦ inl told
+    | inr before ↦ inr (record {
+      stopped = before.stopped;
+      safe = λ start is safe. next before.stopped start
+          (before.safe start (subst (λ (n : ℕ). IsStart (opening_at n (g.disk s)) (h.content b) header start) opened is) (subst (λ (n : ℕ). WasSafe (opening_at n (g.disk s)) header) opened safe));
+    })
+  ]
 
--- the base has had a call
-pub stopped-here : {head : Header} {history : Numbered} {events : ℕ} {disk : Disk} {records tells : Type 0} {B : Type 0} {h : base.Ghosts B} {b b' : B}
-    → (records → h.tells b → tells ⊎ IsSafelyStopped head history events disk (h.content b)) → KeepsBase h b b' → records → h.tells b' → tells ⊎ IsSafelyStopped head history events disk (h.content b')
-stopped-here {head} {history} {events} {disk} {tells = tells} was keeps recorded base_told =
-    subst (λ (xs : List Sector). tells ⊎ IsSafelyStopped head history events disk xs) (sym (keeps.telling.content base_told)) (was recorded (keeps.telling.told_before base_told))
+  -- the base has had a call
+  pub stopped-here : {history : Numbered} {b' : B} → (g.records s → h.tells b → g.tells s ⊎ IsSafelyStopped g h header history s b) → KeepsBase h b b' → g.records s → h.tells b' → g.tells s ⊎ IsSafelyStopped g h header history s b'
+  stopped-here {history} {b'} was keeps recorded base_told = let content = keeps.telling.content base_told in elim (was recorded (keeps.telling.told_before base_told)) [
+    | inl told ↦ inl told
+    | inr before ↦ inr (record {
+      stopped = before.stopped;
+      safe = λ start is safe. subst (λ (xs : List Sector). IsStillSafe header xs start (g.disk s) history) (sym content)
+          (before.safe start (subst (λ (xs : List Sector). IsStart (opening_at history.opened (g.disk s)) xs header start) content is) safe);
+    })
+  ]
 
 module _ {state : State} {k : Keeping} {flusher : Option ℕ} {passes : List Pass} {history : Numbered} {S B : Type 0} {sg : store.Ghosts S} {bg : base.Ghosts B} {the_store : S} {the_base : B}
-    (safely : sg.tells the_store → bg.tells the_base → IsSafelyKept sg bg state k flusher passes history the_store the_base) (was : sg.records the_store → bg.tells the_base → (sg.tells the_store) ⊎ IsSafelyStopped state.header history (sg.events the_store) (sg.disk the_store) (bg.content the_base)) where
+    (safely : sg.tells the_store → bg.tells the_base → IsSafelyKept sg bg state k flusher passes history the_store the_base) (was : sg.records the_store → bg.tells the_base → (sg.tells the_store) ⊎ IsSafelyStopped sg bg state.header history the_store the_base) where
   -- whether it tells or has stopped, the history is crash safe by the log as it stands
   pub still-safe : sg.records the_store → bg.tells the_base → (start : List Sector) → IsStart (opening_at history.opened (sg.disk the_store)) (bg.content the_base) state.header start → WasSafe (opening_at history.opened (sg.disk the_store)) state.header → IsStillSafe state.header (bg.content the_base) start (sg.disk the_store) history
   still-safe recorded base_told start is safe = elim (was recorded base_told) [
@@ -202,13 +193,13 @@ module _ {state : State} {k : Keeping} {flusher : Option ℕ} {passes : List Pas
   -- The store has had a call. If it has stopped, in it or before, its log stands as it stood.
   pub stopped-on : {history' : Numbered} {the_store' : S} → (sg.records the_store' → (sg.records the_store)) → (sg.records the_store' → TellsOrStood (sg.tells the_store') (sg.events the_store') (sg.disk the_store) (sg.disk the_store')) → history'.opened ≡ history.opened
       → (length (sg.disk the_store).log < (sg.events the_store') → (start : List Sector) → IsStillSafe state.header (bg.content the_base) start (sg.disk the_store) history → IsStillSafe state.header (bg.content the_base) start (sg.disk the_store) history')
-      → sg.records the_store' → bg.tells the_base → (sg.tells the_store') ⊎ IsSafelyStopped state.header history' (sg.events the_store') (sg.disk the_store') (bg.content the_base)
+      → sg.records the_store' → bg.tells the_base → (sg.tells the_store') ⊎ IsSafelyStopped sg bg state.header history' the_store' the_base
   stopped-on {history'} {the_store'} recorded_before stands opened next recorded base_told = elim (stands recorded) [
     | inl told ↦ inl told
     | inr stood ↦ inr (record {
       stopped = stood.stopped;
       safe = λ start is safe.
-          let same = stood-opening stood opened in
+          let same = ap (λ (n : ℕ). opening_at n (sg.disk the_store')) opened ∙ opening-stood history.opened (sg.events the_store') (sg.disk the_store) (sg.disk the_store') stood in
           let late : length (sg.disk the_store).log < (sg.events the_store') = (let long = ap length stood.log in omega (arith, long, stood.stopped)) in
           let before = still-safe (recorded_before recorded) base_told start (subst (λ (o : Opening). IsStart o (bg.content the_base) state.header start) same is) (subst (λ (o : Opening). WasSafe o state.header) same safe) in
           as_before stood (next late start before);

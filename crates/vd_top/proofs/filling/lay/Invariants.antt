@@ -1,15 +1,14 @@
-use Rattle.std.proofs.Common.{◌-◌, ◌≤◌, []}
+use Rattle.std.proofs.Common.{◌-◌, ◌≤◌}
 use Rattle.vd_law.specs.declared.entry.Sector.{Sector}
+use Rattle.vd_device.specs.Stores.{KeepsStore}
 use Rattle.vd_reading.specs.Quiet.{IsReady}
-use Rattle.vd_top.specs.Leaving.{Leaves}
 use Rattle.vd_top.specs.Putting.{AreAll, Lays, IsLaid}
 use Rattle.vd_top.proofs.filling.lay.Given as goal
 
 abbrev pub invariant-loop-at : goal.invariant-loop-at
 invariant-loop-at g l = record {
-  ready : IsReady (g.S.Store.flies l.store []) (g.S.Store.depth l.store) (g.S.Store.tells l.store) (g.S.Store.disk l.store);
-  leaves : Leaves (g.S.Store.flies l.store []) (g.S.Store.sectors l.fn.store) (g.S.Store.sectors l.store) (g.S.Store.depth l.fn.store) (g.S.Store.depth l.store) (g.S.Store.faults l.fn.store) (g.S.Store.faults l.store)
-      (g.S.Store.tells l.fn.store) (g.S.Store.tells l.store) (g.S.Store.records l.fn.store) (g.S.Store.records l.store);
+  ready : IsReady g.S.Store l.store;
+  keeps : KeepsStore g.S.Store l.fn.store l.store;
   lays : (v : Sector) → AreAll v l.content → g.S.Store.tells l.store → Lays v l.from l.to (g.S.Store.disk l.fn.store) (g.S.Store.disk l.store);
   laid : (v : Sector) → AreAll v l.content → g.S.Store.tells l.store → IsLaid v l.from l.at (g.S.Store.disk l.store);
   low : l.from ≤ l.at;

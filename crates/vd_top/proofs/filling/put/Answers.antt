@@ -1,16 +1,20 @@
 use Rattle.std.proofs.Common.{[]}
-use Rattle.vd_top.proofs.LeavingLaws.{ready_after}
+use Rattle.vd_top.proofs.LeavingLaws.{call_failed, ready_after}
 use Rattle.vd_top.proofs.PutLaws.{lays_one, laid_one, laid_ok, write_ready}
 use Rattle.vd_top.proofs.filling.put.Goals as goal
 
+pub returns-clause-fault : goal.returns-clause-fault
+returns-clause-fault g c = call_failed c.write_now.result c.write_now.ensures.calls
+
 pub returns-clause-ready : goal.returns-clause-ready
 returns-clause-ready g c =
-    ready_after c.requires.ready (c.write_now.ensures.flight [] c.requires.ready.idle_is) c.write_now.ensures.depth
-    (λ told. write_ready _ _ c.args.content.now c.write_now.result _ _ (c.requires.ready.rest (c.write_now.ensures.told_before told)) (c.write_now.ensures.told told))
+    let calls = c.write_now.ensures.calls in
+    ready_after c.requires.ready (calls.flight [] c.requires.ready.idle_is) calls.keeps
+    (λ told. write_ready _ _ c.args.content.now c.write_now.result _ _ (c.requires.ready.rest (calls.keeps.telling.told_before told)) (c.write_now.ensures.told told))
 
 pub returns-clause-lays : goal.returns-clause-lays
-returns-clause-lays g c v all told = lays_one v _ _ c.args.content.now c.write_now.result _ _ all (c.requires.ready.rest (c.write_now.ensures.told_before told)) (c.write_now.ensures.told told)
+returns-clause-lays g c v all told = lays_one v _ _ c.args.content.now c.write_now.result _ _ all (c.requires.ready.rest (c.write_now.ensures.calls.keeps.telling.told_before told)) (c.write_now.ensures.told told)
 
 pub returns-clause-laid : goal.returns-clause-laid
 returns-clause-laid g c =
-    laid_ok _ _ _ _ c.write_now.result (λ v all told. laid_one v _ _ c.args.content.now c.write_now.result _ _ all (c.requires.ready.rest (c.write_now.ensures.told_before told)) (c.write_now.ensures.told told))
+    laid_ok _ _ _ _ c.write_now.result (λ v all told. laid_one v _ _ c.args.content.now c.write_now.result _ _ all (c.requires.ready.rest (c.write_now.ensures.calls.keeps.telling.told_before told)) (c.write_now.ensures.told told))

@@ -12,8 +12,18 @@ kept zero more = absurd (omega arith)
 kept (suc zero) more = absurd (omega arith)
 kept (suc (suc n)) more = refl
 
-pub returns-in-Err-clause-ends : goal.returns-in-Err-clause-ends
-returns-in-Err-clause-ends g c = inr (cut c.status_of-status.result c.if-status-lt2.true ∙ ap unwritten c.status_of-status.ensures, c.in-Err.ensures.cause, (λ told. (c.in-Err.ensures.writes told).err))
+pub returns-in-Err : goal.returns-in-Err
+returns-in-Err g c = record {
+  ends = record {
+    keeps = record { told_before = c.put_line.ensures.told_before; calm = c.put_line.ensures.calm };
+    printed = inr (cut c.status_of-status.result c.if-status-lt2.true ∙ ap unwritten c.status_of-status.ensures, c.in-Err.ensures.cause, (λ told. (c.in-Err.ensures.writes told).err));
+  };
+}
 
-pub returns-in-Err-2-clause-ends : goal.returns-in-Err-2-clause-ends
-returns-in-Err-2-clause-ends g c = inr (kept c.status_of-status.result c.if-status-lt2.false ∙ ap unwritten c.status_of-status.ensures, c.in-Err-2.ensures.cause, (λ told. (c.in-Err-2.ensures.writes told).err))
+pub returns-in-Err-2 : goal.returns-in-Err-2
+returns-in-Err-2 g c = record {
+  ends = record {
+    keeps = record { told_before = c.put_line.ensures.told_before; calm = c.put_line.ensures.calm };
+    printed = inr (kept c.status_of-status.result c.if-status-lt2.false ∙ ap unwritten c.status_of-status.ensures, c.in-Err-2.ensures.cause, (λ told. (c.in-Err-2.ensures.writes told).err));
+  };
+}

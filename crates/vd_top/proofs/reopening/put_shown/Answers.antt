@@ -4,14 +4,13 @@ use Rattle.vd_top.proofs.ReopeningLaws.{read_shows, fault_shows}
 use Rattle.vd_top.proofs.reopening.put_shown.Goals as goal
 
 pub returns-in-Ok-clause-shows : goal.returns-in-Ok-clause-shows
-returns-in-Ok-clause-shows g c =
-    let quiet = c.read_disk.ensures.quiet in let under = c.read_disk.ensures.base_quiet in (
-      Sectors c.args.first c.read_disk.new.out,
-      read_shows c.args.state.now c.args.first _ c.read_disk.new.out c.read_disk.ensures.size (λ t. quiet.held t.0) (λ t. under.content_same t.1) (λ t. c.requires.says (quiet.told_before t.0)) (λ t. c.in-Ok.ensures.read t.0 t.1),
-      refl,
-      c.put_sectors.ensures,
-    )
+returns-in-Ok-clause-shows g c = (
+  Sectors c.args.first c.read_disk.new.out,
+  read_shows c.args.state.now c.args.first _ c.read_disk.new.out c.read_disk.ensures.size (record { store = c.read_disk.ensures.quiet; base = c.read_disk.ensures.base_quiet }) c.requires.says c.in-Ok.ensures.read,
+  refl,
+  c.put_sectors.ensures,
+)
 
 pub returns-in-Err-clause-shows : goal.returns-in-Err-clause-shows
 returns-in-Err-clause-shows g c =
-    (Failed c.args.first c.fault_line.result, (λ line at many. fault_shows _ _ _ _ c.args.first c.in-Err.fault c.fault_line.result c.fault_line.ensures c.in-Err.ensures.fault line at), refl, c.put_next.ensures)
+    (Failed c.args.first c.fault_line.result, (λ line at many. fault_shows c.args.first c.in-Err.fault c.fault_line.result c.fault_line.ensures c.in-Err.ensures.fault line at), refl, c.put_next.ensures)

@@ -2,26 +2,23 @@ use Rattle.std.proofs.Common.{◌≡◌, ◌∙◌, refl, ap, sym, arith, Bool, 
 use Rattle.std.specs.Prelude.{◌||◌}
 use Rattle.std.specs.List.{list_any, flat_map}
 use Rattle.std.proofs.lemmas.List.{length-take, length-drop, length-append}
-use Rattle.vd_io.proofs.Composing.{rose-earlier, rose-later}
-use Rattle.vd_reading.proofs.QuietLaws.{reads_nothing, reads_twice, logged_of_longer, logged_before_more}
+use Rattle.vd_reading.proofs.QuietLaws.{reads_nothing, base_reads_nothing}
 use Rattle.vd_replay.proofs.ListLaws.{get_some}
-use Rattle.vd_replay.proofs.DiskLaws.{base_twice}
 use Rattle.vd_top.specs.Ending.{has_failed, shown_text}
-use Rattle.vd_top.proofs.LeavingLaws.{base_left}
+use Rattle.vd_top.proofs.LeavingLaws.{both_read_twice}
 use Rattle.vd_top.proofs.RunningLaws.{line_within}
 use Rattle.vd_top.proofs.WritingLaws.{writes_nothing, writes_both, writes_as}
-use Rattle.vd_top.proofs.ReopeningLaws.{none_shown, one_more, all_later, shown_later, all_shown, failed_more, text_more}
+use Rattle.vd_top.proofs.ReopeningLaws.{none_shown, one_more, all_later, shown_earlier, all_shown, failed_more, text_more}
 use Rattle.vd_top.proofs.reopening.put_shows.Goals as goal
 
 pub loop-at-init : goal.loop-at-init
 loop-at-init g c = record {
   room = c.requires.room;
-  store = reads_nothing c.requires.store_idle;
-  base = base_left c.requires.base_idle;
+  reads = record { store = reads_nothing c.sectors_at_rest-sectors.ensures.ready; base = base_reads_nothing c.requires.base_idle };
   shown = [];
   are = none_shown c.args.trace.now.shows;
   failed = refl;
-  writes = writes_nothing c.args.written _ _;
+  writes = writes_nothing c.args.written;
 }
 
 pub put_shown-fails-requires-clause-inside : goal.put_shown-fails-requires-clause-inside
@@ -43,12 +40,9 @@ loop-at-preserved g c =
     let many : line.0.count ≡ length (take c.show-first.result.1 c.loop-at.room) = omega (arith, is.1, count, range.2, inv.room) in
     let here = put.shows.1 line.0 (sym is.0) many in record {
       room = (let a = length-append c.put_shown-fails.new.room (drop c.show-first.result.1 c.loop-at.room) in let b = length-drop c.show-first.result.1 c.loop-at.room in let s = c.put_shown-fails.auto.room in omega (arith, a, b, s, many, is.1, inv.room, range.2));
-      store = reads_twice inv.store put.store;
-      base = base_twice inv.base put.base;
+      reads = both_read_twice inv.reads put.reads;
       shown = inv.shown ++ shows ∷ [];
-      are = one_more c.args.trace.now.shows c.loop-at.at line.0 inv.shown shows line.1
-          (all_later (λ t. (put.store.told_before t.0, put.base.told_before t.1)) (λ t. refl) (λ t. refl) (λ ticket fault. logged_before_more put.store fault) (λ r. rose-later _ _ _ r put.base.calm) inv.are)
-          (shown_later shows (λ t. t) (λ t. inv.store.held (put.store.told_before t.0)) (λ t. inv.base.content_same (put.base.told_before t.1)) (λ ticket fault. logged_of_longer inv.store put.store fault) (λ r. rose-earlier _ _ _ inv.base.calm r) here);
+      are = one_more c.args.trace.now.shows c.loop-at.at line.0 inv.shown shows line.1 (all_later put.reads inv.are) (shown_earlier shows inv.reads put.reads here);
       failed = ap (λ (b : Bool). b || c.put_shown-fails.result.0) inv.failed ∙ ap (λ (b : Bool). list_any has_failed inv.shown || b) put.shows.2 ∙ sym (failed_more inv.shown shows);
       writes = writes_as (text_more inv.shown shows) (writes_both (flat_map shown_text inv.shown) (shown_text shows) _ _ _ inv.writes put.shows.3);
     }

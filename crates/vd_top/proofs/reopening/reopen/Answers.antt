@@ -2,21 +2,25 @@ use Rattle.std.proofs.Common.{◌∙◌, refl, ap, sym, arith, ℕ, Bool, ◌++�
 use Rattle.std.specs.Prelude.{if◌then◌else◌}
 use Rattle.std.specs.List.{flat_map}
 use Rattle.vd_bits.specs.Marks.{count_true}
-use Rattle.vd_reading.proofs.QuietLaws.{reads_twice, logged_of_longer}
+use Rattle.vd_reading.proofs.QuietLaws.{base_reads_nothing}
 use Rattle.vd_report.specs.declared.line.Line.TheVariants as lines
 use Rattle.vd_report.specs.declared.line.About.TheVariants as about
 use Rattle.vd_top.specs.Outcomes.{Refused, Opened}
 use Rattle.vd_top.specs.Ending.{about_line, shown_text}
+use Rattle.vd_top.proofs.LeavingLaws.{both_read_twice}
 use Rattle.vd_top.proofs.WritingLaws.{writes_both}
 use Rattle.vd_top.proofs.LocalLaws.{counts_local}
-use Rattle.vd_top.proofs.ReopeningLaws.{refused_again, version_kept, says_state, opens_again, all_later}
+use Rattle.vd_top.proofs.ReopeningLaws.{refused_again, version_kept, says_state, opens_again, all_earlier}
 use Rattle.vd_top.proofs.reopening.reopen.Goals as goal
 use Rattle.vd_top.proofs.reopening.reopen.Goals.{then-is_fault, else-is_fault, then-failed, else-failed}
+
+pub returns-in-Err-clause-reads : goal.returns-in-Err-clause-reads
+returns-in-Err-clause-reads g c = record { store = c.reload.ensures.quiet; base = base_reads_nothing c.requires.base_idle }
 
 pub returns-in-Err-clause-opens : goal.returns-in-Err-clause-opens
 returns-in-Err-clause-opens g c = let e = c.in-Err.ensures in (
   Refused c.show_line-line.result,
-  refused_again c.args.state.now.header c.in-Err.error c.show_line-line.result c.show_line-line.ensures e.fault e.errors e.refused,
+  refused_again c.args.state.now.header c.in-Err.error c.show_line-line.result c.show_line-line.ensures e.errors e.refused,
   elim c.if-is_fault.branch [
     | then-is_fault w ↦ w.status-is ∙ ap (λ (b : Bool). if b then 5 else 3) (sym w.if-is_fault.true ∙ c.is_fault.ensures)
     | else-is_fault w ↦ w.status-is ∙ ap (λ (b : Bool). if b then 5 else 3) (sym w.if-is_fault.false ∙ c.is_fault.ensures)
@@ -24,8 +28,8 @@ returns-in-Err-clause-opens g c = let e = c.in-Err.ensures in (
   c.put_next.ensures,
 )
 
-pub returns-clause-store : goal.returns-clause-store
-returns-clause-store g c = reads_twice c.reload.ensures.quiet c.put_shows-failed.ensures.store
+pub returns-clause-reads : goal.returns-clause-reads
+returns-clause-reads g c = both_read_twice (record { store = c.reload.ensures.quiet; base = base_reads_nothing c.requires.base_idle }) c.put_shows-failed.ensures.reads
 
 pub returns-clause-opens : goal.returns-clause-opens
 returns-clause-opens g c =
@@ -33,12 +37,13 @@ returns-clause-opens g c =
     let state = c.reload.new.self in
     let put = c.put_shows-failed.ensures in
     let shown = put.shows.0 in
+    let held = put.reads.store.held in
     let two = version_kept state.header c.args.state.now.header again.same c.requires.version in
-    let says = λ (t : g.S.Store.tells c.put_shows-failed.new.store). says_state _ _ state two (sym (put.store.held t)) (again.says (put.store.told_before t)) in (
+    let says = λ (t : g.S.Store.tells c.put_shows-failed.new.store). says_state _ _ state two (sym (held t)) (again.says (put.reads.store.keeps.telling.told_before t)) in (
       Opened shown c.count_local-local.result c.from.result,
       opens_again c.args.state.now.header state shown c.count_local-local.result c.from.result again.same says
-          (all_later (λ t. t) (λ t. sym (put.store.held t.0)) (λ t. refl) (λ ticket fault. logged_of_longer c.reload.ensures.quiet put.store fault) (λ r. r) put.shows.1)
-          (counts_local _ _ state c.count_local-local.result c.from.result again.whole says (c.from.ensures ∙ c.tracked_blocks-of.ensures.value) (omega (arith, c.from.ensures, c.tracked_blocks-of.ensures.inside))
+          (all_earlier (record { store = c.reload.ensures.quiet; base = base_reads_nothing c.requires.base_idle }) put.reads put.shows.1)
+          (counts_local state c.count_local-local.result c.from.result again.opened.whole says (c.from.ensures ∙ c.tracked_blocks-of.ensures.value) (omega (arith, c.from.ensures, c.tracked_blocks-of.ensures.inside))
           (c.count_local-local.ensures ∙ ap (λ (n : ℕ). count_true (take n state.fresh.bits)) (sym c.from.ensures))),
       elim c.if-failed.branch [
         | then-failed w ↦ w.status-is ∙ ap (λ (b : Bool). if b then 5 else 0) (sym w.if-failed.true ∙ put.shows.2)
