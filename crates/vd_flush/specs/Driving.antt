@@ -30,11 +30,14 @@ flush_work_of c = flush_work c.flusher c.keeping c.passes c.history.log.entries 
 -- What the step's answer says: the pass goes on and has fewer steps left, nothing changed, or it has had its reply. The reply is
 -- the one entry that is added to the history, and a flush that is asked begins only where none is under way.
 abbrev pub TellsFlush : Step → (i : ℕ) → (p p' : Pass) → (w w' : FlushWork) → Type 0
-TellsFlush Again i p p' w w' = (p'.phase ≢ Idle) × (flush_steps w'.keeping p' < flush_steps w.keeping p) × (w'.entries ≡ w.entries) × (p.phase ≡ Asked → w.flusher ≡ None)
+TellsFlush Again i p p' w w' =
+    (p'.phase ≢ Idle) × (flush_steps w'.keeping p' < flush_steps w.keeping p) × (w'.entries ≡ w.entries) × (p.phase ≡ Asked → w.flusher ≡ None)
 TellsFlush Late i p p' w w' = (w'.passes ≡ w.passes) × (w'.keeping ≡ w.keeping) × (w'.entries ≡ w.entries) × (p.phase ≡ Flushing)
-TellsFlush (Busy by) i p p' w w' = (w'.passes ≡ w.passes) × (w'.keeping ≡ w.keeping) × (w'.entries ≡ w.entries) × (p.phase ≡ Asked) × (w.flusher ≡ Some by) × (by ≢ i)
+TellsFlush (Busy by) i p p' w w' = (w'.passes ≡ w.passes) × (w'.keeping ≡ w.keeping) × (w'.entries ≡ w.entries)
+    × (p.phase ≡ Asked) × (w.flusher ≡ Some by) × (by ≢ i)
 TellsFlush (Ended answer) i p p' w w' =
-    (p'.phase ≡ Idle) × (answer ≡ answer_of p) × (w'.keeping ≡ w.keeping) × (p.phase ≡ Ready) × (w'.entries ≡ w.entries ++ Reply (call_of i p) answer ∷ [])
+    (p'.phase ≡ Idle) × (answer ≡ answer_of p) × (w'.keeping ≡ w.keeping) × (p.phase ≡ Ready)
+    × (w'.entries ≡ w.entries ++ Reply (call_of i p) answer ∷ [])
 
 -- One step of a flush. The flush under way is this pass's exactly while it flushes; another pass's goes on.
 pub record DrivesFlush (step : Step) (i : ℕ) (w w' : FlushWork) : Type 0 where

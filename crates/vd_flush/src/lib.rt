@@ -24,7 +24,8 @@ fn go_on<S: Store, B: Base>(core: &mut Core<S, B>, pass: u32) -> Step
     ensures late { result ≡ Late → Rose (S.late core.old.store) (S.late core.new.store) }
     ensures disk { (core.new.shape ≡ core.old.shape) × (core.new.table ≡ core.old.table) × (core.new.fresh ≡ core.old.fresh)
         × (core.new.header ≡ core.old.header) × (core.new.entries ≡ core.old.entries) }
-    ensures counted { (core.new.store_faults ≡ core.old.store_faults) × (core.new.base_faults ≡ core.old.base_faults) × (core.new.history.opened ≡ core.old.history.opened) }
+    ensures counted { (core.new.store_faults ≡ core.old.store_faults) × (core.new.base_faults ≡ core.old.base_faults)
+        × (core.new.history.opened ≡ core.old.history.opened) }
     ensures keeps { KeepsStore S.Store core.old.store core.new.store }
     ensures base { core.new.base ≡ core.old.base }
 {
@@ -60,7 +61,8 @@ impl Flusher {
         ensures late { result ≡ Late → Rose (S.late core.old.store) (S.late core.new.store) }
         ensures disk { (core.new.shape ≡ core.old.shape) × (core.new.table ≡ core.old.table) × (core.new.fresh ≡ core.old.fresh)
             × (core.new.header ≡ core.old.header) × (core.new.entries ≡ core.old.entries) }
-        ensures counted { (core.new.store_faults ≡ core.old.store_faults) × (core.new.base_faults ≡ core.old.base_faults) × (core.new.history.opened ≡ core.old.history.opened) }
+        ensures counted { (core.new.store_faults ≡ core.old.store_faults) × (core.new.base_faults ≡ core.old.base_faults)
+            × (core.new.history.opened ≡ core.old.history.opened) }
         ensures keeps { KeepsStore S.Store core.old.store core.new.store }
         ensures base { core.new.base ≡ core.old.base }
     {

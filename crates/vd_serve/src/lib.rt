@@ -30,7 +30,8 @@ fn serve_write<S: Store, B: Base>(
 )
     requires can { CanServe (Write first content.now) core.old.shape core.old.passes core.old.flusher core.old.spare }
     ensures resting { IsResting core.new.passes core.new.flusher }
-    ensures serves { Serves (Write first content.now) core.old.shape.block core.old.history.log.entries core.new.history.log.entries core.old.spare core.new.spare }
+    ensures serves { Serves (Write first content.now) core.old.shape.block
+        core.old.history.log.entries core.new.history.log.entries core.old.spare core.new.spare }
     ensures disk { IsSameDisk core.old core.new }
     ensures keeps { KeepsStore (patient_store S.Store) core.old.store core.new.store }
     ensures base_keeps { KeepsBase (patient_base B.Base) core.old.base core.new.base }
@@ -50,7 +51,8 @@ fn serve_read<S: Store, B: Base>(
 )
     requires can { CanServe (Read first (length out.old)) core.old.shape core.old.passes core.old.flusher core.old.spare }
     ensures resting { IsResting core.new.passes core.new.flusher }
-    ensures serves { Serves (Read first (length out.old)) core.old.shape.block core.old.history.log.entries core.new.history.log.entries core.old.spare core.new.spare }
+    ensures serves { Serves (Read first (length out.old)) core.old.shape.block
+        core.old.history.log.entries core.new.history.log.entries core.old.spare core.new.spare }
     ensures disk { IsSameDisk core.old core.new }
     ensures keeps { KeepsStore (patient_store S.Store) core.old.store core.new.store }
     ensures base_keeps { KeepsBase (patient_base B.Base) core.old.base core.new.base }
@@ -99,7 +101,8 @@ fn serve_one<S: Store, B: Base>(
     requires room { Suffices (pass_need_of core.old.shape.block (request_of asked sectors.old)) core.old.spare }
     requires sectors { length sectors.old ≡ 2048 }
     ensures resting { IsResting core.new.passes core.new.flusher }
-    ensures serves { Serves (request_of asked sectors.old) core.old.shape.block core.old.history.log.entries core.new.history.log.entries core.old.spare core.new.spare }
+    ensures serves { Serves (request_of asked sectors.old) core.old.shape.block
+        core.old.history.log.entries core.new.history.log.entries core.old.spare core.new.spare }
     ensures disk { IsSameDisk core.old core.new }
     ensures keeps { KeepsStore (patient_store S.Store) core.old.store core.new.store }
     ensures base_keeps { KeepsBase (patient_base B.Base) core.old.base core.new.base }

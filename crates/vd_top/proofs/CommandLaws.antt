@@ -221,13 +221,13 @@ pub ends_caused : {O : Type 0} {o : sink.Ghosts O} {out out' : O} {words : List 
     → IsCaused words Device Source (Rose (o.faults out) (o.faults out')) status
 ends_caused outcome cause ends = elim ends.printed [
   | inl whole ↦ record {
-      outside = ((λ two. cause.outside (sym whole.0 ∙ two)), (λ none. whole.0 ∙ cause.inside none));
-      device = λ five. cause.device (sym whole.0 ∙ five);
-      streams = λ six. inl (cause.source (sym whole.0 ∙ six));
-    }
+    outside = ((λ two. cause.outside (sym whole.0 ∙ two)), (λ none. whole.0 ∙ cause.inside none));
+    device = λ five. cause.device (sym whole.0 ∙ five);
+    streams = λ six. inl (cause.source (sym whole.0 ∙ six));
+  }
   | inr cut ↦ (let u = cause_unwritten (status_of outcome) cause in record {
-      outside = ((λ two. u.0 (sym cut.0 ∙ two)), (λ none. cut.0 ∙ u.1 none));
-      device = λ five. u.2 (sym cut.0 ∙ five);
-      streams = λ six. inr cut.1;
-    })
+    outside = ((λ two. u.0 (sym cut.0 ∙ two)), (λ none. cut.0 ∙ u.1 none));
+    device = λ five. u.2 (sym cut.0 ∙ five);
+    streams = λ six. inr cut.1;
+  })
 ]

@@ -1,15 +1,15 @@
 -- What commands leave of the devices, one after another.
-use Rattle.std.proofs.Common.{ℕ, ◌≡◌, ◌≤◌, length, List, [], Result, Ok, Err, arith}
+use Rattle.std.proofs.Common.{ℕ, ◌≡◌, ◌≤◌, length, List, [], Result, Ok, Err, refl, sym, arith, append-nil}
 use Rattle.std.specs.Prelude.{⊤, IfErr}
 use Rattle.vd_law.specs.Entries.{Entry}
 use Rattle.vd_device.specs.declared.store.Store as store
 use Rattle.vd_device.specs.declared.base.Base as base
 use Rattle.vd_device.specs.declared.patient.Patient.{Patient}
-use Rattle.vd_device.specs.Stores.{CallsStore, KeepsStore}
+use Rattle.vd_device.specs.Stores.{IsTold, CallsStore, KeepsStore}
 use Rattle.vd_device.specs.Bases.{KeepsBase}
 use Rattle.vd_device.specs.Disks.{IsHonest}
 use Rattle.vd_device.specs.Orders.{IsInOrder}
-use Rattle.vd_device.proofs.Keeping.{keeps-on, base-keeps-on}
+use Rattle.vd_device.proofs.Keeping.{keeps-on, keeps-same}
 use Rattle.vd_reading.specs.Quiet.{IsReady, IsCallFault, AddsFlush, OnlyReads, OnlyReadsBase, IsAtRest}
 use Rattle.vd_reading.proofs.QuietLaws.{reads_twice, base_reads_twice}
 use Rattle.vd_serve.specs.Waiting.{patient_store, patient_base}
@@ -24,6 +24,17 @@ module _ {S : Type 0} {g : store.Ghosts S} where
     deep = (let d = ready.deep in let same = keeps.counts.depth in omega arith);
     rest = rest;
     told = keeps.telling.state;
+  }
+
+  -- a store with nothing in flight is only read by no call
+  pub reads_idle : {s : S} → IsTold g s → g.flies s [] → OnlyReads g s s
+  reads_idle {s} told idle = record {
+    keeps = keeps-same g s told;
+    idle = idle;
+    held = λ t. refl;
+    rest = λ r. r;
+    added = λ t. record { start = refl; more = []; none = tt; log = sym (append-nil (g.disk s).log) };
+    recorded = λ r. record { start = refl; more = []; none = tt; log = sym (append-nil (g.disk s).log) };
   }
 
   -- a call that was waited for has failed

@@ -12,9 +12,8 @@ use Rattle.vd_format.specs.declared.header.Header.{Header}
 use Rattle.vd_format.specs.declared.header.HeaderError.TheVariants as header_errors
 use Rattle.vd_device.specs.declared.store.Store as store
 use Rattle.vd_device.specs.declared.base.Base as base
-use Rattle.vd_device.specs.Calls.{Rose}
 use Rattle.vd_reading.specs.Quiet.{IsFault, IsStoreFault}
-use Rattle.vd_reading.proofs.QuietLaws.{fault_logged, logged_of_longer, logged_before_more}
+use Rattle.vd_reading.proofs.QuietLaws.{reads_twice, base_reads_twice, base_reads_nothing, fault_of_longer, base_fault_of_longer}
 use Rattle.vd_image.specs.Image.{geometry_of, Geometry}
 use Rattle.vd_replay.specs.Images.{image_of}
 use Rattle.vd_replay.specs.States.{IsState, Says as StateSays}
@@ -34,6 +33,7 @@ use Rattle.vd_top.specs.Outcomes.{ShownLine, Sectors, Failed, Reopened, Refused,
 use Rattle.vd_top.specs.Ending.{has_failed, shown_text}
 use Rattle.vd_top.specs.Showing.{show_line, fault_line, ShowsDisk}
 use Rattle.vd_top.specs.Reopening.{IsShownBy, Is_read, Store_failed, Base_failed, AreShownBy, AreLocal, Reopens, Reopening_failed, Is_refused_again, Opens_again}
+use Rattle.vd_top.proofs.LeavingLaws.{reads_idle}
 use Rattle.vd_top.proofs.ShowLaws.{disk_shown}
 
 -- ---- one line
@@ -45,14 +45,16 @@ module _ {S B : Type 0} {g : store.Ghosts S} {h : base.Ghosts B} {header : Heade
       let before = right (reads.store.keeps.telling.told_before t.0, reads.base.keeps.telling.told_before t.1) in
       let held = subst (λ (x : List Sector). ShowsDisk x (h.content d'.base) header line.first sectors) (sym (reads.store.held t.0)) before in
       subst (λ (x : List Sector). ShowsDisk (g.disk d''.store).held x header line.first sectors) (sym (reads.base.keeps.telling.content t.1)) held)
-  shown_later shows reads (Store_failed ticket failed) = Store_failed ticket (logged_before_more reads.store failed)
-  shown_later shows reads (Base_failed ticket failed) = Base_failed ticket (let calm = reads.base.keeps.counts.faults in omega arith)
+  shown_later shows reads (Store_failed ticket failed) = Store_failed ticket (record { moment = failed.moment; reads = failed.reads; fault = failed.fault; more = reads_twice failed.more reads.store })
+  shown_later shows reads (Base_failed ticket failed) = Base_failed ticket (record { moment = failed.moment; reads = failed.reads; fault = failed.fault; more = base_reads_twice failed.more reads.base })
 
   -- and of a longer work
-  pub shown_earlier : {d d' d'' : Devices S B} {line : Showing} (shows : ShownLine) → AreRead g h d d' → AreRead g h d' d'' → IsShownBy g h header d' d'' line shows → IsShownBy g h header d d'' line shows
-  shown_earlier shows before reads (Is_read sectors size right) = Is_read sectors size right
-  shown_earlier shows before reads (Store_failed ticket failed) = Store_failed ticket (logged_of_longer before.store reads.store failed)
-  shown_earlier shows before reads (Base_failed ticket failed) = Base_failed ticket (let calm = before.base.keeps.counts.faults in omega arith)
+  pub shown_earlier : {d d' d'' : Devices S B} {line : Showing} (shows : ShownLine) → AreRead g h d d' → IsShownBy g h header d' d'' line shows → IsShownBy g h header d d'' line shows
+  shown_earlier shows before (Is_read sectors size right) = Is_read sectors size right
+  shown_earlier shows before (Store_failed ticket failed) =
+      Store_failed ticket (record { moment = failed.moment; reads = reads_twice before.store failed.reads; fault = fault_of_longer before.store failed.reads failed.fault; more = failed.more })
+  shown_earlier shows before (Base_failed ticket failed) =
+      Base_failed ticket (record { moment = failed.moment; reads = base_reads_twice before.base failed.reads; fault = base_fault_of_longer before.base failed.fault; more = failed.more })
 
 module _ {S B : Type 0} {g : store.Ghosts S} {h : base.Ghosts B} {d d' : Devices S B} where
   -- the sectors that were read
@@ -65,14 +67,16 @@ module _ {S B : Type 0} {g : store.Ghosts S} {h : base.Ghosts B} {d d' : Devices
       disk_shown (g.disk d'.store).held (h.content d'.base) s first sectors (disk t.0 t.1 there))))
 
   -- the device that failed
-  fault_by : {header : Header} (first : ℕ) (fault : DiskFault) → ForDevice (IsStoreFault g d.store d'.store) (IsFault h d.base d'.base) fault → (line : Showing) → line.first ≡ first
+  fault_by : {header : Header} (first : ℕ) (fault : DiskFault) → AreRead g h d d' → ForDevice (IsStoreFault g d.store d'.store) (IsFault h d.base d'.base) fault → (line : Showing) → line.first ≡ first
       → IsShownBy g h header d d' line (Failed first (fault_line fault))
-  fault_by {header} first (faults.Store ticket) failed line at = subst (λ (n : ℕ). IsShownBy g h header d d' line (Failed n (lines.StoreFault ticket))) at (Store_failed ticket (fault_logged failed))
-  fault_by {header} first (faults.Base ticket) failed line at = subst (λ (n : ℕ). IsShownBy g h header d d' line (Failed n (lines.BaseFault ticket))) at (Base_failed ticket failed.rose)
+  fault_by {header} first (faults.Store ticket) reads failed line at = subst (λ (n : ℕ). IsShownBy g h header d d' line (Failed n (lines.StoreFault ticket))) at
+      (Store_failed ticket (record { moment = d'.store; reads = reads.store; fault = failed; more = reads_idle reads.store.keeps.telling.state reads.store.idle }))
+  fault_by {header} first (faults.Base ticket) reads failed line at = subst (λ (n : ℕ). IsShownBy g h header d d' line (Failed n (lines.BaseFault ticket))) at
+      (Base_failed ticket (record { moment = d'.base; reads = reads.base; fault = failed; more = base_reads_nothing reads.base.idle }))
 
-  pub fault_shows : {header : Header} (first : ℕ) (fault : DiskFault) (says : Line) → says ≡ fault_line fault → ForDevice (IsStoreFault g d.store d'.store) (IsFault h d.base d'.base) fault
+  pub fault_shows : {header : Header} (first : ℕ) (fault : DiskFault) (says : Line) → says ≡ fault_line fault → AreRead g h d d' → ForDevice (IsStoreFault g d.store d'.store) (IsFault h d.base d'.base) fault
       → (line : Showing) → line.first ≡ first → IsShownBy g h header d d' line (Failed first says)
-  fault_shows {header} first fault says is failed line at = subst (λ (l : Line). IsShownBy g h header d d' line (Failed first l)) (sym is) (fault_by first fault failed line at)
+  fault_shows {header} first fault says is reads failed line at = subst (λ (l : Line). IsShownBy g h header d d' line (Failed first l)) (sym is) (fault_by first fault reads failed line at)
 
 -- ---- all lines
 
@@ -88,8 +92,8 @@ module _ {S B : Type 0} {g : store.Ghosts S} {h : base.Ghosts B} {header : Heade
   pub all_later : {d d' d'' : Devices S B} {trace_lines : List Showing} {shown : List ShownLine} → AreRead g h d' d'' → AreShownBy g h header d d' trace_lines shown → AreShownBy g h header d d'' trace_lines shown
   all_later reads all = record { many = all.many; each = λ i line shows at there. shown_later shows reads (all.each i line shows at there) }
 
-  pub all_earlier : {d d' d'' : Devices S B} {trace_lines : List Showing} {shown : List ShownLine} → AreRead g h d d' → AreRead g h d' d'' → AreShownBy g h header d' d'' trace_lines shown → AreShownBy g h header d d'' trace_lines shown
-  all_earlier before reads all = record { many = all.many; each = λ i line shows at there. shown_earlier shows before reads (all.each i line shows at there) }
+  pub all_earlier : {d d' d'' : Devices S B} {trace_lines : List Showing} {shown : List ShownLine} → AreRead g h d d' → AreShownBy g h header d' d'' trace_lines shown → AreShownBy g h header d d'' trace_lines shown
+  all_earlier before all = record { many = all.many; each = λ i line shows at there. shown_earlier shows before (all.each i line shows at there) }
 
   module _ {d d' : Devices S B} where
     -- one more line

@@ -59,8 +59,8 @@ closing_cause (answers.Worn generation) closes store base fault = absurd cc
 shown_cause : {S B : Type 0} {g : store.Ghosts S} {h : base.Ghosts B} {header : Header} {d d' : Devices S B} {line : Showing} (shows : ShownLine) → IsShownBy g h header d d' line shows → has_failed shows ≡ true
     → Rose (g.faults d.store) (g.faults d'.store) ⊎ Rose (h.faults d.base) (h.faults d'.base)
 shown_cause shows (Is_read sectors size right) failed = absurd cc
-shown_cause shows (Store_failed ticket fault) failed = inl fault.rose
-shown_cause shows (Base_failed ticket rose) failed = inr rose
+shown_cause shows (Store_failed ticket fails) failed = inl (let rose = fails.fault.rose in let calm = fails.more.keeps.counts.faults in omega arith)
+shown_cause shows (Base_failed ticket fails) failed = inr (let rose = fails.fault.rose in let calm = fails.more.keeps.counts.faults in omega arith)
 
 abbrev Failing : List ShownLine → Type 0
 Failing shown = (i : ℕ) × ((shows : ShownLine) × (slice_get shown i ≡ Some shows) × (has_failed shows ≡ true))

@@ -297,9 +297,9 @@ module _ {S B : Type 0} {g : store.Ghosts S} {h : base.Ghosts B} {trace : Script
             Opened_within first (more ++ adds.more) (adds.start ∙ start) none
             (adds.log ∙ ap (λ (l : List Entry). l ++ adds.more) log ∙ append_assoc (g.disk d.store).log (first ++ more) adds.more ∙ ap (λ (l : List Entry). (g.disk d.store).log ++ l) (append_assoc first more adds.more)) is
         | Had_stopped none past ↦ elim (leaves.store.telling.state before) [
-            | inl t ↦ absurd (let within = (runs.numbered t).opened in omega (arith, within, past))
-            | inr stopped ↦ (let stood = reads.store.keeps.telling.stood r stopped in Had_stopped (stood_adds none stood) (let long = ap length stood.log in omega (arith, past, long)))
-          ]
+          | inl t ↦ absurd (let within = (runs.numbered t).opened in omega (arith, within, past))
+          | inr stopped ↦ (let stood = reads.store.keeps.telling.stood r stopped in Had_stopped (stood_adds none stood) (let long = ap length stood.log in omega (arith, past, long)))
+        ]
       ]
 
   safe_on : g.records d'.store → h.tells d'.base → (start : List Sector) → WasGood g h kept start d

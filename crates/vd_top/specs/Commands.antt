@@ -25,7 +25,8 @@ module _ {S B : Type 0} (g : store.Ghosts S) (h : base.Ghosts B) where
   pub data Answers (words : List (List ℕ)) (d d' : Devices S B) : Outcome → Type 0 where
     Outside : IsNoCommand words → Answers words d d' (Says BadWords)
     Shows : (first count : ℕ) (outcome : Outcome) → Spells words (Show first count) → Finds g h first count d d' outcome → Answers words d d' outcome
-    Is_made_for : (header : Header) (outcome : Outcome) → AsksFor words (h.sectors d.base) header → MakingEnds g header d.store d'.store outcome → Answers words d d' outcome
+    Is_made_for : (header : Header) (outcome : Outcome) → AsksFor words (h.sectors d.base) header
+        → MakingEnds g header d.store d'.store outcome → Answers words d d' outcome
 
   -- what making leaves of the image that the words ask for, where they do
   abbrev pub MakesWhatIsAsked : (words : List (List ℕ)) (status : ℕ) → (d d' : Devices S B) → Type 0

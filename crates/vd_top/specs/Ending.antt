@@ -61,7 +61,8 @@ reopened_text (Opened shown local of) = about_line about.Reopening lines.Ok ++ f
 abbrev pub text_of : Outcome → List ℕ
 text_of (Says line) = line_text line ++ codes "\n"
 text_of (Shown first sectors) = show_text first sectors
-text_of (Reported guests entries closing reopened) = history_text guests entries ++ about_line about.Closing closing ++ reopened_text reopened ++ sum_text guests entries
+text_of (Reported guests entries closing reopened) =
+    history_text guests entries ++ about_line about.Closing closing ++ reopened_text reopened ++ sum_text guests entries
 
 -- a sink that failed makes status 6 of statuses 0 and 1, and leaves every other
 abbrev pub unwritten : ℕ → ℕ
@@ -73,4 +74,5 @@ unwritten (suc (suc n)) = suc (suc n)
 pub record Ends {O : Type 0} (o : sink.Ghosts O) (outcome : Outcome) (status : ℕ) (out out' : O) : Type 0 where
   pub keeps : KeepsSink o out out'
   pub printed : ((status ≡ status_of outcome) × (o.tells out' → o.written out' ≡ o.written out ++ text_of outcome))
-      ⊎ ((status ≡ unwritten (status_of outcome)) × Rose (o.faults out) (o.faults out') × (o.tells out' → WritesPart (text_of outcome) (o.written out) (o.written out')))
+      ⊎ ((status ≡ unwritten (status_of outcome)) × Rose (o.faults out) (o.faults out')
+      × (o.tells out' → WritesPart (text_of outcome) (o.written out) (o.written out')))

@@ -34,7 +34,8 @@ IsNoImage sectors = header_of (sectors_or zero_sector sectors 0) ≡ Err NotImag
 
 -- the event is one of making: zeros are written below the storage, or the header is written, or a flush is made
 abbrev pub IsMaking : Header → Entry → Type 0
-IsMaking h (Issue id first content) = (first + length content ≤ storage_start h) × (AreAll zero_sector content ⊎ ((first + length content ≤ 1) × AreAll (header_sector h) content))
+IsMaking h (Issue id first content) = (first + length content ≤ storage_start h)
+    × (AreAll zero_sector content ⊎ ((first + length content ≤ 1) × AreAll (header_sector h) content))
 IsMaking h (Seen id first content) = ⊥
 IsMaking h _ = Unit {0}
 
@@ -49,7 +50,8 @@ pub record MakesSafely (h : Header) (old new : Disk) : Type 0 where
   pub more : List Entry
   pub log : new.log ≡ old.log ++ more
   pub writes : AllByRecursion (IsMaking h) more
-  pub safe : (k : ℕ) (image : List Sector) → HasFlushed (length old.log) k new.log → IsCrashImage new.start (take k new.log) image → IsNoImage image ⊎ IsNewImage h image
+  pub safe : (k : ℕ) (image : List Sector) → HasFlushed (length old.log) k new.log → IsCrashImage new.start (take k new.log) image
+      → IsNoImage image ⊎ IsNewImage h image
 
 -- the store holds the new image, and a crash leaves it
 pub record HasNewImage (h : Header) (d : Disk) : Type 0 where

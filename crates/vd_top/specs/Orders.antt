@@ -23,6 +23,6 @@ pub record IsOpenedFrom {S : Type 0} (g : store.Ghosts S) (s s' : S) : Type 0 wh
 -- No write was begun before a history was opened with this number: it is the log's length at some moment until which only entries had come
 -- that begin none. Or the store had stopped by then, so that the number is above the log's length, and no such entry has come at all.
 pub data OpensQuietly (old new : Disk) (opened : ℕ) : Type 0 where
-  Opened_within : (first more : List Entry) → new.start ≡ old.start → AllByRecursion IsNoWrite first → new.log ≡ old.log ++ (first ++ more) → opened ≡ length old.log + length first
-      → OpensQuietly old new opened
+  Opened_within : (first more : List Entry) → new.start ≡ old.start → AllByRecursion IsNoWrite first → new.log ≡ old.log ++ (first ++ more)
+      → opened ≡ length old.log + length first → OpensQuietly old new opened
   Had_stopped : AddsNoWrite old new → length new.log < opened → OpensQuietly old new opened

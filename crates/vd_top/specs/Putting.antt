@@ -92,8 +92,10 @@ pub record Fills (result : Result ⊤ ℕ) (v : Sector) (from to : ℕ) (old new
 -- zeros, and nothing but zeros was written since; or all of them are zeros too, and nothing but the header was written since.
 pub data Story (header zeros : Sector) (end : ℕ) (old new : Disk) : Type 0 where
   Begun : (more : List Entry) → Puts zeros 0 1 more old new → AllByRecursion IsNoSuccess more → Story header zeros end old new
-  Blanked : (first : List Entry) (more : List Entry) (mid : Disk) → Puts zeros 0 1 first old mid → IsKept zeros 0 1 first mid → Puts zeros 1 end more mid new → Story header zeros end old new
-  Headed : (first : List Entry) (second : List Entry) (more : List Entry) (mid ready : Disk) → Puts zeros 0 1 first old mid → IsKept zeros 0 1 first mid → Puts zeros 1 end second mid ready
+  Blanked : (first : List Entry) (more : List Entry) (mid : Disk) → Puts zeros 0 1 first old mid → IsKept zeros 0 1 first mid
+      → Puts zeros 1 end more mid new → Story header zeros end old new
+  Headed : (first : List Entry) (second : List Entry) (more : List Entry) (mid ready : Disk) → Puts zeros 0 1 first old mid
+      → IsKept zeros 0 1 first mid → Puts zeros 1 end second mid ready
       → EachFrom 1 end (MayHave zeros ready) → Puts header 0 1 more ready new → Story header zeros end old new
 
 -- where the image was written whole, each of its sectors is held, and is all that a crash may leave

@@ -78,7 +78,8 @@ module _ {I : Type 0} (i : source.Ghosts I) where
     Source_failed : Rose (i.faults source) (i.faults source') → IsReadLine source source' lines_of.SourceFault
     Read_without_memory : IsReadLine source source' lines_of.NoMemory
     Is_bad : (number : ℕ) → (i.tells source' → IsFirstBad 1 (lines (i.rest source)) number) → IsReadLine source source' (lines_of.BadLine number)
-    Is_too_much : (number : ℕ) → (i.tells source' → IsFirstTooMuch 1 (lines (i.rest source)) number) → IsReadLine source source' (lines_of.TooMuch number)
+    Is_too_much : (number : ℕ) → (i.tells source' → IsFirstTooMuch 1 (lines (i.rest source)) number)
+        → IsReadLine source source' (lines_of.TooMuch number)
 
 -- the number of the first line whose range lies past a disk of this many sectors
 abbrev pub past : (size : ℕ) → Script → Option ℕ
@@ -97,8 +98,8 @@ module _ {S : Type 0} (g : store.Ghosts S) where
     Opened_without_memory : IsOpenLine trace s s' lines_of.NoMemory
     Open_failed : (ticket : ℕ) → IsStoreFault g s s' ticket → IsOpenLine trace s s' (lines_of.StoreFault ticket)
     Is_refused : (e : refusal.OpenError) → IsJudged e → (g.tells s' → Refused 2 (g.disk s).held e) → IsOpenLine trace s s' (show_line e)
-    Is_past : (kept : Header) (number : ℕ) → (g.tells s' → Opens (length (g.disk s).held) (image_of (g.disk s).held) kept) → past kept.size trace ≡ Some number
-        → IsOpenLine trace s s' (lines_of.LinePastTheDisk number)
+    Is_past : (kept : Header) (number : ℕ) → (g.tells s' → Opens (length (g.disk s).held) (image_of (g.disk s).held) kept)
+        → past kept.size trace ≡ Some number → IsOpenLine trace s s' (lines_of.LinePastTheDisk number)
 
   -- The image of a store that was flushed was opened as this state, and all ranges lie in its disk.
   pub record IsOpen (trace : Script) (state : State) (s : S) : Type 0 where
@@ -119,7 +120,8 @@ closing_line (answers.Worn generation) = lines_of.Worn generation
 -- these are the sectors of the disk that the held image with this header stands for, over this base
 pub record IsDisk (h : Header) (held base start : List Sector) : Type 0 where
   pub size : length start ≡ h.size
-  pub sectors : (s : ℕ) (v : Sector) → slice_get start s ≡ Some v → DiskHas (format_of h) (layout_of h) (base_at zero_sector base) zero_sector (image_of held) s v
+  pub sectors : (s : ℕ) (v : Sector) → slice_get start s ≡ Some v
+      → DiskHas (format_of h) (layout_of h) (base_at zero_sector base) zero_sector (image_of held) s v
 
 module _ {S B : Type 0} (g : store.Ghosts S) (h : base.Ghosts B) where
   -- The store told what it held as it was handed in, and was clean, and these were the sectors of the disk of its image.
@@ -153,7 +155,8 @@ module _ {S B : Type 0} (g : store.Ghosts S) (h : base.Ghosts B) where
     pub opening : g.records d'.store → OpensQuietly (g.disk d.store) (g.disk d'.store) history.opened
     -- at every moment since then each image that a crash may leave opens with contents that are allowed, also where the store has stopped
     pub safe : g.records d'.store → h.tells d'.base → (start : List Sector) → WasGood kept start d
-        → IsCrashSafe (format_of kept) (layout_of kept) (base_at zero_sector (h.content d.base)) zero_sector (g.disk d'.store).start (g.disk d'.store).log start history
+        → IsCrashSafe (format_of kept) (layout_of kept) (base_at zero_sector (h.content d.base)) zero_sector
+        (g.disk d'.store).start (g.disk d'.store).log start history
     pub store_caused : AreCaused OfStore history.log.entries (g.faults d.store) (g.faults d'.store)
     pub base_caused : AreCaused OfBase history.log.entries (h.faults d.base) (h.faults d'.base)
     pub traced : g.tells d'.store → AreTraced (g.disk d'.store).log history.log.entries history.numbers
@@ -195,8 +198,13 @@ module _ {S B I : Type 0} (g : store.Ghosts S) (h : base.Ghosts B) (i : source.G
     Is_unopened : (trace : Script) (line : Line) → end.history ≡ None → ReadsScript i source source' trace → IsOpenLine g trace d.store end.store line
         → RunEnds d end source source' (Says line)
     Ran_without_memory : end.history ≡ None → RunEnds d end source source' (Says lines_of.NoMemory)
-    Has_run : (trace : Script) (kept : Header) (history : Numbered) (closing : Line) (reopened : Reopened) (closed : Devices S B) → end.history ≡ Some history
-        → ReadsScript i source source' trace → OpensFor g trace kept d.store end.store → IsRun g h trace kept d (devices end.store end.base) history closing
-        → Leaves g h d closed → IsClosed g h history closed (devices end.store end.base) → Reopens g h kept trace.shows closed (devices end.store end.base) reopened
+    Has_run : (trace : Script) (kept : Header) (history : Numbered) (closing : Line) (reopened : Reopened) (closed : Devices S B)
+        → end.history ≡ Some history
+        → ReadsScript i source source' trace
+        → OpensFor g trace kept d.store end.store
+        → IsRun g h trace kept d (devices end.store end.base) history closing
+        → Leaves g h d closed
+        → IsClosed g h history closed (devices end.store end.base)
+        → Reopens g h kept trace.shows closed (devices end.store end.base) reopened
         → IsAllowedAgain g h kept d (devices end.store end.base) history closing reopened
         → RunEnds d end source source' (Reported 1 history.log.entries closing reopened)

@@ -62,7 +62,8 @@ OpensAs held h = Opens (length held) (image_of held) h ⊎ IsOldImage held h
 -- These are sectors of its disk from `first` on, over this base: of a local block what its storage holds, else the base in
 -- the tracked part and zeros from there on. In version 1 no block is local.
 pub record ShowsDisk (held base : List Sector) (h : Header) (first : ℕ) (sectors : List Sector) : Type 0 where
-  pub current : h.version ≡ this_version → (i : ℕ) (v : Sector) → slice_get sectors i ≡ Some v → DiskHas (format_of h) (layout_of h) (base_at zero_sector base) zero_sector (image_of held) (first + i) v
+  pub current : h.version ≡ this_version → (i : ℕ) (v : Sector) → slice_get sectors i ≡ Some v
+      → DiskHas (format_of h) (layout_of h) (base_at zero_sector base) zero_sector (image_of held) (first + i) v
   pub old : h.version ≡ 1 → (i : ℕ) (v : Sector) → slice_get sectors i ≡ Some v → v ≡ background (base_at zero_sector base) zero_sector h.tracked (first + i)
 
 -- the image opens, and the range lies past its disk
@@ -99,9 +100,11 @@ module _ {S B : Type 0} (g : store.Ghosts S) (h : base.Ghosts B) where
     Without_memory : Finds first count d d' (Says lines.NoMemory)
     Store_failed : (ticket : ℕ) → IsCallFault g d.store d'.store ticket → Finds first count d d' (Says (lines.StoreFault ticket))
     Base_failed : (ticket : ℕ) → IsFault h d.base d'.base ticket → Finds first count d d' (Says (lines.BaseFault ticket))
-    Image_refused : (e : refusal.OpenError) → IsJudged e → (AreTold g h d' → Refused 1 (g.disk d.store).held e) → Finds first count d d' (Says (show_line e))
+    Image_refused : (e : refusal.OpenError) → IsJudged e → (AreTold g h d' → Refused 1 (g.disk d.store).held e)
+        → Finds first count d d' (Says (show_line e))
     Past_the_disk : (AreTold g h d' → IsPastDisk (g.disk d.store).held first count) → Finds first count d d' (Says lines.PastTheDisk)
-    Is_shown : (sectors : List Sector) → length sectors ≡ count → (AreTold g h d' → IsInDisk (g.disk d.store).held (h.content d.base) first count sectors)
+    Is_shown : (sectors : List Sector) → length sectors ≡ count
+        → (AreTold g h d' → IsInDisk (g.disk d.store).held (h.content d.base) first count sectors)
         → Finds first count d d' (Shown first sectors)
 
 -- the words are no `show`

@@ -114,7 +114,8 @@ fn obey<S: Store, B: Base, O: Sink>(
     requires store_idle { S.flies store.old [] }
     requires base_idle { B.flies base.old [] }
     requires no_run { IsNoRun (map string_bytes words.now) }
-    ensures answer { (outcome : Outcome) × Answers S.Store B.Base (map string_bytes words.now) (devices store.old base.old) (devices store.new base.new) outcome
+    ensures answer { (outcome : Outcome)
+        × Answers S.Store B.Base (map string_bytes words.now) (devices store.old base.old) (devices store.new base.new) outcome
         × Ends O.Sink outcome result out.old out.new }
     ensures makes { MakesWhatIsAsked S.Store B.Base (map string_bytes words.now) result (devices store.old base.old) (devices store.new base.new) }
     ensures unwritten { HasNoRoomFor S.Store B.Base (map string_bytes words.now) (devices store.old base.old) → OnlyReads S.Store store.old store.new }
@@ -156,7 +157,8 @@ pub fn still<S: Store, B: Base, I: Source, O: Sink>(
     // What was answered, how it was printed, and the status. A run is answered by one line, which says why no guest was served;
     // or by the report of a legal history, which is handed out, and of the image that it has left. Each ticket that the reopening
     // or a line that shows sectors names as a store fault has a Reply in the told log that isn't Ok, behind the serving.
-    ensures answer { (outcome : Outcome) × IsDone S.Store B.Base I.Source (map string_bytes words.now) (devices store base) result trace.old trace.new outcome
+    ensures answer { (outcome : Outcome)
+        × IsDone S.Store B.Base I.Source (map string_bytes words.now) (devices store base) result trace.old trace.new outcome
         × Ends O.Sink outcome result.status out.old out.new }
 
     // The causes of statuses.
@@ -168,7 +170,8 @@ pub fn still<S: Store, B: Base, I: Source, O: Sink>(
     ensures makes { MakesWhatIsAsked S.Store B.Base (map string_bytes words.now) result.status (devices store base) (devices result.store result.base) }
 
     // Nothing is written but by a run that serves a guest and where the words make an image that has room; and nothing is left in flight.
-    ensures unwritten { result.history ≡ None → HasNoRoomFor S.Store B.Base (map string_bytes words.now) (devices store base) → OnlyReads S.Store store result.store }
+    ensures unwritten { result.history ≡ None → HasNoRoomFor S.Store B.Base (map string_bytes words.now) (devices store base)
+        → OnlyReads S.Store store result.store }
     ensures leaves { Leaves S.Store B.Base (devices store base) (devices result.store result.base) }
 
     // No other command reads the source or has a history.

@@ -18,8 +18,10 @@ fn put<S: Store>(store: &mut S, first: u64, content: &[Sector]) -> Result<(), u6
     ensures fault { IfErr result (IsCallFault S.Store store.old store.new) }
     ensures ready { IsReady S.Store store.new }
     ensures keeps { KeepsStore S.Store store.old store.new }
-    ensures lays { (v : AnySector) → AreAll v content.now → S.tells store.new → Lays v first (first + length content.now) (S.disk store.old) (S.disk store.new) }
-    ensures laid { OnOk result ((v : AnySector) → AreAll v content.now → S.tells store.new → IsLaid v first (first + length content.now) (S.disk store.new)) }
+    ensures lays { (v : AnySector) → AreAll v content.now → S.tells store.new
+        → Lays v first (first + length content.now) (S.disk store.old) (S.disk store.new) }
+    ensures laid { OnOk result ((v : AnySector) → AreAll v content.now → S.tells store.new
+        → IsLaid v first (first + length content.now) (S.disk store.new)) }
 {
     write_now(store, first, content)
 }

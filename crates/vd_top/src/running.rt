@@ -134,7 +134,8 @@ fn serve_trace<S: Store, B: Base>(
     requires sectors { length sectors.old ≡ MOST }
     // on a store that was handed in as `first`
     ensures run { IfOk result (λ served. (first : S) → IsOpenedFrom S.Store first store
-        → RunsTrace S.Store B.Base trace.now state.header (devices first base) (devices served.store served.base) served.history (closing_line served.closing)) }
+        → RunsTrace S.Store B.Base trace.now state.header (devices first base) (devices served.store served.base)
+        served.history (closing_line served.closing)) }
     ensures state { IfOk result (λ served. IsSized served.state × (served.state.header ≡ state.header)) }
     ensures leaves { IfOk result (λ served. Leaves S.Store B.Base (devices store base) (devices served.store served.base)) }
     ensures back { IfErr result (λ refused. (refused.store ≡ store) × (refused.base ≡ base)) }

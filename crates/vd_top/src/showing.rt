@@ -77,7 +77,8 @@ fn find_sectors<S: Store, B: Base>(
     requires store_idle { S.flies store.old [] }
     requires base_idle { B.flies base.old [] }
     ensures reads { AreRead S.Store B.Base (devices store.old base.old) (devices store.new base.new) }
-    ensures found { Finds S.Store B.Base first (length room.old) (devices store.old base.old) (devices store.new base.new) (outcome_of result first room.new) }
+    ensures found { Finds S.Store B.Base first (length room.old) (devices store.old base.old) (devices store.new base.new)
+        (outcome_of result first room.new) }
 {
     let state = match recover(alloc, store, 1) {
         Ok(state) => state,

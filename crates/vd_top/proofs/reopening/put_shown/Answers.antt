@@ -13,4 +13,4 @@ returns-in-Ok-clause-shows g c = (
 
 pub returns-in-Err-clause-shows : goal.returns-in-Err-clause-shows
 returns-in-Err-clause-shows g c =
-    (Failed c.args.first c.fault_line.result, (λ line at many. fault_shows c.args.first c.in-Err.fault c.fault_line.result c.fault_line.ensures c.in-Err.ensures.fault line at), refl, c.put_next.ensures)
+    (Failed c.args.first c.fault_line.result, (λ line at many. fault_shows c.args.first c.in-Err.fault c.fault_line.result c.fault_line.ensures (record { store = c.read_disk.ensures.quiet; base = c.read_disk.ensures.base_quiet }) c.in-Err.ensures.fault line at), refl, c.put_next.ensures)

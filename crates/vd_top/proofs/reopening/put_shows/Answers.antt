@@ -42,7 +42,7 @@ loop-at-preserved g c =
       room = (let a = length-append c.put_shown-fails.new.room (drop c.show-first.result.1 c.loop-at.room) in let b = length-drop c.show-first.result.1 c.loop-at.room in let s = c.put_shown-fails.auto.room in omega (arith, a, b, s, many, is.1, inv.room, range.2));
       reads = both_read_twice inv.reads put.reads;
       shown = inv.shown ++ shows ∷ [];
-      are = one_more c.args.trace.now.shows c.loop-at.at line.0 inv.shown shows line.1 (all_later put.reads inv.are) (shown_earlier shows inv.reads put.reads here);
+      are = one_more c.args.trace.now.shows c.loop-at.at line.0 inv.shown shows line.1 (all_later put.reads inv.are) (shown_earlier shows inv.reads here);
       failed = ap (λ (b : Bool). b || c.put_shown-fails.result.0) inv.failed ∙ ap (λ (b : Bool). list_any has_failed inv.shown || b) put.shows.2 ∙ sym (failed_more inv.shown shows);
       writes = writes_as (text_more inv.shown shows) (writes_both (flat_map shown_text inv.shown) (shown_text shows) _ _ _ inv.writes put.shows.3);
     }

@@ -42,7 +42,7 @@ returns-clause-opens g c =
     let says = λ (t : g.S.Store.tells c.put_shows-failed.new.store). says_state _ _ state two (sym (held t)) (again.says (put.reads.store.keeps.telling.told_before t)) in (
       Opened shown c.count_local-local.result c.from.result,
       opens_again c.args.state.now.header state shown c.count_local-local.result c.from.result again.same says
-          (all_earlier (record { store = c.reload.ensures.quiet; base = base_reads_nothing c.requires.base_idle }) put.reads put.shows.1)
+          (all_earlier (record { store = c.reload.ensures.quiet; base = base_reads_nothing c.requires.base_idle }) put.shows.1)
           (counts_local state c.count_local-local.result c.from.result again.opened.whole says (c.from.ensures ∙ c.tracked_blocks-of.ensures.value) (omega (arith, c.from.ensures, c.tracked_blocks-of.ensures.inside))
           (c.count_local-local.ensures ∙ ap (λ (n : ℕ). count_true (take n state.fresh.bits)) (sym c.from.ensures))),
       elim c.if-failed.branch [
