@@ -3,7 +3,7 @@
 ghost use Rattle.std.specs.Prelude.{◌≡◌, ◌+◌, ◌<◌, ◌≤◌, [], length};
 ghost use Rattle.std.specs.List.{All};
 ghost use Rattle.vd_law.specs.Entries.{entry_of};
-ghost use Rattle.vd_law.specs.Logs.{content_of};
+ghost use Rattle.vd_law.specs.Logs.{content_of, IsShort};
 ghost use Rattle.vd_law.specs.Histories.{last_number};
 ghost use Rattle.vd_report.specs.Replies.{IsPrinted, HasText};
 
@@ -20,6 +20,7 @@ use vd_law::history::History;
 fn note(history: &mut History, event: Event<'_>)
     requires events { 0 < history.old.log.left.events }
     requires sectors { length (content_of (entry_of event)) ≤ history.old.log.left.sectors }
+    requires short { IsShort (entry_of event) }
     requires start { last_number history.old.opened history.old.numbers ≤ 0 }
     requires printed { All HasText history.old.log.entries }
     requires text { HasText (entry_of event) }
