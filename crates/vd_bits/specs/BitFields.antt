@@ -4,8 +4,8 @@ use Rattle.vd_bits.specs.Marks.{count_true}
 use Rattle.vd_bits.specs.declared.bits.Bits.TheInside.{Inside}
 use Rattle.vd_bits.specs.Blocks.{Blocks}
 
-abbrev pub blocks_of : Inside → Blocks
-blocks_of b = record { chunk = b.chunk; bits = b.flags }
+abbrev pub blocks_state : Inside → Blocks
+blocks_state b = record { chunk = b.chunk; bits = b.flags }
 
 -- the number of true bits is kept, a chunk's bits stand in one word, and blocks have numbers of 32 bits
 pub record IsTallied (b : Inside) : Type 0 where

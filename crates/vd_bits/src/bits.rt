@@ -24,9 +24,9 @@ impl Model for Bits {
 
     ghost Value = { Blocks };
 
-    ghost use Rattle.vd_bits.specs.BitFields.{blocks_of, IsTallied};
+    ghost use Rattle.vd_bits.specs.BitFields.{blocks_state, IsTallied};
 
-    ghost view = { blocks_of };
+    ghost view = { blocks_state };
 
     ghost invariant = { IsTallied };
 }

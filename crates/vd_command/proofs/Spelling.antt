@@ -13,12 +13,12 @@ use Rattle.vd_format.specs.Headers.{IsValid}
 use Rattle.vd_format.proofs.Rules.{block_within, chunk_within, size_within, storage_within}
 use Rattle.vd_command.specs.declared.command.Command.{Command}
 use Rattle.vd_command.specs.declared.command.Command.TheVariants.{Make, Show, Run, Retrack, Upgrade, Trace, Drill}
-use Rattle.vd_command.specs.Words.{switch, made, IsWithin, IsAllowed, Spells}
-use Rattle.vd_command.specs.Reading.{within, number_of, most_u32, switch_of, given, making, make_of, show_of, run_of, retrack_of, upgrade_of, trace_of, drill_of, command_of}
+use Rattle.vd_command.specs.Words.{switch, made_header, IsInBounds, HasAllowedNumbers, Spells}
+use Rattle.vd_command.specs.Reading.{number_within, number_between, most_u32, switch_of, command_from, make_command, make_of, show_of, run_of, retrack_of, upgrade_of, trace_of, drill_of, command_of}
 use Rattle.vd_command.proofs.Making.{test-valid, valid-test}
 
 -- what is found, and what follows from it
-peel : {T : Type 0} (found : Option T) (next : T → Option Command) (c : Command) (P : Type 0) → given found next ≡ Some c → ((x : T) → found ≡ Some x → next x ≡ Some c → P) → P
+peel : {T : Type 0} (found : Option T) (next : T → Option Command) (c : Command) (P : Type 0) → command_from found next ≡ Some c → ((x : T) → found ≡ Some x → next x ≡ Some c → P) → P
 peel found next c P e goes = option_and_then_some next found c e goes
 
 -- one of two answers
@@ -39,7 +39,7 @@ record IsNumber (word : List ℕ) (n : ℕ) : Type 0 where
 -- and for one that lies between these
 record IsNumberWithin (least most : ℕ) (word : List ℕ) (n : ℕ) : Type 0 where
   printed : word ≡ decimal n
-  between : IsWithin least most n
+  between : IsInBounds least most n
 
 number-found : (word : List ℕ) (n : ℕ) → number_in 10 word ≡ Some n → IsNumber word n
 number-found word n e = let s = (number_in-exact 10 word n).0 e in record { printed = s.printed; short = spells-below 10 word n s }
@@ -53,22 +53,22 @@ seed-found word n e = let s = (number_in-exact 20 word n).0 e in (s.printed, s.f
 found-seed : (n : ℕ) → n < 2 ^ 64 → number_in 20 (decimal n) ≡ Some n
 found-seed n fits = (number_in-exact 20 (decimal n) n).1 (decimal-spells 20 n (omega arith) (omega arith) fits)
 
-within-found : (least most : ℕ) (o : Option ℕ) (n : ℕ) → within least most o ≡ Some n → (o ≡ Some n) × IsWithin least most n
+within-found : (least most : ℕ) (o : Option ℕ) (n : ℕ) → number_within least most o ≡ Some n → (o ≡ Some n) × IsInBounds least most n
 within-found least most None n e = absurd cc
 within-found least most (Some m) n e =
     choose (nat_le least m && nat_le m most) (Some m) None n _ e
     (λ inside same.
     let both = and_parts (nat_le least m) (nat_le m most) inside in
     let is : m ≡ n = cc in
-    (same, subst (IsWithin least most) is (leb-true least m both.0, leb-true m most both.1)))
+    (same, subst (IsInBounds least most) is (leb-true least m both.0, leb-true m most both.1)))
     (λ none. absurd cc)
 
-number_of-found : (least most : ℕ) (word : List ℕ) (n : ℕ) → number_of least most word ≡ Some n → IsNumberWithin least most word n
+number_of-found : (least most : ℕ) (word : List ℕ) (n : ℕ) → number_between least most word ≡ Some n → IsNumberWithin least most word n
 number_of-found least most word n e =
     let found = within-found least most (number_in 10 word) n e in
     record { printed = ((number_in-exact 10 word n).0 found.0).printed; between = found.1 }
 
-found-number_of : (least most n : ℕ) → most < 10 ^ 10 → IsWithin least most n → number_of least most (decimal n) ≡ Some n
+found-number_of : (least most n : ℕ) → most < 10 ^ 10 → IsInBounds least most n → number_between least most (decimal n) ≡ Some n
 found-number_of least most n short (low, high) =
     rw (found-number n (omega arith)) (rw (le-leb least n low, le-leb n most high) refl)
 
@@ -86,14 +86,14 @@ found-switch false = refl
 
 -- ---- each command's words are read
 
-making-valid : (h : Header) → IsValid h → making h ≡ Some (Make h.size h.block h.chunk h.storage h.slots)
-unfolding making
+making-valid : (h : Header) → IsValid h → make_command h ≡ Some (Make h.size h.block h.chunk h.storage h.slots)
+unfolding make_command
 making-valid h valid = rw (valid-test h valid) refl
 
-spelled-make : (size block chunk storage slots : ℕ) (image base : List ℕ) → IsAllowed (Make size block chunk storage slots)
+spelled-make : (size block chunk storage slots : ℕ) (image base : List ℕ) → HasAllowedNumbers (Make size block chunk storage slots)
     → make_of (image ∷ base ∷ decimal size ∷ decimal block ∷ decimal chunk ∷ decimal storage ∷ decimal slots ∷ []) ≡ Some (Make size block chunk storage slots)
 spelled-make size block chunk storage slots image base valid =
-    let h : Header = made size block chunk storage slots in
+    let h : Header = made_header size block chunk storage slots in
     let e1 = found-number size (omega (arith, size_within h valid)) in
     let e2 = found-number_of 0 most_u32 block (omega arith) (omega arith, omega (arith, (block_within h valid).1)) in
     let e3 = found-number_of 0 most_u32 chunk (omega arith) (omega arith, omega (arith, (chunk_within h valid).1)) in
@@ -134,8 +134,8 @@ spelled-read words (Drill number guests requests stop) s =
 
 -- ---- what is read is spelled
 
-making-found : (h : Header) (c : Command) → h.version ≡ 2 → making h ≡ Some c → IsValid h × (Some (Make h.size h.block h.chunk h.storage h.slots) ≡ Some c)
-unfolding making
+making-found : (h : Header) (c : Command) → h.version ≡ 2 → make_command h ≡ Some c → IsValid h × (Some (Make h.size h.block h.chunk h.storage h.slots) ≡ Some c)
+unfolding make_command
 making-found h c two e = choose _ _ _ c _ e (λ right same. (test-valid h two right, same)) (λ none. absurd cc)
 
 show-found : (arguments : List (List ℕ)) (c : Command) → show_of arguments ≡ Some c → Spells (codes "show" ∷ arguments) c
@@ -154,7 +154,7 @@ make-found (image ∷ base ∷ size ∷ block ∷ chunk ∷ storage ∷ slots �
     let chunk_is = number_of-found 0 most_u32 chunk n3 at3 in
     let storage_is = number_of-found 0 most_u32 storage n4 at4 in
     let slots_are = number_of-found 0 most_u32 slots n5 at5 in
-    let found = making-found (made n1 n2 n3 n4 n5) c refl e in
+    let found = making-found (made_header n1 n2 n3 n4 n5) c refl e in
     same-command _ (Make n1 n2 n3 n4 n5) c found.1 (record {
       allowed = found.0;
       image = image;

@@ -34,8 +34,8 @@ words_of (Drill number guests requests stop) image base =
     codes "drill" ∷ decimal number ∷ decimal guests ∷ decimal requests ∷ decimal stop ∷ []
 
 -- the header of the image that is made
-abbrev pub made : (size block chunk storage slots : ℕ) → Header
-made size block chunk storage slots = record {
+abbrev pub made_header : (size block chunk storage slots : ℕ) → Header
+made_header size block chunk storage slots = record {
   version = 2;
   block = block;
   chunk = chunk;
@@ -46,21 +46,21 @@ made size block chunk storage slots = record {
   generation = 1;
 }
 
-abbrev pub IsWithin : (least most n : ℕ) → Type 0
-IsWithin least most n = (least ≤ n) × (n ≤ most)
+abbrev pub IsInBounds : (least most n : ℕ) → Type 0
+IsInBounds least most n = (least ≤ n) × (n ≤ most)
 
 -- the command's numbers keep their rules
-abbrev pub IsAllowed : Command → Type 0
-IsAllowed (Make size block chunk storage slots) = IsValid (made size block chunk storage slots)
-IsAllowed (Show first count) = (first < 10 ^ 10) × IsWithin 1 2048 count
-IsAllowed (Run guests workers copying limit) = IsWithin 1 32 guests × (workers ≤ 8) × (limit < 2 ^ 32)
-IsAllowed (Retrack new) = new < 10 ^ 10
-IsAllowed Upgrade = Unit {0}
-IsAllowed (Trace number guests requests size) = (number < 2 ^ 64) × IsWithin 1 32 guests × (requests ≤ 4000) × IsWithin 64 16777216 size
-IsAllowed (Drill number guests requests stop) = (number < 2 ^ 64) × IsWithin 1 32 guests × (requests ≤ 1000) × (stop < 2 ^ 32)
+abbrev pub HasAllowedNumbers : Command → Type 0
+HasAllowedNumbers (Make size block chunk storage slots) = IsValid (made_header size block chunk storage slots)
+HasAllowedNumbers (Show first count) = (first < 10 ^ 10) × IsInBounds 1 2048 count
+HasAllowedNumbers (Run guests workers copying limit) = IsInBounds 1 32 guests × (workers ≤ 8) × (limit < 2 ^ 32)
+HasAllowedNumbers (Retrack new) = new < 10 ^ 10
+HasAllowedNumbers Upgrade = Unit {0}
+HasAllowedNumbers (Trace number guests requests size) = (number < 2 ^ 64) × IsInBounds 1 32 guests × (requests ≤ 4000) × IsInBounds 64 16777216 size
+HasAllowedNumbers (Drill number guests requests stop) = (number < 2 ^ 64) × IsInBounds 1 32 guests × (requests ≤ 1000) × (stop < 2 ^ 32)
 
 pub record Spells (words : List (List ℕ)) (command : Command) : Type 0 where
-  pub allowed : IsAllowed command
+  pub allowed : HasAllowedNumbers command
   pub image : List ℕ
   pub base : List ℕ
   pub words_are : words ≡ words_of command image base

@@ -1,7 +1,7 @@
 //! What follows a command's first word. IMAGE and BASE are any words.
 
 ghost use Rattle.std.specs.Prelude.{◌≡◌, ◌≤◌, ◌∷◌, map, string_bytes, IfSome};
-ghost use Rattle.vd_command.specs.Reading.{number_of, switch_of, making, make_of, show_of, run_of, retrack_of, upgrade_of, trace_of, drill_of, command_of};
+ghost use Rattle.vd_command.specs.Reading.{number_between, switch_of, make_command, make_of, show_of, run_of, retrack_of, upgrade_of, trace_of, drill_of, command_of};
 
 use crate::Command;
 use vd_decimal::read_number;
@@ -12,14 +12,14 @@ const DIGITS: usize = 10;
 const DIGITS_OF_A_SEED: usize = 20;
 
 fn number(word: &String, least: u64, most: u64) -> Option<u64>
-    ensures value { result ≡ number_of least most (string_bytes word.now) }
+    ensures value { result ≡ number_between least most (string_bytes word.now) }
     ensures bound { IfSome result (λ n. n ≤ most) }
 {
     read_number(word.as_bytes(), DIGITS).filter(|n| least <= *n && *n <= most)
 }
 
 fn small(word: &String, least: u32, most: u32) -> Option<u32>
-    ensures { result ≡ number_of least most (string_bytes word.now) }
+    ensures { result ≡ number_between least most (string_bytes word.now) }
 {
     match number(word, u64::from(least), u64::from(most)) {
         Some(n) => Some(n as u32),
@@ -37,10 +37,10 @@ fn switch(word: &String) -> Option<bool>
     }
 }
 
-#[tactic(auto, unfolding(crate::specs::Reading::making))]
+#[tactic(auto, unfolding(crate::specs::Reading::make_command))]
 fn making(header: &Header) -> Option<Command>
     requires { header.now.version ≡ 2 }
-    ensures { result ≡ making header.now }
+    ensures { result ≡ make_command header.now }
 {
     if !valid(header) {
         return None;

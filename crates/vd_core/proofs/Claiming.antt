@@ -5,15 +5,15 @@ use Rattle.std.proofs.lemmas.Nat.{le-div}
 use Rattle.vd_law.specs.Entries.{Asked, Read, Write, Flush}
 use Rattle.vd_law.specs.Logs.{asked_content}
 use Rattle.vd_law.specs.Rules.{IsInside}
-use Rattle.vd_table.specs.Tables.{Given, Has}
+use Rattle.vd_table.specs.Tables.{TableState, Has}
 use Rattle.vd_passes.specs.declared.shape.Shape.{Shape}
-use Rattle.vd_passes.specs.Places.{place_of, Extends}
-use Rattle.vd_passes.specs.Needs.{need_of, sectors_of}
+use Rattle.vd_passes.specs.Places.{place_of, KeepsPlaces}
 use Rattle.vd_passes.proofs.Places.{block-below}
 use Rattle.vd_passes.proofs.PlacesGiven.{place-some, has-place, place-from}
 use Rattle.vd_passes.proofs.Asking.{IsPlaced}
 use Rattle.vd_core.specs.Asking.{run_from, run_count, HasSize, Claims}
 use Rattle.vd_core.specs.Kept.{IsStorage}
+use Rattle.vd_passes.specs.Needs.{need_of, sectors_of}
 
 -- what a request needs at the least: its Ask and its Reply, and the sectors that the Ask tells
 pub need-events : (block : ℕ) (r : Asked) → 2 ≤ (need_of block r).events
@@ -61,7 +61,7 @@ run-inside shape (Write first content) n chunks some_block some_chunk size insid
 run-inside shape Flush n chunks some_block some_chunk size inside = omega arith
 
 -- Where each of them has storage, each block of the range has a place.
-pub run-placed : (shape : Shape) (table : Given) (r : Asked) → 0 < shape.block → 0 < shape.chunk → ((chunk : ℕ) → run_from shape r ≤ chunk → chunk < run_from shape r + run_count shape r → (p : ℕ) × Has table chunk p)
+pub run-placed : (shape : Shape) (table : TableState) (r : Asked) → 0 < shape.block → 0 < shape.chunk → ((chunk : ℕ) → run_from shape r ≤ chunk → chunk < run_from shape r + run_count shape r → (p : ℕ) × Has table chunk p)
     → IsPlaced shape.block (place_of shape table.chunks) r
 run-placed shape table (Read first count) some_block some_chunk all = tt
 run-placed shape table (Write first content) some_block some_chunk all = λ b from to.
@@ -75,12 +75,12 @@ run-placed shape table (Write first content) some_block some_chunk all = λ b fr
 run-placed shape table Flush some_block some_chunk all = tt
 
 -- Blocks keep their places where chunks keep their storage.
-pub claim-extends : (shape : Shape) (table table' : Given) → ((chunk p : ℕ) → Has table chunk p → Has table' chunk p) → Extends (place_of shape table.chunks) (place_of shape table'.chunks)
+pub claim-extends : (shape : Shape) (table table' : TableState) → ((chunk p : ℕ) → Has table chunk p → Has table' chunk p) → KeepsPlaces (place_of shape table.chunks) (place_of shape table'.chunks)
 claim-extends shape table table' kept b x at =
     let from = place-from shape table.chunks b x at in
     place-some shape table'.chunks b from.0 (kept (b / shape.chunk) from.0 from.1) ∙ ap Some (sym from.2)
 
-pub claim-storage : {shape : Shape} {table table' : Given} {sectors from count : ℕ} → IsStorage shape table sectors → Claims table table' from count → IsStorage shape table' sectors
+pub claim-storage : {shape : Shape} {table table' : TableState} {sectors from count : ℕ} → IsStorage shape table sectors → Claims table table' from count → IsStorage shape table' sectors
 claim-storage {shape} {table} {table'} {sectors} {from} {count} storage claims = record {
   chunks = λ b in_disk. let h = storage.chunks b in_disk in let e = claims.chunks in omega arith;
   few = let h = storage.few in let e = claims.chunks in omega arith;

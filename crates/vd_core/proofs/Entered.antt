@@ -9,7 +9,7 @@ use Rattle.vd_passes.specs.declared.shape.Shape.{Shape}
 use Rattle.vd_passes.specs.declared.pass.Pass.{Pass}
 use Rattle.vd_passes.specs.Places.{place_of}
 use Rattle.vd_passes.specs.Passes.{after_enter}
-use Rattle.vd_passes.specs.Steps.{IsNextPiece}
+use Rattle.vd_passes.specs.Steps.{IsPieceToEnter}
 use Rattle.vd_core.specs.Entering.{EntersBlock}
 
 abbrev pub region_in : (block : ℕ) → Mode → Region
@@ -22,7 +22,7 @@ pub mode-shared : (write : Bool) (mode : Mode) → write ≡ false → mode ≡ 
 mode-shared write mode is shared = shared ∙ sym (ap (λ (b : Bool). if b then Own else Shared) is)
 
 pub enters-block : (shape : Shape) (chunks : List (Option ℕ)) (regions regions' : List (Option Region)) (i : ℕ) (passes : List Pass) (q r s : Pass) (block piece at : ℕ) (mode : Mode)
-    → slice_get passes i ≡ Some q → r ≡ q → s ≡ after_enter r block piece at → IsNextPiece shape q block piece → ((x : ℕ) → place_of shape chunks block ≡ Some x → at ≡ x)
+    → slice_get passes i ≡ Some q → r ≡ q → s ≡ after_enter r block piece at → IsPieceToEnter shape q block piece → ((x : ℕ) → place_of shape chunks block ≡ Some x → at ≡ x)
     → mode ≡ (if q.write then Own else Shared) → ((by : ℕ) → Hinders regions i (region_in block mode) by → ⊥) → regions' ≡ slice_set regions i (Some (region_in block mode))
     → EntersBlock shape chunks regions regions' i passes (slice_set passes i s)
 enters-block shape chunks regions regions' i passes q r s block piece at mode there same after next place wants free held = record {

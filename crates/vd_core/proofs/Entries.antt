@@ -3,12 +3,12 @@ use Rattle.std.proofs.Common.{◌≡◌, ℕ, ◌<◌, List, [], ◌∷◌, ◌+
 use Rattle.vd_law.specs.declared.entry.CallId.{CallId}
 use Rattle.vd_law.specs.declared.entry.Answer.{Answer}
 use Rattle.vd_law.specs.Entries.{Asked, Entry, Ask, Reply}
-use Rattle.vd_law.specs.Histories.{Numbered}
-use Rattle.vd_core.specs.Adding.{CanAdd, Extends}
+use Rattle.vd_law.specs.Histories.{HistoryState}
+use Rattle.vd_core.specs.Adding.{CanAdd, AddsEntries}
 use Rattle.vd_core.proofs.Rooming.{last-extended}
 
 -- after an entry another can be added
-pub can-add-next : {events sectors : ℕ} {old new : Numbered} → Extends (events ∷ []) sectors old new → 1 < old.log.left.events → CanAdd 0 new events
+pub can-add-next : {events sectors : ℕ} {old new : HistoryState} → AddsEntries (events ∷ []) sectors old new → 1 < old.log.left.events → CanAdd 0 new events
 can-add-next {events} {sectors} {old} {new} extends left = record {
   event = let used = extends.events_left in omega arith;
   sectors_fit = omega arith;
@@ -16,7 +16,7 @@ can-add-next {events} {sectors} {old} {new} extends left = record {
   later = let last = last-extended extends in omega arith;
 }
 
-pub extends-twice : {events sectors : ℕ} {old between new : Numbered} → Extends (events ∷ []) sectors old between → Extends (events ∷ []) 0 between new → Extends (events ∷ events ∷ []) sectors old new
+pub extends-twice : {events sectors : ℕ} {old between new : HistoryState} → AddsEntries (events ∷ []) sectors old between → AddsEntries (events ∷ []) 0 between new → AddsEntries (events ∷ events ∷ []) sectors old new
 extends-twice {events} {sectors} {old} {between} {new} first second = record {
   numbers = second.numbers ∙ ap (λ (n : List ℕ). n ++ events ∷ []) first.numbers ∙ append_assoc old.numbers (events ∷ []) (events ∷ []);
   opened = second.opened ∙ first.opened;

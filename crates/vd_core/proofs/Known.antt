@@ -1,14 +1,14 @@
 -- What is known of a core's history, of what its type keeps.
 use Rattle.std.proofs.Common.{◌≡◌, ◌⊎◌, ℕ, ◌≤◌, List, length, refl, inl, inr, Option, Some, slice_get}
 use Rattle.vd_law.specs.declared.entry.Room.{Room}
-use Rattle.vd_law.specs.Histories.{Numbered}
+use Rattle.vd_law.specs.Histories.{HistoryState}
 use Rattle.vd_device.specs.declared.store.Store as store
 use Rattle.vd_device.specs.declared.base.Base as base
 use Rattle.vd_device.specs.Disks.{HasStopped}
 use Rattle.vd_device.specs.Stores.{IsTold}
 use Rattle.vd_regions.specs.declared.regions.Region.{Region}
 use Rattle.vd_replay.specs.declared.state.State.{State}
-use Rattle.vd_meta.specs.Keeping.{Keeping}
+use Rattle.vd_keeper.specs.Keeping.{KeeperState}
 use Rattle.vd_passes.specs.declared.shape.Shape.{Shape}
 use Rattle.vd_passes.specs.declared.pass.Pass.{Pass}
 use Rattle.vd_passes.specs.declared.pass.Phase.TheVariants.{Idle}
@@ -17,7 +17,7 @@ use Rattle.vd_passes.proofs.Blaming.{blamed-caused}
 use Rattle.vd_passes.proofs.Tracing.{followed-traced}
 use Rattle.vd_core.specs.View.{View}
 use Rattle.vd_core.specs.Start.{opening_at}
-use Rattle.vd_core.specs.Kept.{IsKept, IsFaithfullyKept, IsAccounted, IsLogged, IsRecorded, IsSafelyKept, IsSafelyStopped}
+use Rattle.vd_core.specs.Kept.{IsSoundCore, IsFaithfullyKept, IsAccounted, LogAgrees, MetadataAgrees, IsSafelyKept, IsSafelyStopped}
 use Rattle.vd_core.specs.Opening.{IsNumberedIn}
 use Rattle.vd_core.specs.History.{HasOpening, IsHistoryOf, HasEnded}
 use Rattle.vd_core.proofs.Storing.{stored-fulls}
@@ -28,7 +28,7 @@ use Rattle.vd_core.proofs.Securing.Words.{safely-again}
 use Rattle.vd_core.proofs.Securing.Stopping.{still-safe}
 
 -- the core as contracts see it
-abbrev seen_as : {S B : Type 0} (g : store.Ghosts S) (s : S) (b : B) → Shape → State → Keeping → Option ℕ → List Pass → Numbered → Room → (store_faults base_faults : ℕ) → View S B
+abbrev seen_as : {S B : Type 0} (g : store.Ghosts S) (s : S) (b : B) → Shape → State → KeeperState → Option ℕ → List Pass → HistoryState → Room → (store_faults base_faults : ℕ) → View S B
 seen_as g s b shape state keeping flusher passes history spare store_faults base_faults = record {
   store = s;
   base = b;
@@ -47,17 +47,17 @@ seen_as g s b shape state keeping flusher passes history spare store_faults base
   base_faults = base_faults;
 }
 
-within : {S : Type 0} (g : store.Ghosts S) (s : S) {passes : List Pass} {history : Numbered} → (g.tells s → IsLogged passes history (g.disk s)) → IsTold g s
+within : {S : Type 0} (g : store.Ghosts S) (s : S) {passes : List Pass} {history : HistoryState} → (g.tells s → LogAgrees passes history (g.disk s)) → IsTold g s
     → g.records s → (history.opened ≤ length (g.disk s).log) ⊎ HasStopped (g.events s) (g.disk s)
 within g s logged told log = elim (told log) [ inl tells ↦ inl (logged tells).since | inr stop ↦ inr stop ]
 
-module _ {S B : Type 0} (g : store.Ghosts S) (h : base.Ghosts B) (s : S) (b : B) {shape : Shape} {state : State} {keeping : Keeping} {flusher : Option ℕ} {passes : List Pass} {history : Numbered} {spare : Room} {store_faults base_faults : ℕ}
+module _ {S B : Type 0} (g : store.Ghosts S) (h : base.Ghosts B) (s : S) (b : B) {shape : Shape} {state : State} {keeping : KeeperState} {flusher : Option ℕ} {passes : List Pass} {history : HistoryState} {spare : Room} {store_faults base_faults : ℕ}
     {regions : List (Option Region)}
-    (kept : IsKept g h shape state regions passes history spare s b)
+    (kept : IsSoundCore g h shape state regions passes history spare s b)
     (faithful : g.tells s → h.tells b → IsFaithfullyKept g h shape state passes history s b)
     (accounted : IsAccounted g h shape state passes history store_faults base_faults s b)
-    (logged : g.tells s → IsLogged passes history (g.disk s))
-    (recorded : IsRecorded shape state passes flusher keeping)
+    (logged : g.tells s → LogAgrees passes history (g.disk s))
+    (recorded : MetadataAgrees shape state passes flusher keeping)
     (safely : g.tells s → h.tells b → IsSafelyKept g h state keeping flusher passes history s b)
     (stopped : g.records s → h.tells b → g.tells s ⊎ IsSafelyStopped g h state.header history s b)
     (told : IsTold g s) (tells_logs : g.tells s → g.records s) where

@@ -1,3 +1,4 @@
+pub mod Sent
 pub mod Agreeing
 pub mod Claiming
 pub mod Copied

@@ -6,30 +6,30 @@ use Rattle.std.proofs.lemmas.Bool.{cases_eq}
 use Rattle.vd_law.specs.declared.entry.Sector.{Sector}
 use Rattle.vd_law.specs.declared.entry.CallId.{CallId}
 use Rattle.vd_law.specs.Entries.{Entry, Ask, Issue, Done, Broke, Seen, Reply, same_call, Past, nothing, ◌▸◌, past}
-use Rattle.vd_law.specs.Contents.{sector_in, written, Open, opened, is_of, is_of_another, open_writes, open_write, number_of, last_done}
+use Rattle.vd_law.specs.Contents.{sector_in, issued_contents, Open, open_after_issue, is_of, is_of_another, open_writes, open_write, issue_number, last_done}
 use Rattle.vd_law.proofs.Appending.{after-push}
 use Rattle.vd_law.proofs.Opening.{case}
 use Rattle.vd_device.specs.declared.ticket.Ticket.{Ticket}
 use Rattle.vd_format.specs.declared.map.Entry.{Entry as MapEntry}
 use Rattle.vd_replay.specs.declared.state.State.{State}
-use Rattle.vd_replay.specs.States.{IsWhole}
+use Rattle.vd_replay.specs.States.{IsWholeState}
 use Rattle.vd_replay.proofs.ListLaws.{get_some}
 use Rattle.vd_replay.proofs.StateLaws.{in_mask}
-use Rattle.vd_meta.specs.Entries.{either}
-use Rattle.vd_meta.proofs.Owed.{either-left}
+use Rattle.vd_keeper.specs.Entries.{union_of}
+use Rattle.vd_keeper.proofs.Owed.{either-left}
 use Rattle.vd_passes.specs.declared.shape.Shape.{Shape}
 use Rattle.vd_passes.specs.declared.pass.Pass.{Pass}
 use Rattle.vd_passes.specs.declared.pass.Phase.TheVariants.{Issuing}
 use Rattle.vd_passes.specs.Tracks.{content_by, writes}
 use Rattle.vd_passes.specs.Places.{IsIn}
-use Rattle.vd_passes.specs.Passes.{has_region, call_of, IsWriting}
+use Rattle.vd_passes.specs.Passes.{has_region, call_id, IsWriting}
 use Rattle.vd_passes.specs.Coherent.{IsCoherent}
 use Rattle.vd_passes.proofs.Lists.{some-inj, get-set-same, get-set-other}
 use Rattle.vd_passes.proofs.Places.{same-block}
 use Rattle.vd_passes.proofs.Tracks.{same-itself, same-false}
 use Rattle.vd_passes.proofs.Regions.{region-of, issuing-write, writing-block, only-writer}
 use Rattle.vd_safety.specs.Mirrors.{is_in}
-use Rattle.vd_core.specs.Opening.{shape_of}
+use Rattle.vd_core.specs.Opening.{disk_shape}
 use Rattle.vd_core.specs.Local.{was_local, IsWrittenIn, AreLocalBy, HaveMarks}
 
 -- No entry but a Done changes them.
@@ -75,7 +75,7 @@ counted-filter t (w ∷ ws) all = elim (case (t w)) [
   | inr out ↦ rw out (counted-filter t ws all.1)
 ]
 
-counted-opened : (id : CallId) (n : ℕ) (o : Option Sector) (ws : List Open) → Counted ws → Counted (opened id (n + 1) o ++ ws)
+counted-opened : (id : CallId) (n : ℕ) (o : Option Sector) (ws : List Open) → Counted ws → Counted (open_after_issue id (n + 1) o ++ ws)
 unfolding Counted
 counted-opened id n None ws all = all
 counted-opened id n (Some v) ws all = (omega arith, all)
@@ -84,24 +84,24 @@ counted : (p : Past) (s : ℕ) → Counted (open_writes p s)
 unfolding Counted
 counted nothing s = tt
 counted (p ▸ Ask id request) s = counted p s
-counted (p ▸ Issue id first content) s = counted-opened id (length (written p s)) (sector_in first content s) (open_writes p s) (counted p s)
+counted (p ▸ Issue id first content) s = counted-opened id (length (issued_contents p s)) (sector_in first content s) (open_writes p s) (counted p s)
 counted (p ▸ Done id) s = counted-filter (is_of_another id) (open_writes p s) (counted p s)
 counted (p ▸ Broke id) s = counted-filter (is_of_another id) (open_writes p s) (counted p s)
 counted (p ▸ Seen id first content) s = counted p s
 counted (p ▸ Reply id answer) s = counted p s
 
-none-found : (id : CallId) (ws : List Open) → map content_by ws ≡ [] → number_of (find (is_of id) ws) ≡ 0
+none-found : (id : CallId) (ws : List Open) → map content_by ws ≡ [] → issue_number (find (is_of id) ws) ≡ 0
 none-found id [] none = refl
 none-found id (w ∷ ws) none = absurd (cc)
 
-other-found : (id other : CallId) (c : Sector) (ws : List Open) → map content_by ws ≡ (other, c) ∷ [] → same_call other id ≡ false → number_of (find (is_of id) ws) ≡ 0
+other-found : (id other : CallId) (c : Sector) (ws : List Open) → map content_by ws ≡ (other, c) ∷ [] → same_call other id ≡ false → issue_number (find (is_of id) ws) ≡ 0
 other-found id other c [] one ne = absurd (cc)
 other-found id other c (w ∷ ws) one ne =
     let pair : content_by w ≡ (other, c) = cc in let rest : map content_by ws ≡ [] = cc in let call : w.call ≡ other = ap (λ (x : CallId × Sector). x.0) pair in
     let not : same_call w.call id ≡ false = ap (λ (x : CallId). same_call x id) call ∙ ne in
     rw not (none-found id ws rest)
 
-own-found : (id : CallId) (c : Sector) (ws : List Open) → map content_by ws ≡ (id, c) ∷ [] → Counted ws → 0 < number_of (find (is_of id) ws)
+own-found : (id : CallId) (c : Sector) (ws : List Open) → map content_by ws ≡ (id, c) ∷ [] → Counted ws → 0 < issue_number (find (is_of id) ws)
 unfolding Counted
 own-found id c [] one all = absurd (cc)
 own-found id c (w ∷ ws) one all =
@@ -109,23 +109,23 @@ own-found id c (w ∷ ws) one all =
     let is : same_call w.call id ≡ true = ap (λ (x : CallId). same_call x id) call ∙ same-itself id in
     rw is all.0
 
-open-none : (id : CallId) (history : List Entry) (s : ℕ) → writes history s ≡ [] → number_of (open_write (past history) id s) ≡ 0
+open-none : (id : CallId) (history : List Entry) (s : ℕ) → writes history s ≡ [] → issue_number (open_write (past history) id s) ≡ 0
 unfolding writes
 open-none id history s none = none-found id (open_writes (past history) s) none
 
-open-other : (id other : CallId) (c : Sector) (history : List Entry) (s : ℕ) → writes history s ≡ (other, c) ∷ [] → same_call other id ≡ false → number_of (open_write (past history) id s) ≡ 0
+open-other : (id other : CallId) (c : Sector) (history : List Entry) (s : ℕ) → writes history s ≡ (other, c) ∷ [] → same_call other id ≡ false → issue_number (open_write (past history) id s) ≡ 0
 unfolding writes
 open-other id other c history s one ne = other-found id other c (open_writes (past history) s) one ne
 
-open-own : (id : CallId) (c : Sector) (history : List Entry) (s : ℕ) → writes history s ≡ (id, c) ∷ [] → 0 < number_of (open_write (past history) id s)
+open-own : (id : CallId) (c : Sector) (history : List Entry) (s : ℕ) → writes history s ≡ (id, c) ∷ [] → 0 < issue_number (open_write (past history) id s)
 unfolding writes
 open-own id c history s one = own-found id c (open_writes (past history) s) one (counted (past history) s)
 
 -- A write is done: its block is local from then on.
-module _ {shape : Shape} {fresh : List Bool} {places : ℕ → Option ℕ} {passes : List Pass} {history : List Entry} {sectors depth base_sectors base_depth : ℕ} {flies base_flies : List Ticket → Type 0}
-    (co : IsCoherent shape fresh places passes history sectors depth base_sectors base_depth flies base_flies) (i : ℕ) (p : Pass) (there : slice_get passes i ≡ Some p) (issuing : p.phase ≡ Issuing) where
+module _ {shape : Shape} {fresh : List Bool} {places : ℕ → Option ℕ} {passes : List Pass} {history : List Entry} {sectors depth base_sectors base_depth : ℕ} {flight base_flight : List Ticket → Type 0}
+    (co : IsCoherent shape fresh places passes history sectors depth base_sectors base_depth flight base_flight) (i : ℕ) (p : Pass) (there : slice_get passes i ≡ Some p) (issuing : p.phase ≡ Issuing) where
   abbrev id : CallId
-  id = call_of i p
+  id = call_id i p
 
   holds : has_region p.phase ≡ true
   holds = region-of _ Issuing refl issuing
@@ -141,29 +141,29 @@ module _ {shape : Shape} {fresh : List Bool} {places : ℕ → Option ℕ} {pass
   within : IsIn shape.block p.block at
   within = writing-block (co.each i p there) writing
 
-  done-is : (s : ℕ) → last_done (past (history ++ Done id ∷ [])) s ≡ max (last_done (past history) s) (number_of (open_write (past history) id s))
+  done-is : (s : ℕ) → last_done (past (history ++ Done id ∷ [])) s ≡ max (last_done (past history) s) (issue_number (open_write (past history) id s))
   done-is s = after-push (λ (x : Past). last_done x s) history (Done id)
 
   this : (w : Pass) (by : ℕ) → slice_get passes by ≡ Some w → by ≡ i → w ≡ p
   this w by found e = some-inj (sym found ∙ ap (slice_get passes) e ∙ there)
 
   -- the write of its own that is open in its piece
-  own-open : 0 < number_of (open_write (past history) id at)
+  own-open : 0 < issue_number (open_write (past history) id at)
   own-open = elim (co.guest at) [
     | inl none ↦ absurd (none.nobody i p there writing)
     | inr w ↦
         let e = only-writer co i p there holds (issuing-write (co.each i p there) issuing) at within w in
         let same = this w.pass w.by w.there e in
-        open-own id w.content history at (subst (λ (x : Pass). writes history at ≡ (call_of i x, w.content) ∷ []) same (subst (λ (k : ℕ). writes history at ≡ (call_of k w.pass, w.content) ∷ []) e w.one))
+        open-own id w.content history at (subst (λ (x : Pass). writes history at ≡ (call_id i x, w.content) ∷ []) same (subst (λ (k : ℕ). writes history at ≡ (call_id k w.pass, w.content) ∷ []) e w.one))
   ]
 
   -- it has none open elsewhere
-  else-none : (s : ℕ) → (IsIn shape.block p.block s → ⊥) → number_of (open_write (past history) id s) ≡ 0
+  else-none : (s : ℕ) → (IsIn shape.block p.block s → ⊥) → issue_number (open_write (past history) id s) ≡ 0
   else-none s out = elim (co.guest s) [
     | inl none ↦ open-none id history s none.none
     | inr w ↦ elim (cases_eq w.by i) [
       | inl e ↦ absurd (out (writing-block (co.each i p there) (subst (λ (x : Pass). IsWriting x s) (this w.pass w.by w.there e) w.writing)))
-      | inr ne ↦ open-other id (call_of w.by w.pass) w.content history s w.one (same-false (call_of w.by w.pass) id (λ e f. ne e))
+      | inr ne ↦ open-other id (call_id w.by w.pass) w.content history s w.one (same-false (call_id w.by w.pass) id (λ e f. ne e))
     ]
   ]
 
@@ -178,8 +178,8 @@ module _ {shape : Shape} {fresh : List Bool} {places : ℕ → Option ℕ} {pass
         | inl e ↦
             let old = get_some fresh b (let size = co.size in omega (arith, inside, size)) in
             let set : slice_get (slice_set fresh p.block true) b ≡ Some true = ap (slice_get (slice_set fresh p.block true)) e ∙ get-set-same fresh p.block true old.0 (ap (slice_get fresh) (sym e) ∙ old.1) in
-            let written : IsWrittenIn shape (history ++ Done id ∷ []) b = (at, subst (λ (x : ℕ). IsIn shape.block x at) (sym e) within, (let d = done-is at in let own = own-open in omega (arith, d, own))) in
-            (λ is. inr written, λ why. set)
+            let issued_contents : IsWrittenIn shape (history ++ Done id ∷ []) b = (at, subst (λ (x : ℕ). IsIn shape.block x at) (sym e) within, (let d = done-is at in let own = own-open in omega (arith, d, own))) in
+            (λ is. inr issued_contents, λ why. set)
         | inr ne ↦
             let h = local.each b inside in let same = get-set-other fresh p.block b true ne in (
               (λ is. elim (h.0 (sym same ∙ is)) [
@@ -195,12 +195,12 @@ module _ {shape : Shape} {fresh : List Bool} {places : ℕ → Option ℕ} {pass
 
 -- At opening they are those of the map.
 
-pub new-local : (s : State) (base_sectors : ℕ) → IsWhole s → AreLocalBy (shape_of s.header base_sectors) s.map s.fresh.bits []
+pub new-local : (s : State) (base_sectors : ℕ) → IsWholeState s → AreLocalBy (disk_shape s.header base_sectors) s.map s.fresh.bits []
 new-local s base_sectors whole = record {
   each = λ b within.
       let bit = get_some s.fresh.bits b (let size = whole.sized.fresh in omega (arith, within, size)) in
       let m = in_mask s.header s.map s.fresh b bit.0 whole.sized.valid whole.sized.map whole.sized.chunk whole.sized.fresh whole.spread bit.1 in
-      let same : was_local (shape_of s.header base_sectors) s.map b ≡ bit.0 = ap (λ (o : Option MapEntry). is_in o (b / s.header.chunk * s.header.chunk) b) m.1 ∙ sym m.2 in (
+      let same : was_local (disk_shape s.header base_sectors) s.map b ≡ bit.0 = ap (λ (o : Option MapEntry). is_in o (b / s.header.chunk * s.header.chunk) b) m.1 ∙ sym m.2 in (
         (λ is. inl (same ∙ some-inj (sym bit.1 ∙ is))),
         (λ why. elim why [
           | inl was ↦ bit.1 ∙ ap Some (sym same ∙ was)
@@ -209,12 +209,12 @@ new-local s base_sectors whole = record {
       );
 }
 
-pub new-marks : (s : State) (base_sectors : ℕ) → IsWhole s → HaveMarks (shape_of s.header base_sectors) s.map s.fresh.bits
+pub new-marks : (s : State) (base_sectors : ℕ) → IsWholeState s → HaveMarks (disk_shape s.header base_sectors) s.map s.fresh.bits
 new-marks s base_sectors whole b within was = ((new-local s base_sectors whole).each b within).1 (inl was)
 
 -- Marks that are the same, or more.
 pub same-marks : (shape : Shape) (had : List MapEntry) {marks marks' : List Bool} → marks' ≡ marks → HaveMarks shape had marks → HaveMarks shape had marks'
 same-marks shape had same have b within was = ap (λ (m : List Bool). slice_get m b) same ∙ have b within was
 
-pub more-marks : (shape : Shape) (had : List MapEntry) (marks more : List Bool) → HaveMarks shape had marks → HaveMarks shape had (either marks more)
+pub more-marks : (shape : Shape) (had : List MapEntry) (marks more : List Bool) → HaveMarks shape had marks → HaveMarks shape had (union_of marks more)
 more-marks shape had marks more have b within was = either-left marks more b (have b within was)

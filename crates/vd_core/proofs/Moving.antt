@@ -5,7 +5,7 @@ use Rattle.std.proofs.lemmas.Bool.{ltb-true, ltb-false}
 use Rattle.vd_law.specs.declared.entry.Room.{Room}
 use Rattle.vd_law.specs.declared.entry.Answer.{Answer}
 use Rattle.vd_law.specs.declared.entry.Sector.{Sector}
-use Rattle.vd_law.specs.Entries.{Entry, Issue, Done, Broke, Seen, Reply}
+use Rattle.vd_law.specs.Entries.{Entry, Issue, Done, Broke, Seen, Reply, IsNoAsk}
 use Rattle.vd_device.specs.declared.ticket.Ticket.{Ticket}
 use Rattle.vd_device.specs.declared.settled.Settled.{Settled}
 use Rattle.vd_device.specs.declared.settled.Settled.TheVariants as settled
@@ -16,9 +16,8 @@ use Rattle.vd_passes.specs.declared.pass.Phase.{Phase}
 use Rattle.vd_passes.specs.declared.pass.Phase.TheVariants.{Idle, Asked, Held, Fetching, Filled, Issuing, Looking, Ready}
 use Rattle.vd_passes.specs.declared.pass.Fault.{Fault}
 use Rattle.vd_passes.specs.declared.pass.Fault.TheVariants as fault
-use Rattle.vd_passes.specs.Needs.{pieces, pieces_left}
-use Rattle.vd_reading.specs.Background.{zero_sector}
-use Rattle.vd_passes.specs.Passes.{has_region, writes_in, IsPiece, after_fetch, after_filled, after_issue, after_look, after_base_look, after_piece, after_fault, after_reply, spent}
+use Rattle.vd_passes.specs.Needs.{pieces_left, pieces}
+use Rattle.vd_passes.specs.Passes.{has_region, writes_in, IsPiece, after_fetch, after_filled, after_issue, after_look, after_base_look, after_piece, after_fault, after_reply, after_spending}
 use Rattle.vd_passes.specs.Steps.{Enters, FetchSettled, Issues, WriteSettled, Looks, LooksAtBase, Sees, EndsRead, Replies}
 use Rattle.vd_passes.proofs.Lists.{some-inj}
 use Rattle.vd_passes.proofs.Needing.{pieces-left, pieces-behind, pieces-last}
@@ -27,7 +26,8 @@ use Rattle.vd_core.specs.declared.outcome.Step.TheVariants.{Again, Busy, Ended}
 use Rattle.vd_core.specs.Fetching.{FetchesIn}
 use Rattle.vd_core.specs.Outcomes.{outcome_of, step_of}
 use Rattle.vd_core.proofs.Ended.{set-there}
-use Rattle.vd_core.specs.Moves.{IsNoAsk, steps_in, steps_left, Moves, work, Drives, IsStanding}
+use Rattle.vd_core.specs.Moves.{steps_in_phase, steps_left, Moves, work, Drives, IsInPhase}
+use Rattle.vd_format.specs.Background.{zero_sector}
 
 -- a room is as large as itself
 pub same-room : (left : Room) → (left.events ≤ left.events) × (left.sectors ≤ left.sectors)
@@ -41,13 +41,13 @@ pub adds : {i : ℕ} {p p' : Pass} {passes passes' : List Pass} (entries entries
     → entries' ≡ entries ++ e ∷ [] → Moves i p p' passes passes' entries entries'
 adds entries entries' e none there after write flush count call more = record { there = there; after = after; write = write; flush = flush; count = count; call = call; more = e ∷ []; none_asked = (none, tt); entries_after = more }
 
-asked-held : (write : Bool) (n : ℕ) → steps_in Held write n < steps_in Asked write n
+asked-held : (write : Bool) (n : ℕ) → steps_in_phase Held write n < steps_in_phase Asked write n
 asked-held true n = omega arith
 asked-held false n = omega arith
 
 -- the steps of a pass in a known phase
-steps-at : (block : ℕ) (p : Pass) (phase : Phase) (write : Bool) → p.phase ≡ phase → p.write ≡ write → steps_left block p ≡ steps_in phase write (pieces_left block p)
-steps-at block p phase write is_phase is_write = ap (λ ph. steps_in ph p.write (pieces_left block p)) is_phase ∙ ap (λ (w : Bool). steps_in phase w (pieces_left block p)) is_write
+steps-at : (block : ℕ) (p : Pass) (phase : Phase) (write : Bool) → p.phase ≡ phase → p.write ≡ write → steps_left block p ≡ steps_in_phase phase write (pieces_left block p)
+steps-at block p phase write is_phase is_write = ap (λ ph. steps_in_phase ph p.write (pieces_left block p)) is_phase ∙ ap (λ (w : Bool). steps_in_phase phase w (pieces_left block p)) is_write
 
 module _ {shape : Shape} {i : ℕ} {passes passes' : List Pass} (entries : List Entry) (left : Room) where
   pub enters-drives : {places : ℕ → Option ℕ} (p : Pass) → slice_get passes i ≡ Some p → p.phase ≡ Asked → Enters shape places i passes passes' → Drives Again shape.block i (work passes entries left) (work passes' entries left)
@@ -63,16 +63,16 @@ module _ {shape : Shape} {i : ℕ} {passes passes' : List Pass} (entries : List 
       }
 
 -- where a piece is there, its pass has a piece left
-held-write : (n : ℕ) → 0 < n → (steps_in Fetching true n < steps_in Held true n) × (steps_in Filled true n < steps_in Held true n) × (steps_in Issuing true n < steps_in Held true n) × (steps_in Ready true n < steps_in Fetching true n)
-    × (steps_in Filled true n < steps_in Fetching true n) × (steps_in Issuing true n < steps_in Filled true n) × (steps_in Ready true n < steps_in Issuing true n)
+held-write : (n : ℕ) → 0 < n → (steps_in_phase Fetching true n < steps_in_phase Held true n) × (steps_in_phase Filled true n < steps_in_phase Held true n) × (steps_in_phase Issuing true n < steps_in_phase Held true n) × (steps_in_phase Ready true n < steps_in_phase Fetching true n)
+    × (steps_in_phase Filled true n < steps_in_phase Fetching true n) × (steps_in_phase Issuing true n < steps_in_phase Filled true n) × (steps_in_phase Ready true n < steps_in_phase Issuing true n)
 held-write n some = (omega arith, omega arith, omega arith, omega arith, omega arith, omega arith, omega arith)
 
-ready-ready : (write : Bool) (n m : ℕ) → steps_in Ready write n ≡ steps_in Ready true m
+ready-ready : (write : Bool) (n m : ℕ) → steps_in_phase Ready write n ≡ steps_in_phase Ready true m
 ready-ready write n m = refl
 
 module _ {shape : Shape} {i : ℕ} {passes passes' : List Pass} (entries : List Entry) (left : Room) where
-  pub fetches-drives : {base_flies base_flies' : List Ticket → Type 0} (p : Pass) → slice_get passes i ≡ Some p → p.phase ≡ Held → p.write ≡ true → IsStanding shape p → FetchesIn shape i passes passes' base_flies base_flies' → Drives Again shape.block i (work passes entries left) (work passes' entries left)
-  fetches-drives {base_flies} {base_flies'} p there phase write stands (inl reads) =
+  pub fetches-drives : {base_flight base_flight' : List Ticket → Type 0} (p : Pass) → slice_get passes i ≡ Some p → p.phase ≡ Held → p.write ≡ true → IsInPhase shape p → FetchesIn shape i passes passes' base_flight base_flight' → Drives Again shape.block i (work passes entries left) (work passes' entries left)
+  fetches-drives {base_flight} {base_flight'} p there phase write stands (inl reads) =
       let step = reads.0 in let same : p ≡ step.pass = some-inj (sym there ∙ step.there) in
       let held : step.pass.phase ≡ Held = ap (λ (q : Pass). q.phase) (sym same) ∙ phase in let writes : step.pass.write ≡ true = ap (λ (q : Pass). q.write) (sym same) ∙ write in
       let piece : IsPiece shape step.pass = subst (IsPiece shape) same (stands.piece (ap has_region phase)) in
@@ -85,7 +85,7 @@ module _ {shape : Shape} {i : ℕ} {passes passes' : List Pass} (entries : List 
         events_left = (same-room left).0;
         sectors_left = (same-room left).1;
       }
-  fetches-drives {base_flies} {base_flies'} p there phase write stands (inr fills) =
+  fetches-drives {base_flight} {base_flight'} p there phase write stands (inr fills) =
       let step = fills.0 in let same : p ≡ step.pass = some-inj (sym there ∙ step.there) in
       let held : step.pass.phase ≡ Held = ap (λ (q : Pass). q.phase) (sym same) ∙ phase in let writes : step.pass.write ≡ true = ap (λ (q : Pass). q.write) (sym same) ∙ write in
       let piece : IsPiece shape step.pass = subst (IsPiece shape) same (stands.piece (ap has_region phase)) in
@@ -100,9 +100,9 @@ module _ {shape : Shape} {i : ℕ} {passes passes' : List Pass} (entries : List 
         sectors_left = (same-room left).1;
       }
 
-  pub fetch_settled-drives : {base_flies base_flies' : List Ticket → Type 0} {base_tells : Type 0} {base : List Sector} (answer : Settled) (p : Pass) → slice_get passes i ≡ Some p → p.phase ≡ Fetching → IsStanding shape p
-      → FetchSettled answer shape i passes passes' base_flies base_flies' base_tells base → Drives (step_of (outcome_of answer)) shape.block i (work passes entries left) (work passes' entries left)
-  fetch_settled-drives {base_flies} {base_flies'} {base_tells} {base} settled.Done p there phase stands s =
+  pub fetch_settled-drives : {base_flight base_flight' : List Ticket → Type 0} {base_tells : Type 0} {base : List Sector} (answer : Settled) (p : Pass) → slice_get passes i ≡ Some p → p.phase ≡ Fetching → IsInPhase shape p
+      → FetchSettled answer shape i passes passes' base_flight base_flight' base_tells base → Drives (step_of (outcome_of answer)) shape.block i (work passes entries left) (work passes' entries left)
+  fetch_settled-drives {base_flight} {base_flight'} {base_tells} {base} settled.Done p there phase stands s =
       let same : p ≡ s.pass = some-inj (sym there ∙ s.there) in
       let fetching : s.pass.phase ≡ Fetching = ap (λ (q : Pass). q.phase) (sym same) ∙ phase in let writes : s.pass.write ≡ true = ap (λ (q : Pass). q.write) (sym same) ∙ stands.write (ap writes_in phase) in
       let piece : IsPiece shape s.pass = subst (IsPiece shape) same (stands.piece (ap has_region phase)) in
@@ -116,7 +116,7 @@ module _ {shape : Shape} {i : ℕ} {passes passes' : List Pass} (entries : List 
         events_left = (same-room left).0;
         sectors_left = (same-room left).1;
       }
-  fetch_settled-drives {base_flies} {base_flies'} {base_tells} {base} (settled.NotYet t) p there phase stands s = record {
+  fetch_settled-drives {base_flight} {base_flight'} {base_tells} {base} (settled.NotYet t) p there phase stands s = record {
     pass = s.pass;
     pass' = s.pass;
     moves = quiet entries s.there s.after refl refl refl refl;
@@ -124,7 +124,7 @@ module _ {shape : Shape} {i : ℕ} {passes passes' : List Pass} (entries : List 
     events_left = (same-room left).0;
     sectors_left = (same-room left).1;
   }
-  fetch_settled-drives {base_flies} {base_flies'} {base_tells} {base} (settled.Failed number) p there phase stands s =
+  fetch_settled-drives {base_flight} {base_flight'} {base_tells} {base} (settled.Failed number) p there phase stands s =
       let same : p ≡ s.pass = some-inj (sym there ∙ s.there) in
       let fetching : s.pass.phase ≡ Fetching = ap (λ (q : Pass). q.phase) (sym same) ∙ phase in let writes : s.pass.write ≡ true = ap (λ (q : Pass). q.write) (sym same) ∙ stands.write (ap writes_in phase) in
       let piece : IsPiece shape s.pass = subst (IsPiece shape) same (stands.piece (ap has_region phase)) in
@@ -140,7 +140,7 @@ module _ {shape : Shape} {i : ℕ} {passes passes' : List Pass} (entries : List 
 
 -- A piece has ended: one piece less is left, or none.
 ended-write : (p : Pass) (n : ℕ) (pl : ℕ) (b : Bool) → nat_lt (p.done + p.piece) p.count ≡ b → (p.done + p.piece < p.count → n + 1 ≡ pl) → (p.done + p.piece ≡ p.count → pl ≡ 1) → p.done + p.piece ≤ p.count → 0 < pl
-    → (steps_in (if b then Asked else Ready) true n < steps_in Issuing true pl) × (steps_in (if b then Asked else Ready) false n < steps_in Looking false pl)
+    → (steps_in_phase (if b then Asked else Ready) true n < steps_in_phase Issuing true pl) × (steps_in_phase (if b then Asked else Ready) false n < steps_in_phase Looking false pl)
 ended-write p n pl true is behind last most some = let one = behind (ltb-true _ _ is) in (omega (arith, one), omega (arith, one))
 ended-write p n pl false is behind last most some = let one = last (let not = ltb-false _ _ is in omega (arith, not, most)) in (omega (arith, one), omega (arith, one))
 
@@ -152,13 +152,13 @@ module _ {shape : Shape} {p : Pass} (piece : IsPiece shape p) where
   abbrev rest : ℕ
   rest = pieces shape.block (p.first + (p.done + p.piece)) (p.count - (p.done + p.piece))
 
-  piece-ended : (steps_in (if nat_lt (p.done + p.piece) p.count then Asked else Ready) true rest < steps_in Issuing true (pieces_left shape.block p))
-      × (steps_in (if nat_lt (p.done + p.piece) p.count then Asked else Ready) false rest < steps_in Looking false (pieces_left shape.block p))
+  piece-ended : (steps_in_phase (if nat_lt (p.done + p.piece) p.count then Asked else Ready) true rest < steps_in_phase Issuing true (pieces_left shape.block p))
+      × (steps_in_phase (if nat_lt (p.done + p.piece) p.count then Asked else Ready) false rest < steps_in_phase Looking false (pieces_left shape.block p))
   piece-ended = ended-write p rest (pieces_left shape.block p) (nat_lt (p.done + p.piece) p.count) refl (pieces-behind piece) (pieces-last piece) piece.no_more (pieces-left piece)
 
 module _ {shape : Shape} {i : ℕ} {passes passes' : List Pass} {entries entries' : List Entry} (left : Room) where
-  pub issues-drives : {fresh : List Bool} {content : List Sector} {flies flies' : List Ticket → Type 0} {tells tells' : Type 0} {disk disk' : Disk} {last last' : ℕ} (p : Pass) → slice_get passes i ≡ Some p → (p.phase ≡ Held) ⊎ (p.phase ≡ Filled) → p.write ≡ true → IsStanding shape p
-      → Issues shape fresh content i passes passes' entries entries' flies flies' tells tells' disk disk' last last' → Drives Again shape.block i (work passes entries left) (work passes' entries' left)
+  pub issues-drives : {fresh : List Bool} {content : List Sector} {flight flight' : List Ticket → Type 0} {tells tells' : Type 0} {disk disk' : Disk} {last last' : ℕ} (p : Pass) → slice_get passes i ≡ Some p → (p.phase ≡ Held) ⊎ (p.phase ≡ Filled) → p.write ≡ true → IsInPhase shape p
+      → Issues shape fresh content i passes passes' entries entries' flight flight' tells tells' disk disk' last last' → Drives Again shape.block i (work passes entries left) (work passes' entries' left)
   issues-drives p there phase write stands step =
       let same : p ≡ step.pass = some-inj (sym there ∙ step.there) in let writes : step.pass.write ≡ true = ap (λ (q : Pass). q.write) (sym same) ∙ write in
       let piece : IsPiece shape step.pass = subst (IsPiece shape) same (stands.piece (holds p phase)) in
@@ -182,19 +182,19 @@ module _ {shape : Shape} {i : ℕ} {passes passes' : List Pass} {entries entries
       holds q (inl held) = ap has_region held
       holds q (inr filled) = ap has_region filled
 
-  pub write_settled-drives : {fresh fresh' : List Bool} {flies flies' : List Ticket → Type 0} {tells tells' : Type 0} {disk disk' : Disk} {last last' : ℕ} (answer : Settled) (p : Pass) → slice_get passes i ≡ Some p → p.phase ≡ Issuing → IsStanding shape p
-      → WriteSettled answer i fresh fresh' passes passes' entries entries' flies flies' tells tells' disk disk' last last' → Drives (step_of (outcome_of answer)) shape.block i (work passes entries left) (work passes' entries' left)
+  pub write_settled-drives : {fresh fresh' : List Bool} {flight flight' : List Ticket → Type 0} {tells tells' : Type 0} {disk disk' : Disk} {last last' : ℕ} (answer : Settled) (p : Pass) → slice_get passes i ≡ Some p → p.phase ≡ Issuing → IsInPhase shape p
+      → WriteSettled answer i fresh fresh' passes passes' entries entries' flight flight' tells tells' disk disk' last last' → Drives (step_of (outcome_of answer)) shape.block i (work passes entries left) (work passes' entries' left)
   write_settled-drives settled.Done p there phase stands s =
       let same : p ≡ s.pass = some-inj (sym there ∙ s.there) in let e = s.effect in
       let issuing : s.pass.phase ≡ Issuing = ap (λ (q : Pass). q.phase) (sym same) ∙ phase in let writes : s.pass.write ≡ true = ap (λ (q : Pass). q.write) (sym same) ∙ stands.write (ap writes_in phase) in
       let piece : IsPiece shape s.pass = subst (IsPiece shape) same (stands.piece (ap has_region phase)) in
       record {
         pass = s.pass;
-        pass' = spent 1 0 (after_piece s.pass);
+        pass' = after_spending 1 0 (after_piece s.pass);
         moves = adds entries entries' (Done _) tt s.there e.1 refl refl refl refl e.2;
         tells = (
           goes-on (nat_lt (s.pass.done + s.pass.piece) s.pass.count),
-          (let before = steps-at shape.block s.pass Issuing true issuing writes in let after = steps-at shape.block (spent 1 0 (after_piece s.pass)) (if nat_lt (s.pass.done + s.pass.piece) s.pass.count then Asked else Ready) true refl writes in
+          (let before = steps-at shape.block s.pass Issuing true issuing writes in let after = steps-at shape.block (after_spending 1 0 (after_piece s.pass)) (if nat_lt (s.pass.done + s.pass.piece) s.pass.count then Asked else Ready) true refl writes in
               let less = (piece-ended piece).0 in omega (arith, before, after, less)),
         );
         events_left = (same-room left).0;
@@ -215,7 +215,7 @@ module _ {shape : Shape} {i : ℕ} {passes passes' : List Pass} {entries entries
       let less = held-write (pieces_left shape.block s.pass) (pieces-left piece) in
       record {
         pass = s.pass;
-        pass' = spent 1 0 (after_fault (fault.Store s.ticket.number) s.pass);
+        pass' = after_spending 1 0 (after_fault (fault.Store s.ticket.number) s.pass);
         moves = adds entries entries' (Broke _) tt s.there e.1 refl refl refl refl e.2;
         tells = ((λ e. cc), (let before = steps-at shape.block s.pass Issuing true issuing writes in omega (arith, before, less.6)));
         events_left = (same-room left).0;
@@ -238,12 +238,12 @@ module _ {i : ℕ} {passes passes' : List Pass} {entries entries' : List Entry} 
       }
 
 -- The steps of a read.
-held-read : (n : ℕ) → 0 < n → (steps_in Looking false n < steps_in Held false n) × (steps_in Ready false n < steps_in Looking false n)
+held-read : (n : ℕ) → 0 < n → (steps_in_phase Looking false n < steps_in_phase Held false n) × (steps_in_phase Ready false n < steps_in_phase Looking false n)
 held-read n some = (omega arith, omega arith)
 
 module _ {shape : Shape} {i : ℕ} {passes passes' : List Pass} (left : Room) where
-  pub looks-drives : (entries : List Entry) {flies flies' : List Ticket → Type 0} {tells tells' : Type 0} {disk disk' : Disk} {last last' : ℕ} (p : Pass) → slice_get passes i ≡ Some p → p.phase ≡ Held → p.write ≡ false → IsStanding shape p
-      → Looks shape i passes passes' flies flies' tells tells' disk disk' last last' → Drives Again shape.block i (work passes entries left) (work passes' entries left)
+  pub looks-drives : (entries : List Entry) {flight flight' : List Ticket → Type 0} {tells tells' : Type 0} {disk disk' : Disk} {last last' : ℕ} (p : Pass) → slice_get passes i ≡ Some p → p.phase ≡ Held → p.write ≡ false → IsInPhase shape p
+      → Looks shape i passes passes' flight flight' tells tells' disk disk' last last' → Drives Again shape.block i (work passes entries left) (work passes' entries left)
   looks-drives entries p there phase write stands step =
       let same : p ≡ step.pass = some-inj (sym there ∙ step.there) in
       let held : step.pass.phase ≡ Held = ap (λ (q : Pass). q.phase) (sym same) ∙ phase in let reads : step.pass.write ≡ false = ap (λ (q : Pass). q.write) (sym same) ∙ write in
@@ -258,8 +258,8 @@ module _ {shape : Shape} {i : ℕ} {passes passes' : List Pass} (left : Room) wh
         sectors_left = (same-room left).1;
       }
 
-  pub looks_at_base-drives : (entries : List Entry) {base_flies base_flies' : List Ticket → Type 0} (p : Pass) → slice_get passes i ≡ Some p → p.phase ≡ Held → p.write ≡ false → IsStanding shape p
-      → LooksAtBase shape i passes passes' base_flies base_flies' → Drives Again shape.block i (work passes entries left) (work passes' entries left)
+  pub looks_at_base-drives : (entries : List Entry) {base_flight base_flight' : List Ticket → Type 0} (p : Pass) → slice_get passes i ≡ Some p → p.phase ≡ Held → p.write ≡ false → IsInPhase shape p
+      → LooksAtBase shape i passes passes' base_flight base_flight' → Drives Again shape.block i (work passes entries left) (work passes' entries left)
   looks_at_base-drives entries p there phase write stands step =
       let same : p ≡ step.pass = some-inj (sym there ∙ step.there) in
       let held : step.pass.phase ≡ Held = ap (λ (q : Pass). q.phase) (sym same) ∙ phase in let reads : step.pass.write ≡ false = ap (λ (q : Pass). q.write) (sym same) ∙ write in
@@ -274,7 +274,7 @@ module _ {shape : Shape} {i : ℕ} {passes passes' : List Pass} (left : Room) wh
         sectors_left = (same-room left).1;
       }
 
-  pub sees-drives : {entries entries' : List Entry} {content out out' : List Sector} (p : Pass) → slice_get passes i ≡ Some p → (p.phase ≡ Held) ⊎ (p.phase ≡ Looking) → p.write ≡ false → IsStanding shape p
+  pub sees-drives : {entries entries' : List Entry} {content out out' : List Sector} (p : Pass) → slice_get passes i ≡ Some p → (p.phase ≡ Held) ⊎ (p.phase ≡ Looking) → p.write ≡ false → IsInPhase shape p
       → Sees content i passes passes' entries entries' out out' → Drives Again shape.block i (work passes entries left) (work passes' entries' left)
   sees-drives {entries} {entries'} {content} p there phase write stands s =
       let same : p ≡ s.pass = some-inj (sym there ∙ s.there) in let reads : s.pass.write ≡ false = ap (λ (q : Pass). q.write) (sym same) ∙ write in
@@ -282,11 +282,11 @@ module _ {shape : Shape} {i : ℕ} {passes passes' : List Pass} (left : Room) wh
       let more = held-read (pieces_left shape.block s.pass) (pieces-left piece) in
       record {
         pass = s.pass;
-        pass' = spent 1 s.pass.piece (after_piece s.pass);
+        pass' = after_spending 1 s.pass.piece (after_piece s.pass);
         moves = adds entries entries' (Seen _ _ content) tt s.there s.after refl refl refl refl s.event;
         tells = (
           goes-on (nat_lt (s.pass.done + s.pass.piece) s.pass.count),
-          (let after = steps-at shape.block (spent 1 s.pass.piece (after_piece s.pass)) (if nat_lt (s.pass.done + s.pass.piece) s.pass.count then Asked else Ready) false refl reads in
+          (let after = steps-at shape.block (after_spending 1 s.pass.piece (after_piece s.pass)) (if nat_lt (s.pass.done + s.pass.piece) s.pass.count then Asked else Ready) false refl reads in
               let less = (piece-ended piece).1 in elim phase [
                 | inl held ↦ (let before = steps-at shape.block s.pass Held false (ap (λ (q : Pass). q.phase) (sym same) ∙ held) reads in omega (arith, before, after, less, more.0))
                 | inr looking ↦ (let before = steps-at shape.block s.pass Looking false (ap (λ (q : Pass). q.phase) (sym same) ∙ looking) reads in omega (arith, before, after, less))
@@ -301,7 +301,7 @@ module _ {shape : Shape} {i : ℕ} {passes passes' : List Pass} (left : Room) wh
       holds q (inr looking) = ap has_region looking
 
   -- the end of a read from either device
-  pub ends_read-drives : {entries entries' : List Entry} (content out out' : List Sector) (answer : Settled) (why : Fault) (q p : Pass) → slice_get passes i ≡ Some p → p.phase ≡ Looking → IsStanding shape p → slice_get passes i ≡ Some q
+  pub ends_read-drives : {entries entries' : List Entry} (content out out' : List Sector) (answer : Settled) (why : Fault) (q p : Pass) → slice_get passes i ≡ Some p → p.phase ≡ Looking → IsInPhase shape p → slice_get passes i ≡ Some q
       → EndsRead answer q why content i passes passes' entries entries' out out' → Drives (step_of (outcome_of answer)) shape.block i (work passes entries left) (work passes' entries' left)
   ends_read-drives content out out' settled.Done why q p there phase stands there_q e = sees-drives p there (inr phase) (stands.read phase) stands e
   ends_read-drives {entries} {entries'} content out out' (settled.NotYet t) why q p there phase stands there_q e = record {

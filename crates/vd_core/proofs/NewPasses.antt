@@ -1,10 +1,10 @@
 -- Passes that have asked nothing yet, one after the other.
 use Rattle.std.proofs.Common.{◌≡◌, ℕ, zero, suc, ◌+◌, List, [], ◌∷◌, ◌++◌, replicate, subst, sym, arith, length-append, Some, slice_get}
-use Rattle.vd_reading.specs.Background.{zero_sector}
 use Rattle.vd_passes.specs.declared.pass.Pass.{Pass}
 use Rattle.vd_passes.specs.Passes.{IsNew}
 use Rattle.vd_passes.proofs.Lists.{some-inj}
 use Rattle.vd_core.specs.Opening.{AreNew}
+use Rattle.vd_format.specs.Background.{zero_sector}
 
 each-push : {X : Type 0} (P : X → Type 0) (xs : List X) (x : X) → ((i : ℕ) (y : X) → slice_get xs i ≡ Some y → P y) → P x → (i : ℕ) (y : X) → slice_get (xs ++ x ∷ []) i ≡ Some y → P y
 each-push P [] x each last zero y at = subst P (some-inj at) last

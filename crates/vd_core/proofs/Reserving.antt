@@ -2,20 +2,20 @@
 use Rattle.std.proofs.Common.{◌≡◌, ℕ, ◌+◌, ◌≤◌, List, length, ap, subst, inl, inr, arith, Some, slice_get, slice_set}
 use Rattle.std.specs.List.{sum_by}
 use Rattle.vd_law.specs.declared.entry.Room.{Room}
-use Rattle.vd_law.specs.Histories.{Numbered, last_number}
+use Rattle.vd_law.specs.Histories.{HistoryState, last_number}
 use Rattle.vd_passes.specs.declared.pass.Pass.{Pass}
 use Rattle.vd_passes.specs.Needs.{HasRoom}
 use Rattle.vd_passes.proofs.Lists.{at-set}
 use Rattle.vd_passes.proofs.Needing.{sum-set, rooms-set}
-use Rattle.vd_core.specs.Adding.{Extends}
-use Rattle.vd_core.specs.Kept.{IsRoomy}
+use Rattle.vd_core.specs.Adding.{AddsEntries}
+use Rattle.vd_core.specs.Kept.{RoomIsReserved}
 use Rattle.vd_core.proofs.Rooming.{last-extended}
 
-pub room-shared : {block : ℕ} {passes : List Pass} {history : Numbered} {spare : Room} {events : ℕ} {p p' : Pass} {passes' : List Pass} {more : List ℕ} {sectors : ℕ} {history' : Numbered} → IsRoomy block passes history spare events → (i : ℕ)
-    → slice_get passes i ≡ Some p → passes' ≡ slice_set passes i p' → Extends more sectors history history' → HasRoom block p' → (spare' : Room)
+pub room-shared : {block : ℕ} {passes : List Pass} {history : HistoryState} {spare : Room} {events : ℕ} {p p' : Pass} {passes' : List Pass} {more : List ℕ} {sectors : ℕ} {history' : HistoryState} → RoomIsReserved block passes history spare events → (i : ℕ)
+    → slice_get passes i ≡ Some p → passes' ≡ slice_set passes i p' → AddsEntries more sectors history history' → HasRoom block p' → (spare' : Room)
     → spare'.events + p'.events + length more ≡ spare.events + p.events → spare'.sectors + p'.sectors + sectors ≡ spare.sectors + p.sectors
     → p'.call ≤ p.call + length more → last_number (last_number history.opened history.numbers) more ≤ events
-    → IsRoomy block passes' history' spare' events
+    → RoomIsReserved block passes' history' spare' events
 room-shared {block} {passes} {history} {spare} {events} {p} {p'} {passes'} {more} {sectors} {history'} roomy i there after extends room spare' whole_events whole_sectors call later =
     let s = sum-set (λ (q : Pass). q.events) passes i p p' there in let t = sum-set (λ (q : Pass). q.sectors) passes i p p' there in
     let a = roomy.spare_events in let b = roomy.spare_sectors in let c = extends.events_left in let d = extends.sectors_left in

@@ -2,13 +2,13 @@
 use Rattle.std.proofs.Common.{◌≡◌, ℕ, ◌<◌, ◌≤◌, List, [], ◌∷◌, ◌++◌, length, refl, sym, ◌∙◌, ap, subst, inl, inr, arith, append-nil, Some, slice_get, slice_set}
 use Rattle.std.specs.List.{sum_by, AllByRecursion}
 use Rattle.vd_law.specs.declared.entry.Room.{Room}
-use Rattle.vd_law.specs.Histories.{Numbered, IsRising, last_number}
+use Rattle.vd_law.specs.Histories.{HistoryState, IsRising, last_number}
 use Rattle.vd_passes.specs.declared.pass.Pass.{Pass}
 use Rattle.vd_passes.specs.Needs.{HasRoom}
 use Rattle.vd_passes.proofs.Lists.{at-set}
 use Rattle.vd_passes.proofs.Needing.{Uses, sum-part, sum-uses, rooms-set}
-use Rattle.vd_core.specs.Adding.{CanAdd, Extends}
-use Rattle.vd_core.specs.Kept.{IsRoomy}
+use Rattle.vd_core.specs.Adding.{CanAdd, AddsEntries}
+use Rattle.vd_core.specs.Kept.{RoomIsReserved}
 
 pub last_number-append : (from : ℕ) (ns more : List ℕ) → last_number from (ns ++ more) ≡ last_number (last_number from ns) more
 last_number-append from [] more = refl
@@ -24,11 +24,11 @@ rising-below from [] m rising below = tt
 rising-below from (n ∷ ns) m rising below = ((let least = last-least n ns rising.1 in omega (arith, least, below)), rising-below n ns m rising.1 below)
 
 -- the last number after a step
-pub last-extended : {more : List ℕ} {sectors : ℕ} {history history' : Numbered} → Extends more sectors history history' → last_number history'.opened history'.numbers ≡ last_number (last_number history.opened history.numbers) more
+pub last-extended : {more : List ℕ} {sectors : ℕ} {history history' : HistoryState} → AddsEntries more sectors history history' → last_number history'.opened history'.numbers ≡ last_number (last_number history.opened history.numbers) more
 last-extended {more} {sectors} {history} {history'} extends =
     ap (λ (o : ℕ). last_number o history'.numbers) extends.opened ∙ ap (last_number history.opened) extends.numbers ∙ last_number-append history.opened history.numbers more
 
-module _ {block : ℕ} {passes : List Pass} {history : Numbered} {spare : Room} {events : ℕ} (roomy : IsRoomy block passes history spare events) where
+module _ {block : ℕ} {passes : List Pass} {history : HistoryState} {spare : Room} {events : ℕ} (roomy : RoomIsReserved block passes history spare events) where
   -- One more entry of a pass can be added, in the room that it has reserved.
   pub can-add : (i : ℕ) (p : Pass) → slice_get passes i ≡ Some p → (sectors : ℕ) → 0 < p.events → sectors ≤ p.sectors → sectors ≤ 2048 → CanAdd sectors history events
   can-add i p there sectors some fits short =
@@ -37,9 +37,9 @@ module _ {block : ℕ} {passes : List Pass} {history : Numbered} {spare : Room} 
       record { event = omega (arith, a, c, some); sectors_fit = omega (arith, b, d, fits); short = short; later = roomy.later }
 
   -- A step of one pass, whose entries are in the room that it had reserved.
-  pub room-used : (i : ℕ) {p p' : Pass} {passes' : List Pass} {more : List ℕ} {sectors : ℕ} {history' : Numbered} (events' : ℕ) → slice_get passes i ≡ Some p → passes' ≡ slice_set passes i p'
-      → Extends more sectors history history' → HasRoom block p' → Uses (length more) sectors p p' → p'.call ≡ p.call → last_number (last_number history.opened history.numbers) more ≤ events'
-      → IsRoomy block passes' history' spare events'
+  pub room-used : (i : ℕ) {p p' : Pass} {passes' : List Pass} {more : List ℕ} {sectors : ℕ} {history' : HistoryState} (events' : ℕ) → slice_get passes i ≡ Some p → passes' ≡ slice_set passes i p'
+      → AddsEntries more sectors history history' → HasRoom block p' → Uses (length more) sectors p p' → p'.call ≡ p.call → last_number (last_number history.opened history.numbers) more ≤ events'
+      → RoomIsReserved block passes' history' spare events'
   room-used i {p} {p'} {passes'} {more} {sectors} {history'} events' there after extends room uses call later =
       let sums = sum-uses passes i (length more) sectors p p' there uses in
       let a = roomy.spare_events in let b = roomy.spare_sectors in let c = extends.events_left in let d = extends.sectors_left in
@@ -59,13 +59,13 @@ module _ {block : ℕ} {passes : List Pass} {history : Numbered} {spare : Room} 
 
   -- The same where it adds no entry.
   pub room-same : (i : ℕ) {p p' : Pass} {passes' : List Pass} (events' : ℕ) → slice_get passes i ≡ Some p → passes' ≡ slice_set passes i p'
-      → HasRoom block p' → p'.events ≡ p.events → p'.sectors ≡ p.sectors → p'.call ≡ p.call → events ≤ events' → IsRoomy block passes' history spare events'
+      → HasRoom block p' → p'.events ≡ p.events → p'.sectors ≡ p.sectors → p'.call ≡ p.call → events ≤ events' → RoomIsReserved block passes' history spare events'
   room-same i {p} {p'} {passes'} events' there after room same_events same_sectors call rise =
-      let none : Extends [] 0 history history = record { numbers = sym (append-nil history.numbers); opened = refl; room = refl; events_left = omega arith; sectors_left = omega arith } in
+      let none : AddsEntries [] 0 history history = record { numbers = sym (append-nil history.numbers); opened = refl; room = refl; events_left = omega arith; sectors_left = omega arith } in
       room-used i events' there after none room (record { events_used = omega (arith, same_events); sectors_used = omega (arith, same_sectors) }) call (let l = roomy.later in omega (arith, l, rise))
 
   -- A step that was too early.
-  pub room-late : {passes' : List Pass} {history' : Numbered} (events' : ℕ) → passes' ≡ passes → Extends [] 0 history history' → events ≤ events' → IsRoomy block passes' history' spare events'
+  pub room-late : {passes' : List Pass} {history' : HistoryState} (events' : ℕ) → passes' ≡ passes → AddsEntries [] 0 history history' → events ≤ events' → RoomIsReserved block passes' history' spare events'
   room-late {passes'} {history'} events' same extends rise =
       let a = roomy.spare_events in let b = roomy.spare_sectors in let c = extends.events_left in let d = extends.sectors_left in
       let e = ap (λ (ps : List Pass). sum_by (λ (q : Pass). q.events) ps) same in let f = ap (λ (ps : List Pass). sum_by (λ (q : Pass). q.sectors) ps) same in

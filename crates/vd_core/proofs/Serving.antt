@@ -4,14 +4,14 @@ use Rattle.std.specs.Prelude.{if◌then◌else◌}
 use Rattle.std.proofs.lemmas.Bool.{eq-eqb}
 use Rattle.vd_law.specs.declared.entry.Sector.{Sector}
 use Rattle.vd_law.specs.declared.entry.CallId.{CallId}
-use Rattle.vd_law.specs.Entries.{Asked, Write, Entry, Ask, Issue, Done, Broke, Seen, Reply, call_of, same_call, Past, ◌▸◌, past}
-use Rattle.vd_law.specs.Calls.{Progress, progress, last_call, gone_on}
+use Rattle.vd_law.specs.Entries.{Asked, Write, Entry, Ask, Issue, Done, Broke, Seen, Reply, call_of, same_call, Past, ◌▸◌, past, IsNoAsk}
+use Rattle.vd_law.specs.Calls.{Progress, progress, last_call, progress_after}
 use Rattle.vd_law.proofs.Appending.{past-push}
 use Rattle.vd_law.proofs.OpenLaws.{progress-own}
 use Rattle.vd_passes.specs.declared.pass.Pass.{Pass}
 use Rattle.vd_passes.specs.Standings.{Standing, standing}
 use Rattle.vd_passes.specs.Steps.{HasAskedWrite, Asks}
-use Rattle.vd_passes.proofs.Standing.{IsNoAsk, standing-other}
+use Rattle.vd_passes.proofs.Standing.{standing-other}
 
 -- the request of the pass's last call
 abbrev pub asked_by : List Entry → ℕ → Option Asked
@@ -30,7 +30,7 @@ own-ask p i n request =
     ap (λ (b : Bool). (progress (p ▸ Ask id request) (record { pass = i; call = if b then n else last_call p i })).asked) (eq-eqb i i refl)
     ∙ ap (λ (c : Progress). c.asked) (progress-own p (Ask id request))
 
-same-asked : (mine : Bool) (c : Progress) (e : Entry) → IsNoAsk e → (if mine then gone_on c e else c).asked ≡ c.asked
+same-asked : (mine : Bool) (c : Progress) (e : Entry) → IsNoAsk e → (if mine then progress_after c e else c).asked ≡ c.asked
 same-asked false c e not_asked = refl
 same-asked true c (Ask id request) not_asked = absurd not_asked
 same-asked true c (Issue id first content) not_asked = refl

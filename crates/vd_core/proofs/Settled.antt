@@ -4,18 +4,18 @@ use Rattle.vd_law.specs.declared.entry.Sector.{Sector}
 use Rattle.vd_device.specs.declared.base.Base as base
 use Rattle.vd_device.specs.declared.ticket.Ticket.{Ticket}
 use Rattle.vd_device.specs.declared.settled.Settled.{Settled}
-use Rattle.vd_reading.specs.Background.{zero_sector}
 use Rattle.vd_passes.specs.declared.shape.Shape.{Shape}
 use Rattle.vd_passes.specs.declared.pass.Pass.{Pass}
 use Rattle.vd_passes.specs.declared.pass.Fault.TheVariants as fault
 use Rattle.vd_passes.specs.Buffers.{BufferSettled}
 use Rattle.vd_passes.specs.Passes.{after_filled, after_fault}
-use Rattle.vd_passes.specs.Steps.{FetchSettled, fetched}
+use Rattle.vd_passes.specs.Steps.{FetchSettled, after_base_read}
+use Rattle.vd_format.specs.Background.{zero_sector}
 
 -- A base read of a block.
 pub fetch-settled : {answer : Settled} {shape : Shape} {i : ℕ} {passes passes' : List Pass} {B : Type 0} {h : base.Ghosts B} {b b' : B} {old new : List Sector} {q : Pass} {ticket : Ticket}
-    → slice_get passes i ≡ Some q → q.fetch ≡ Some ticket → (settled : BufferSettled h answer ticket old new b b') → passes' ≡ slice_set passes i (fetched answer q ticket shape.block settled.content)
-    → FetchSettled answer shape i passes passes' (h.flies b) (h.flies b') (h.tells b') (h.content b')
+    → slice_get passes i ≡ Some q → q.fetch ≡ Some ticket → (settled : BufferSettled h answer ticket old new b b') → passes' ≡ slice_set passes i (after_base_read answer q ticket shape.block settled.content)
+    → FetchSettled answer shape i passes passes' (h.flight b) (h.flight b') (h.tells b') (h.content b')
 fetch-settled {q = q} {ticket} there has settled after = record {
   pass = q;
   ticket = ticket;

@@ -12,25 +12,22 @@ use Rattle.vd_law.specs.declared.entry.CallId.{CallId}
 use Rattle.vd_law.specs.declared.entry.Room.{Room}
 use Rattle.vd_law.specs.Entries.{Flush, Entry, Done, nothing, past}
 use Rattle.vd_law.specs.Contents.{could, last_done}
-use Rattle.vd_law.specs.Histories.{Numbered}
+use Rattle.vd_law.specs.Histories.{HistoryState}
 use Rattle.vd_format.specs.declared.header.Header.{Header}
 use Rattle.vd_format.specs.Layouts.{blocks_of}
 use Rattle.vd_image.specs.Log.{Writes, Ends, Flushes, NoneSureFrom}
-use Rattle.vd_image.specs.Image.{Geometry, Format, Layout, DiskHas, background as image_background}
+use Rattle.vd_image.specs.Image.{Geometry, Format, Layout, DiskHas}
 use Rattle.vd_image.specs.Layouts.{layout_of}
 use Rattle.vd_image.specs.Decoders.{format_of}
-use Rattle.vd_image.specs.CrashImages.{base_at}
-use Rattle.vd_image.specs.Made.{zero_sector}
 use Rattle.vd_image.proofs.NthWrites.{list_of, list_of-fold, nth_writes}
 use Rattle.vd_image.proofs.OpenWrites.{done_is}
 use Rattle.vd_image.proofs.Layouts.{parts_apart}
 use Rattle.vd_image.proofs.Openings.{same_format, same_layout}
 use Rattle.vd_regions.specs.declared.regions.Region.{Region}
-use Rattle.vd_reading.specs.Background.{background}
 use Rattle.vd_replay.specs.declared.state.State.{State}
 use Rattle.vd_replay.specs.Images.{image_of}
 use Rattle.vd_replay.proofs.ListLaws.{get_some}
-use Rattle.vd_meta.specs.Keeping.{Keeping}
+use Rattle.vd_keeper.specs.Keeping.{KeeperState}
 use Rattle.vd_passes.specs.declared.shape.Shape.{Shape}
 use Rattle.vd_passes.specs.declared.pass.Pass.{Pass}
 use Rattle.vd_passes.specs.Places.{IsIn}
@@ -38,18 +35,17 @@ use Rattle.vd_passes.proofs.PlacesGiven.{place-some}
 use Rattle.vd_safety.specs.Mirrors.{bit_of, storage_of, opening_for}
 use Rattle.vd_safety.specs.Held.{IsFound}
 use Rattle.vd_safety.proofs.Calls.{one-ask}
-use Rattle.vd_safety.proofs.Opening.{zeros-same}
 use Rattle.vd_safety.proofs.Found.{held-found, unstale-unsure}
 use Rattle.vd_safety.proofs.Stated.{up_there, stored_has}
 use Rattle.vd_core.specs.Agreeing.{AgreesWith}
-use Rattle.vd_core.specs.Kept.{IsKept, IsFaithfullyKept, IsRecorded, IsSafelyKept}
+use Rattle.vd_core.specs.Kept.{IsSoundCore, IsFaithfullyKept, MetadataAgrees, IsSafelyKept}
 use Rattle.vd_core.specs.Local.{IsWrittenIn, AreLocalBy}
 use Rattle.vd_core.specs.Showing.{EndsFlushed, MayHold, ShowsCould}
 use Rattle.vd_core.specs.Start.{opening_at, IsStart, WasSafe}
 use Rattle.vd_core.proofs.Agreeing.{told-agrees}
 use Rattle.vd_core.proofs.Securing.Words.{all-inside}
 use Rattle.vd_core.proofs.StartingDisk.{sector-place}
-use Rattle.vd_core.proofs.StartingTold.{background-same}
+use Rattle.vd_format.specs.Background.{background, background_of, base_at, zero_sector}
 
 listed : (log : List Entry) → list_of (past log) ≡ log
 listed log = list_of-fold log nothing
@@ -67,10 +63,10 @@ sure-write log a flushes none_done s some none = elim (done_is (past log) s) [
       ]
 ]
 
-module _ {shape : Shape} {state : State} {regions : List (Option Region)} {passes : List Pass} {history : Numbered} {spare : Room} {S B : Type 0} {sg : store.Ghosts S} {bg : base.Ghosts B} {the_store : S} {the_base : B} {flusher : Option ℕ} {k : Keeping}
-    (kept : IsKept sg bg shape state regions passes history spare the_store the_base)
+module _ {shape : Shape} {state : State} {regions : List (Option Region)} {passes : List Pass} {history : HistoryState} {spare : Room} {S B : Type 0} {sg : store.Ghosts S} {bg : base.Ghosts B} {the_store : S} {the_base : B} {flusher : Option ℕ} {k : KeeperState}
+    (kept : IsSoundCore sg bg shape state regions passes history spare the_store the_base)
     (told : IsFaithfullyKept sg bg shape state passes history the_store the_base)
-    (local : AreLocalBy shape state.map state.fresh.bits history.log.entries) (recorded : IsRecorded shape state passes flusher k)
+    (local : AreLocalBy shape state.map state.fresh.bits history.log.entries) (recorded : MetadataAgrees shape state passes flusher k)
     (was : IsSafelyKept sg bg state k flusher passes history the_store the_base)
     (start : List Sector) (is : IsStart (opening_at history.opened (sg.disk the_store)) (bg.content the_base) state.header start) (safe : WasSafe (opening_at history.opened (sg.disk the_store)) state.header)
     (ends : EndsFlushed history.log.entries) (held : List Sector) (may : MayHold (sg.disk the_store) held) where
@@ -174,12 +170,10 @@ module _ {shape : Shape} {state : State} {regions : List (Option Region)} {passe
           | inr w ↦ unwritten w
         ])
 
-    behind : bit_of k.stale b ≡ false → v ≡ image_background (base_at zero_sector (bg.content the_base)) zero_sector k.header.tracked s → Contains (could start history.log.entries s) v
+    behind : bit_of k.stale b ≡ false → v ≡ background (base_at zero_sector (bg.content the_base)) zero_sector k.header.tracked s → Contains (could start history.log.entries s) v
     behind unstale value =
-        let same : v ≡ background (bg.content the_base) shape.tracked s = value
-        ∙ ap (λ (z : Sector). image_background (base_at z (bg.content the_base)) z k.header.tracked s) zeros-same
-        ∙ background-same (bg.content the_base) k.header.tracked s
-        ∙ ap (λ (t : ℕ). background (bg.content the_base) t s) (sym recorded.attended.tracked) in
+        let same : v ≡ background_of (bg.content the_base) shape.tracked s = value
+        ∙ ap (λ (t : ℕ). background_of (bg.content the_base) t s) (sym recorded.attended.tracked) in
         subst (λ (w : Sector). Contains (could start history.log.entries s) w) (sym same) (agrees.behind b s in_start in_block (unstale-other unstale))
 
     shown : DiskHas (format_of h) (layout_of h) (base_at zero_sector (bg.content the_base)) zero_sector (image_of held) s v → Contains (could start history.log.entries s) v

@@ -5,7 +5,7 @@ use Rattle.vd_law.specs.declared.entry.Sector.{Sector}
 use Rattle.vd_law.specs.Entries.{Entry}
 use Rattle.vd_device.specs.declared.ticket.Ticket.{Ticket}
 use Rattle.vd_device.specs.declared.settled.Settled.{Settled}
-use Rattle.vd_device.specs.Disks.{Disk, IsHonest, GrowsBy, HasStood}
+use Rattle.vd_device.specs.Disks.{Disk, IsHonest, GrowsBy, StoppedSince}
 use Rattle.vd_device.specs.Frames.{GoesOn}
 use Rattle.vd_device.specs.Calls.{Tells, settle_entries}
 use Rattle.vd_image.specs.CrashImages.{sectors_or}
@@ -31,7 +31,7 @@ opening-goes-on opened disk disk' on within =
     ∙ ap (λ (xs : List Entry). record { start = disk.start; log = xs }) (ap (take opened) on.log ∙ take-append-le opened disk.log on.more within)
 
 -- the log stands
-pub opening-stood : (opened events : ℕ) (disk disk' : Disk) → HasStood events disk disk' → opening_at opened disk' ≡ opening_at opened disk
+pub opening-stood : (opened events : ℕ) (disk disk' : Disk) → StoppedSince events disk disk' → opening_at opened disk' ≡ opening_at opened disk
 opening-stood opened events disk disk' stood =
     ap (λ (xs : List Sector). opening_at opened (record { start = xs; log = disk'.log; held = disk'.held })) stood.start
     ∙ ap (λ (xs : List Entry). opening_at opened (record { start = disk.start; log = xs; held = disk'.held })) stood.log

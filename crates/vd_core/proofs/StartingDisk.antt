@@ -7,7 +7,7 @@ use Rattle.vd_format.specs.declared.header.Header.{Header}
 use Rattle.vd_format.specs.Headers.{IsValid, header_of}
 use Rattle.vd_format.specs.Layouts.{need_of}
 use Rattle.vd_image.specs.Image.{Image, Mapping, Fact, Format, Layout, Counts, IsUnnamed, IsLastNamed, Maps, IsMapping, DiskHas}
-use Rattle.vd_image.specs.Layouts.{layout_of, IsInside}
+use Rattle.vd_image.specs.Layouts.{layout_of, FitsInStore}
 use Rattle.vd_image.specs.Decoders.{format_of, mapping_in}
 use Rattle.vd_image.proofs.Deciding.{maps_one}
 use Rattle.vd_image.proofs.Decoders.{entry_is_mapping}
@@ -57,7 +57,7 @@ module _ (sectors : ℕ) (image held : Image) (h : Header) (s : State) (is : IsS
   valid : IsValid h
   valid = header_valid (held 0) h is.opens.reads
 
-  inside : IsInside (layout_of h) (need_of h)
+  inside : FitsInStore (layout_of h) (need_of h)
   inside = parts_inside h valid
 
   have-same : HaveSame (format_of h) (layout_of h) image held

@@ -1,46 +1,39 @@
 -- At opening the guest's disk agrees with what the store may hold.
 use Rattle.std.proofs.Common.{◌≡◌, ℕ, ◌+◌, ◌-◌, ◌*◌, ◌/◌, ◌%◌, ◌<◌, inl, inr, true, false, List, [], ◌∷◌, length, sym, ◌∙◌, ap, subst, arith, Contains, Some, slice_get}
-use Rattle.std.specs.Prelude.{nat_lt, if◌then◌else◌}
 use Rattle.std.specs.Option.{option_to_list}
-use Rattle.std.proofs.lemmas.Option.{slice_get_cases, unwrap_or-slice_get}
+use Rattle.std.proofs.lemmas.Option.{slice_get_cases}
 use Rattle.vd_law.specs.declared.entry.Sector.{Sector}
 use Rattle.vd_device.specs.Disks.{Disk, IsHonest}
 use Rattle.vd_format.specs.declared.header.Header.{Header}
 use Rattle.vd_format.specs.Layouts.{storage_start}
 use Rattle.vd_format.proofs.Rules.{block_within}
-use Rattle.vd_image.specs.Image.{Image, DiskHas, background as image_background}
+use Rattle.vd_image.specs.Image.{Image, DiskHas}
 use Rattle.vd_image.specs.Layouts.{layout_of}
 use Rattle.vd_image.specs.Decoders.{format_of}
-use Rattle.vd_image.specs.CrashImages.{base_at}
-use Rattle.vd_image.specs.Made.{zero_sector as made_zero}
 use Rattle.vd_image.proofs.Layouts.{parts_inside}
 use Rattle.vd_table.specs.Tables.{Has}
-use Rattle.vd_reading.specs.Background.{zero_sector, background}
 use Rattle.vd_replay.specs.declared.state.State.{State}
 use Rattle.vd_replay.specs.Images.{image_of}
-use Rattle.vd_replay.specs.States.{IsState, IsWhole, Says}
+use Rattle.vd_replay.specs.States.{IsState, IsWholeState, StateSays}
 use Rattle.vd_replay.proofs.Starting.{start-local, start-background, whole-storage}
 use Rattle.vd_passes.specs.declared.shape.Shape.{Shape}
 use Rattle.vd_passes.specs.Tracks.{track}
 use Rattle.vd_passes.specs.Places.{IsIn, place_of}
-use Rattle.vd_passes.specs.Coherent.{StandsFor}
+use Rattle.vd_passes.specs.Coherent.{AgreesInSector}
 use Rattle.vd_passes.proofs.Lists.{some-inj}
 use Rattle.vd_passes.proofs.Tracks.{is-one}
 use Rattle.vd_passes.proofs.PlacesGiven.{place-from}
 use Rattle.vd_core.specs.Start.{opening_at, IsStart, image_at}
-use Rattle.vd_core.specs.Opening.{shape_of}
+use Rattle.vd_core.specs.Opening.{disk_shape}
 use Rattle.vd_core.proofs.Starting.{clean-one, clean-held}
 use Rattle.vd_core.proofs.StartingDisk.{disk-over, sector-place}
-
--- what the base gives as the background is that of the image
-pub background-same : (content : List Sector) (tracked s : ℕ) → image_background (base_at zero_sector content) zero_sector tracked s ≡ background content tracked s
-background-same content tracked s = ap (λ (x : Sector). if nat_lt s tracked then x else zero_sector) (sym (unwrap_or-slice_get content s zero_sector))
+use Rattle.vd_format.specs.Background.{background, background_of, base_at, zero_sector}
 
 starts : (start : List Sector) (s : ℕ) (v : Sector) → slice_get start s ≡ Some v → (track start [] s).contents ≡ v ∷ []
 unfolding track
 starts start s v at = ap option_to_list at
 
-module _ (s : State) (whole : IsWhole s) (version : s.header.version ≡ 2) (disk : Disk) (opened : ℕ) (all : opened ≡ length disk.log) (honest : IsHonest disk) (says : Says disk.held s)
+module _ (s : State) (whole : IsWholeState s) (version : s.header.version ≡ 2) (disk : Disk) (opened : ℕ) (all : opened ≡ length disk.log) (honest : IsHonest disk) (says : StateSays disk.held s)
     (base start : List Sector) (is : IsStart (opening_at opened disk) base s.header start) where
   abbrev h : Header
   h = s.header
@@ -52,17 +45,15 @@ module _ (s : State) (whole : IsWhole s) (version : s.header.version ≡ 2) (dis
   state = says.current version
 
   same : (a : ℕ) → a < length disk.held → image a ≡ image_of disk.held a
-  same a inside = clean-held disk opened a made_zero all honest is.clean inside
+  same a inside = clean-held disk opened a zero_sector all honest is.clean inside
 
   has : (x : ℕ) (v : Sector) → x < h.size → slice_get start x ≡ Some v → DiskHas (format_of h) (layout_of h) (base_at zero_sector base) zero_sector (image_of disk.held) x v
   has x v less at = disk-over (length disk.held) image (image_of disk.held) h s state state.opens.room same (base_at zero_sector base) zero_sector x v (is.disk x v at) less
 
   local-at : (x p : ℕ) (v : Sector) → x < h.size → slice_get start x ≡ Some v → slice_get s.fresh.bits (x / h.block) ≡ Some true → Has s.table (x / h.block / h.chunk) p → v ≡ image_of disk.held ((layout_of h).place p x)
-  unfolding zero_sector
   local-at x p v less at up given = start-local (length disk.held) (image_of disk.held) h s (base_at zero_sector base) x p v state (has x v less at) less up given
 
-  background-at : (x : ℕ) (v : Sector) → x < h.size → slice_get start x ≡ Some v → slice_get s.fresh.bits (x / h.block) ≡ Some false → v ≡ image_background (base_at zero_sector base) zero_sector h.tracked x
-  unfolding zero_sector
+  background-at : (x : ℕ) (v : Sector) → x < h.size → slice_get start x ≡ Some v → slice_get s.fresh.bits (x / h.block) ≡ Some false → v ≡ background (base_at zero_sector base) zero_sector h.tracked x
   background-at x v less at down = start-background (length disk.held) (image_of disk.held) h s (base_at zero_sector base) x v state (has x v less at) less down
 
   place-held : (p x a : ℕ) → p < h.storage → a ≡ (layout_of h).place p x → image a ≡ image_of disk.held ((layout_of h).place p x)
@@ -70,7 +61,7 @@ module _ (s : State) (whole : IsWhole s) (version : s.header.version ≡ 2) (dis
 
   module _ (base_sectors : ℕ) where
     abbrev shape : Shape
-    shape = shape_of h base_sectors
+    shape = disk_shape h base_sectors
 
     some : 0 < h.block
     some = let b = block_within h whole.sized.valid in omega (arith, b.0)
@@ -96,7 +87,7 @@ module _ (s : State) (whole : IsWhole s) (version : s.header.version ≡ 2) (dis
         place-is : (p b x at : ℕ) → at ≡ storage_start h + (p * h.chunk + b % h.chunk) * h.block → x % (h.block * h.chunk) ≡ b % h.chunk * h.block + (x - h.block * b) → at + (x - h.block * b) ≡ (layout_of h).place p x
         place-is p b x at from near = spread (storage_start h) p h.chunk h.block (b % h.chunk) (x - h.block * b) at (x % (h.block * h.chunk)) from near
 
-    pub stands-at : (x : ℕ) → x < length start → StandsFor h.block s.fresh.bits (place_of shape s.table.chunks) (background base h.tracked) x (track start [] x) (track disk.start disk.log)
+    pub stands-at : (x : ℕ) → x < length start → AgreesInSector h.block s.fresh.bits (place_of shape s.table.chunks) (background_of base h.tracked) x (track start [] x) (track disk.start disk.log)
     stands-at x within =
         let size = is.size in
         elim (slice_get_cases start x).1 [
@@ -106,8 +97,8 @@ module _ (s : State) (whole : IsWhole s) (version : s.header.version ≡ 2) (dis
                 subst (λ (xs : List Sector). Contains xs w) (sym (starts start x v there)) (subst (λ (u : Sector). Contains (v ∷ []) u) (sym same_one) (is-one v));
             other = λ b in_block down.
                 let near = sector-place h.block h.chunk b x some in_block in
-                let is_back = background-at x v (omega arith) there (ap (slice_get s.fresh.bits) near.0 ∙ down) ∙ background-same base h.tracked x in
-                subst (λ (xs : List Sector). Contains xs (background base h.tracked x)) (sym (starts start x v there)) (subst (λ (u : Sector). Contains (v ∷ []) u) is_back (is-one v));
+                let is_back = background-at x v (omega arith) there (ap (slice_get s.fresh.bits) near.0 ∙ down) in
+                subst (λ (xs : List Sector). Contains xs (background_of base h.tracked x)) (sym (starts start x v there)) (subst (λ (u : Sector). Contains (v ∷ []) u) is_back (is-one v));
           })
           | inr past_it ↦ absurd (let far = past_it.0 in omega arith)
         ]

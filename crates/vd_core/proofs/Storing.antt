@@ -10,7 +10,7 @@ use Rattle.vd_law.specs.declared.entry.Answer.TheVariants.{Full}
 use Rattle.vd_format.specs.declared.map.Entry.{Entry as MapEntry}
 use Rattle.vd_law.specs.Entries.{Asked, Entry, Ask, Reply}
 use Rattle.vd_law.specs.Rules.{IsRegular}
-use Rattle.vd_table.specs.Tables.{Given}
+use Rattle.vd_table.specs.Tables.{TableState}
 use Rattle.vd_table.proofs.RunLaws.{run-others}
 use Rattle.vd_passes.specs.declared.shape.Shape.{Shape}
 use Rattle.vd_passes.specs.declared.pass.Pass.{Pass}
@@ -51,7 +51,7 @@ kept-count shape had old more chunk same none =
 pub same-where : {A : Type 0} {a b : Bool} → b ≡ a → A ↔ (a ≡ false) → A ↔ (b ≡ false)
 same-where same h = (λ x. same ∙ h.0 x, λ none. h.1 (sym same ∙ none))
 
-pub entry-stored : {shape : Shape} {had : List MapEntry} {table : Given} {history history' : List Entry} (e : Entry) → LeavesStorage e → history' ≡ history ++ e ∷ [] → IsStoredBy shape had table history → IsStoredBy shape had table history'
+pub entry-stored : {shape : Shape} {had : List MapEntry} {table : TableState} {history history' : List Entry} (e : Entry) → LeavesStorage e → history' ≡ history ++ e ∷ [] → IsStoredBy shape had table history → IsStoredBy shape had table history'
 entry-stored {shape} {had} {table} {history} {history'} e leaves more stored =
     let same = all-where-none history (e ∷ []) (leaves-full e leaves) history in
     subst (IsStoredBy shape had table) (sym more) (record {
@@ -59,7 +59,7 @@ entry-stored {shape} {had} {table} {history} {history'} e leaves more stored =
       fulls = fulls-one had history e same (λ id needed free is. subst LeavesStorage is leaves) stored.fulls;
     })
 
-pub same-stored : {shape : Shape} {had : List MapEntry} {table : Given} {history history' : List Entry} → history' ≡ history → IsStoredBy shape had table history → IsStoredBy shape had table history'
+pub same-stored : {shape : Shape} {had : List MapEntry} {table : TableState} {history history' : List Entry} → history' ≡ history → IsStoredBy shape had table history → IsStoredBy shape had table history'
 same-stored {shape} {had} {table} same stored = subst (IsStoredBy shape had table) (sym same) stored
 
 pub answer-leaves : (id : CallId) (f : Option Fault) (done : ℕ) → LeavesStorage (Reply id (answer_by f done))
@@ -68,7 +68,7 @@ answer-leaves id (Some (fault.Store ticket)) done = tt
 answer-leaves id (Some (fault.Base ticket)) done = tt
 answer-leaves id (Some (fault.Worn generation)) done = tt
 
-pub reply-stored : {shape : Shape} {had : List MapEntry} {table : Given} {history history' : List Entry} (id : CallId) (p : Pass) → history' ≡ history ++ Reply id (answer_of p) ∷ [] → IsStoredBy shape had table history → IsStoredBy shape had table history'
+pub reply-stored : {shape : Shape} {had : List MapEntry} {table : TableState} {history history' : List Entry} (id : CallId) (p : Pass) → history' ≡ history ++ Reply id (answer_of p) ∷ [] → IsStoredBy shape had table history → IsStoredBy shape had table history'
 reply-stored id p = entry-stored (Reply id (answer_of p)) (answer-leaves id p.fault p.done)
 
 -- A core in which nothing was asked: the chunks with storage are those whose entries give it.
@@ -79,7 +79,7 @@ storage-given (Some e) c given there = let h = given e refl in elim (leb_tells 1
   | inr nought ↦ (λ none. nought.0, λ none. h.1 (let z = nought.1 in omega arith))
 ]
 
-pub new-stored : (shape : Shape) (had : List MapEntry) (table : Given) → ((c : ℕ) (e : MapEntry) → slice_get had c ≡ Some e → (slice_get table.chunks c ≡ Some None) ↔ (e.storage ≡ 0)) → length had ≡ length table.chunks → IsStoredBy shape had table []
+pub new-stored : (shape : Shape) (had : List MapEntry) (table : TableState) → ((c : ℕ) (e : MapEntry) → slice_get had c ≡ Some e → (slice_get table.chunks c ≡ Some None) ↔ (e.storage ≡ 0)) → length had ≡ length table.chunks → IsStoredBy shape had table []
 new-stored shape had table given many = record {
   counted = λ chunk within.
       let same = counted-is shape had [] [] chunk ∙ or-false (gives_storage (slice_get had chunk)) in
@@ -90,7 +90,7 @@ new-stored shape had table given many = record {
   fulls = λ at id needed free is. absurd (cc);
 }
 
-pub stored-fulls : {shape : Shape} {had : List MapEntry} {table : Given} {history : List Entry} → IsStoredBy shape had table history → AreFullsCaused shape had (length table.chunks) table.storage history
+pub stored-fulls : {shape : Shape} {had : List MapEntry} {table : TableState} {history : List Entry} → IsStoredBy shape had table history → AreFullsCaused shape had (length table.chunks) table.storage history
 stored-fulls stored = stored.fulls
 
 -- A request is asked: each chunk of its run has storage.
@@ -111,7 +111,7 @@ or-or : (a b c : Bool) → (a || (b || c)) ≡ ((a || b) || c)
 or-or true b c = refl
 or-or false b c = refl
 
-module _ {size : ℕ} {shape : Shape} {had : List MapEntry} {table table' : Given} {history : List Entry} (id : CallId) (request : Asked) (regular : IsRegular size history) (later : (standing history id.pass).call < id.call)
+module _ {size : ℕ} {shape : Shape} {had : List MapEntry} {table table' : TableState} {history : List Entry} (id : CallId) (request : Asked) (regular : IsRegular size history) (later : (standing history id.pass).call < id.call)
     (claims : Claims table table' (run_from shape request) (run_count shape request)) (stored : IsStoredBy shape had table history) where
   abbrev asked : List Entry
   asked = history ++ Ask id request ∷ []
@@ -150,6 +150,6 @@ module _ {size : ℕ} {shape : Shape} {had : List MapEntry} {table table' : Give
     fulls = rw (claims.chunks, claims.storage) (fulls-one had history (Ask id request) asked-same (λ c needed free is. absurd (cc)) stored.fulls);
   }
 
-pub ask-stored : {size : ℕ} {shape : Shape} {had : List MapEntry} {table table' : Given} {history history' : List Entry} (id : CallId) (request : Asked) → IsRegular size history → (standing history id.pass).call < id.call
+pub ask-stored : {size : ℕ} {shape : Shape} {had : List MapEntry} {table table' : TableState} {history history' : List Entry} (id : CallId) (request : Asked) → IsRegular size history → (standing history id.pass).call < id.call
     → Claims table table' (run_from shape request) (run_count shape request) → history' ≡ history ++ Ask id request ∷ [] → IsStoredBy shape had table history → IsStoredBy shape had table' history'
 ask-stored {size} {shape} {had} {table} {table'} id request regular later claims more stored = subst (IsStoredBy shape had table') (sym more) (asked-stored id request regular later claims stored)

@@ -16,13 +16,13 @@ use Rattle.vd_format.specs.declared.map.Entry.{Entry as MapEntry}
 use Rattle.vd_law.specs.Entries.{Asked, Read, Write, Flush, Entry, Ask, Reply, same_call}
 use Rattle.vd_law.specs.Rules.{IsRegular}
 use Rattle.vd_law.proofs.Opening.{same_call-is, case}
-use Rattle.vd_table.specs.Tables.{Given, used}
+use Rattle.vd_table.specs.Tables.{TableState, used_chunks}
 use Rattle.vd_table.specs.Runs.{lacking}
 use Rattle.vd_device.specs.declared.ticket.Ticket.{Ticket}
 use Rattle.vd_passes.specs.declared.shape.Shape.{Shape}
 use Rattle.vd_passes.specs.declared.pass.Pass.{Pass}
 use Rattle.vd_passes.specs.Standings.{standing}
-use Rattle.vd_passes.specs.Passes.{call_of, after_ask}
+use Rattle.vd_passes.specs.Passes.{call_id, after_ask}
 use Rattle.vd_passes.specs.Coherent.{IsCoherent}
 use Rattle.vd_passes.specs.Steps.{Asks, AsksFull}
 use Rattle.vd_passes.proofs.Lists.{some-inj}
@@ -50,7 +50,7 @@ count-run {X} f g xs from (suc count) inside same = elim (slice_get_cases xs fro
 
 -- A write is answered Full: it lacks more storage chunks than are free.
 
-counted-some : {shape : Shape} {had : List MapEntry} {table : Given} {history : List Entry} → IsStoredBy shape had table history → (k : ℕ) (x : Option ℕ) → slice_get table.chunks k ≡ Some x → is_counted shape had history history k ≡ is_some x
+counted-some : {shape : Shape} {had : List MapEntry} {table : TableState} {history : List Entry} → IsStoredBy shape had table history → (k : ℕ) (x : Option ℕ) → slice_get table.chunks k ≡ Some x → is_counted shape had history history k ≡ is_some x
 counted-some {shape} {had} {table} {history} stored k None at = (stored.counted k (slice_get_within table.chunks k None at)).0 at
 counted-some {shape} {had} {table} {history} stored k (Some p) at = elim (case (is_counted shape had history history k)) [
   | inl is ↦ is
@@ -61,12 +61,12 @@ none-some : (x : Option ℕ) → not (is_some x) ≡ is_none x
 none-some None = refl
 none-some (Some p) = refl
 
-lacking-counts : {shape : Shape} {had : List MapEntry} {table : Given} {history : List Entry} (from count : ℕ) → IsStoredBy shape had table history → from + count ≤ length table.chunks
+lacking-counts : {shape : Shape} {had : List MapEntry} {table : TableState} {history : List Entry} (from count : ℕ) → IsStoredBy shape had table history → from + count ≤ length table.chunks
     → count_by (λ c. not (is_counted shape had history history c)) (range_with_len from count) ≡ lacking table from count
 lacking-counts {shape} {had} {table} {history} from count stored inside =
     count-run (λ c. not (is_counted shape had history history c)) (λ (x : Option ℕ). is_none x) table.chunks from count inside (λ k x low high at. ap not (counted-some stored k x at) ∙ none-some x)
 
-used-counts : {shape : Shape} {had : List MapEntry} {table : Given} {history : List Entry} → IsStoredBy shape had table history → count_by (is_counted shape had history history) (range_with_len 0 (length table.chunks)) ≡ used table
+used-counts : {shape : Shape} {had : List MapEntry} {table : TableState} {history : List Entry} → IsStoredBy shape had table history → count_by (is_counted shape had history history) (range_with_len 0 (length table.chunks)) ≡ used_chunks table
 used-counts {shape} {had} {table} {history} stored =
     count-run (is_counted shape had history history) (λ (x : Option ℕ). is_some x) table.chunks 0 (length table.chunks) (omega arith) (λ k x low high at. counted-some stored k x at)
     ∙ ap (λ (xs : List (Option ℕ)). count_by (λ (x : Option ℕ). is_some x) xs) (take_all (length table.chunks) table.chunks (omega arith))
@@ -94,9 +94,9 @@ IsCausedAt shape had chunks storage history at (Reply id (Full needed free)) =
     (first : ℕ) × (content : List Sector) × (slice_get history at ≡ Some (Ask id (Write first content))) × IsFullCaused shape (is_counted shape had history (take at history)) chunks storage (Write first content) needed free
 IsCausedAt shape had chunks storage history at e = Unit {0}
 
-module _ {size : ℕ} {shape : Shape} {had : List MapEntry} {table : Given} {history : List Entry} (id : CallId) (first : ℕ) (content : List Sector) (needed free : ℕ) (regular : IsRegular size history) (later : (standing history id.pass).call < id.call)
+module _ {size : ℕ} {shape : Shape} {had : List MapEntry} {table : TableState} {history : List Entry} (id : CallId) (first : ℕ) (content : List Sector) (needed free : ℕ) (regular : IsRegular size history) (later : (standing history id.pass).call < id.call)
     (inside : run_from shape (Write first content) + run_count shape (Write first content) ≤ length table.chunks)
-    (needed_is : needed ≡ lacking table (run_from shape (Write first content)) (run_count shape (Write first content))) (free_is : free + used table ≡ table.storage) (fewer : free < needed)
+    (needed_is : needed ≡ lacking table (run_from shape (Write first content)) (run_count shape (Write first content))) (free_is : free + used_chunks table ≡ table.storage) (fewer : free < needed)
     (stored : IsStoredBy shape had table history) where
   abbrev write : Asked
   write = Write first content
@@ -150,8 +150,8 @@ module _ {size : ℕ} {shape : Shape} {had : List MapEntry} {table : Given} {his
   }
 
 -- a request that isn't a write lacks nothing
-pub ask_full-stored : {size : ℕ} {shape : Shape} {had : List MapEntry} {table : Given} {history history' : List Entry} (id : CallId) (request : Asked) (needed free : ℕ) → IsRegular size history → (standing history id.pass).call < id.call
-    → run_from shape request + run_count shape request ≤ length table.chunks → needed ≡ lacking table (run_from shape request) (run_count shape request) → free + used table ≡ table.storage → free < needed
+pub ask_full-stored : {size : ℕ} {shape : Shape} {had : List MapEntry} {table : TableState} {history history' : List Entry} (id : CallId) (request : Asked) (needed free : ℕ) → IsRegular size history → (standing history id.pass).call < id.call
+    → run_from shape request + run_count shape request ≤ length table.chunks → needed ≡ lacking table (run_from shape request) (run_count shape request) → free + used_chunks table ≡ table.storage → free < needed
     → history' ≡ history ++ Ask id request ∷ Reply id (Full needed free) ∷ [] → IsStoredBy shape had table history → IsStoredBy shape had table history'
 ask_full-stored {size} {shape} {had} {table} id (Write first content) needed free regular later inside needed_is free_is fewer more stored =
     subst (IsStoredBy shape had table) (sym more) (refused-stored id first content needed free regular later inside needed_is free_is fewer stored)
@@ -164,17 +164,17 @@ asked-call p (Read first count) events sectors = refl
 asked-call p (Write first content) events sectors = refl
 asked-call p Flush events sectors = refl
 
-module _ {shape : Shape} {had : List MapEntry} {fresh : List Bool} {places : ℕ → Option ℕ} {passes : List Pass} {sectors depth base_sectors base_depth : ℕ} {flies base_flies : List Ticket → Type 0} where
-  pub asks-stored : {table table' : Given} {passes' : List Pass} {history history' : List Entry} {events_left sectors_left i : ℕ} (request : Asked)
-      → IsCoherent shape fresh places passes history sectors depth base_sectors base_depth flies base_flies → Claims table table' (run_from shape request) (run_count shape request)
+module _ {shape : Shape} {had : List MapEntry} {fresh : List Bool} {places : ℕ → Option ℕ} {passes : List Pass} {sectors depth base_sectors base_depth : ℕ} {flight base_flight : List Ticket → Type 0} where
+  pub asks-stored : {table table' : TableState} {passes' : List Pass} {history history' : List Entry} {events_left sectors_left i : ℕ} (request : Asked)
+      → IsCoherent shape fresh places passes history sectors depth base_sectors base_depth flight base_flight → Claims table table' (run_from shape request) (run_count shape request)
       → Asks request events_left sectors_left i passes passes' history history' → IsStoredBy shape had table history → IsStoredBy shape had table' history'
   asks-stored {events_left = events_left} {sectors_left = sectors_left} {i = i} request co claims step =
-      ask-stored (call_of i (after_ask step.pass request events_left sectors_left)) request co.regular
+      ask-stored (call_id i (after_ask step.pass request events_left sectors_left)) request co.regular
       (let call = (co.each i step.pass step.there).call in let more = asked-call step.pass request events_left sectors_left in omega (arith, call, more)) claims step.event
 
-  pub asks_full-stored : {table : Given} {passes' : List Pass} {history history' : List Entry} {needed free i : ℕ} (request : Asked)
-      → IsCoherent shape fresh places passes history sectors depth base_sectors base_depth flies base_flies → run_from shape request + run_count shape request ≤ length table.chunks
-      → needed ≡ lacking table (run_from shape request) (run_count shape request) → free + used table ≡ table.storage → free < needed
+  pub asks_full-stored : {table : TableState} {passes' : List Pass} {history history' : List Entry} {needed free i : ℕ} (request : Asked)
+      → IsCoherent shape fresh places passes history sectors depth base_sectors base_depth flight base_flight → run_from shape request + run_count shape request ≤ length table.chunks
+      → needed ≡ lacking table (run_from shape request) (run_count shape request) → free + used_chunks table ≡ table.storage → free < needed
       → AsksFull request needed free i passes passes' history history' → IsStoredBy shape had table history → IsStoredBy shape had table history'
   asks_full-stored {needed = needed} {free = free} {i = i} request co inside needed_is free_is fewer step =
       ask_full-stored (record { pass = i; call = step.pass.call + 1 }) request needed free co.regular (let call = (co.each i step.pass step.there).call in omega (arith, call)) inside needed_is free_is fewer step.event

@@ -6,11 +6,11 @@ use Rattle.vd_regions.specs.Holding.{Hinders, IsFirstHindrance}
 use Rattle.vd_passes.specs.declared.shape.Shape.{Shape}
 use Rattle.vd_passes.specs.declared.pass.Pass.{Pass}
 use Rattle.vd_passes.specs.Places.{place_of}
-use Rattle.vd_passes.specs.Steps.{IsNextPiece, Enters}
+use Rattle.vd_passes.specs.Steps.{IsPieceToEnter, Enters}
 
 -- the region that the pass wants of a block: to itself where it writes
-abbrev pub wanted : Pass → (block : ℕ) → Region
-wanted p block = record { first = block; last = block; mode = if p.write then Own else Shared }
+abbrev pub wanted_region : Pass → (block : ℕ) → Region
+wanted_region p block = record { first = block; last = block; mode = if p.write then Own else Shared }
 
 -- part of its request is left, and its blocks lie in the disk
 pub record CanEnter (shape : Shape) (chunks : List (Option ℕ)) (p : Pass) : Type 0 where
@@ -29,13 +29,13 @@ pub record IsKeptOut (shape : Shape) (regions regions' : List (Option Region)) (
   pub there : slice_get passes i ≡ Some pass
   pub block : ℕ
   pub piece : ℕ
-  pub is_next : IsNextPiece shape pass block piece
-  pub hindrance : IsFirstHindrance regions i (wanted pass block) by
+  pub is_next : IsPieceToEnter shape pass block piece
+  pub hindrance : IsFirstHindrance regions i (wanted_region pass block) by
   pub regions_same : regions' ≡ regions
   pub passes_same : passes' ≡ passes
 
 -- it has the region, and nobody keeps it out
 pub record EntersBlock (shape : Shape) (chunks : List (Option ℕ)) (regions regions' : List (Option Region)) (i : ℕ) (passes passes' : List Pass) : Type 0 where
   pub enters : Enters shape (place_of shape chunks) i passes passes'
-  pub free : (by : ℕ) → Hinders regions i (wanted enters.pass enters.block) by → ⊥
-  pub regions_after : regions' ≡ slice_set regions i (Some (wanted enters.pass enters.block))
+  pub free : (by : ℕ) → Hinders regions i (wanted_region enters.pass enters.block) by → ⊥
+  pub regions_after : regions' ≡ slice_set regions i (Some (wanted_region enters.pass enters.block))

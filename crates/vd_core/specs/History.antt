@@ -8,10 +8,9 @@ use Rattle.vd_device.specs.Disks.{HasStopped}
 use Rattle.vd_device.specs.Stores.{IsTold}
 use Rattle.vd_image.specs.Layouts.{layout_of}
 use Rattle.vd_image.specs.Decoders.{format_of}
-use Rattle.vd_image.specs.CrashImages.{base_at, IsCrashImage}
-use Rattle.vd_crash.specs.CrashSafe.{IsCrashSafe}
+use Rattle.vd_image.specs.CrashImages.{IsCrashImage}
+use Rattle.vd_crash.specs.facts.CrashSafe.{IsCrashSafe}
 use Rattle.vd_safety.specs.Held.{IsOpenAgain}
-use Rattle.vd_reading.specs.Background.{zero_sector}
 use Rattle.vd_passes.specs.Causes.{OfStore, OfBase, AreCaused}
 use Rattle.vd_passes.specs.Places.{ArePlaces, place_of}
 use Rattle.vd_passes.specs.Tracing.{AreTraced}
@@ -22,6 +21,7 @@ use Rattle.vd_core.specs.Local.{AreLocalBy}
 use Rattle.vd_core.specs.Agreeing.{AgreesWith}
 use Rattle.vd_core.specs.Opening.{AreReplied, IsNumberedIn}
 use Rattle.vd_core.specs.Showing.{EndsFlushed, MayHold, ShowsCould}
+use Rattle.vd_format.specs.Background.{zero_sector, base_at}
 
 -- What the store had told at opening is read off the front of its log, which reaches that far unless the store has stopped. Beside
 -- that, what its driver must know of the store: one that logs tells all or has stopped, and one that tells logs.

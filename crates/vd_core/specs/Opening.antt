@@ -7,23 +7,23 @@ use Rattle.vd_law.specs.declared.entry.Room.{Room}
 use Rattle.vd_law.specs.declared.entry.CallId.{CallId}
 use Rattle.vd_law.specs.Entries.{Entry, past}
 use Rattle.vd_law.specs.Calls.{progress}
-use Rattle.vd_law.specs.Histories.{Numbered}
+use Rattle.vd_law.specs.Histories.{HistoryState}
 use Rattle.vd_format.specs.declared.header.Header.{Header}
 use Rattle.vd_format.specs.Layouts.{blocks_of, storage_start}
 use Rattle.vd_replay.specs.declared.state.State.{State}
-use Rattle.vd_meta.specs.declared.stage.Stage.TheVariants.{Rest}
-use Rattle.vd_meta.specs.declared.stage.Way.TheVariants.{Nothing}
-use Rattle.vd_meta.specs.Keeping.{Keeping, nothing, pages_of}
-use Rattle.vd_reading.specs.Background.{zero_sector}
+use Rattle.vd_keeper.specs.declared.stage.Stage.TheVariants.{Rest}
+use Rattle.vd_keeper.specs.declared.stage.Way.TheVariants.{Nothing}
+use Rattle.vd_keeper.specs.Keeping.{KeeperState, no_marks, pages_of}
 use Rattle.vd_passes.specs.declared.shape.Shape.{Shape}
 use Rattle.vd_passes.specs.declared.pass.Pass.{Pass}
 use Rattle.vd_passes.specs.Passes.{IsNew}
 use Rattle.vd_core.specs.View.{View}
 use Rattle.vd_core.specs.Start.{opening_at}
+use Rattle.vd_format.specs.Background.{zero_sector}
 
 -- the shape of the disk of an image with this header
-abbrev pub shape_of : Header → (base_sectors : ℕ) → Shape
-shape_of h base_sectors = record {
+abbrev pub disk_shape : Header → (base_sectors : ℕ) → Shape
+disk_shape h base_sectors = record {
   block = h.block;
   chunk = h.chunk;
   blocks = blocks_of h;
@@ -38,11 +38,11 @@ pub record AreNew (count block : ℕ) (passes : List Pass) : Type 0 where
   pub each : (i : ℕ) (p : Pass) → slice_get passes i ≡ Some p → IsNew (replicate block zero_sector) p
 
 -- no entries, in this room, opened when the store has had so many events
-abbrev pub empty_history : Room → (events : ℕ) → Numbered
+abbrev pub empty_history : Room → (events : ℕ) → HistoryState
 empty_history room events = record { log = record { entries = []; left = room; room = room }; numbers = []; opened = events }
 
 -- what the keeper of an image knows that was opened as this state: every image has its local blocks, and nothing is owed
-abbrev pub new_keeping : State → Keeping
+abbrev pub new_keeping : State → KeeperState
 new_keeping s = record {
   header = s.header;
   sure = true;
@@ -50,20 +50,20 @@ new_keeping s = record {
   stage = Rest;
   way = Nothing;
   stale = s.fresh.bits;
-  owed = nothing (blocks_of s.header);
-  snapshot = nothing (blocks_of s.header);
+  owed = no_marks (blocks_of s.header);
+  snapshot = no_marks (blocks_of s.header);
   marked = s.more;
-  put = nothing (pages_of s.header);
+  put = no_marks (pages_of s.header);
   logged = 0;
   head = false;
 }
 
 module _ {S B : Type 0} (g : store.Ghosts S) (h : base.Ghosts B) where
   -- a core over an image that was opened as this state, in which nothing was asked
-  pub record IsOpened (s : State) (passes : ℕ) (room : Room) (store : S) (base : B) (core : View S B) : Type 0 where
+  pub record IsNewCore (s : State) (passes : ℕ) (room : Room) (store : S) (base : B) (core : View S B) : Type 0 where
     pub store_is : core.store ≡ store
     pub base_is : core.base ≡ base
-    pub shape_is : core.shape ≡ shape_of s.header (h.sectors base)
+    pub shape_is : core.shape ≡ disk_shape s.header (h.sectors base)
     pub table_is : core.table ≡ s.table
     pub fresh_is : core.fresh ≡ s.fresh.bits
     pub keeping_is : core.keeping ≡ new_keeping s
@@ -82,6 +82,6 @@ abbrev pub AreReplied : List Entry → Type 0
 AreReplied history = (id : CallId) → IsSome (progress (past history) id).asked → (progress (past history) id).answered ≡ true
 
 -- the history was opened within this log, and no entry is numbered above the log's length
-pub record IsNumberedIn (log : List Entry) (history : Numbered) : Type 0 where
+pub record IsNumberedIn (log : List Entry) (history : HistoryState) : Type 0 where
   pub opened : history.opened ≤ length log
   pub below : AllByRecursion (λ (n : ℕ). n ≤ length log) history.numbers

@@ -34,13 +34,13 @@ step_of Late = step.Late
 step_of Failed = Again
 
 -- the regions after a settle with which a piece ends, unless it was late
-abbrev pub released : Outcome → (i : ℕ) → List (Option Region) → List (Option Region)
-released Done i regions = slice_set regions i None
-released Late i regions = regions
-released Failed i regions = slice_set regions i None
+abbrev pub regions_after_end : Outcome → (i : ℕ) → List (Option Region) → List (Option Region)
+regions_after_end Done i regions = slice_set regions i None
+regions_after_end Late i regions = regions
+regions_after_end Failed i regions = slice_set regions i None
 
 -- the regions after a settle with which a piece ends where it has failed
-abbrev pub released_failed : Outcome → (i : ℕ) → List (Option Region) → List (Option Region)
-released_failed Done i regions = regions
-released_failed Late i regions = regions
-released_failed Failed i regions = slice_set regions i None
+abbrev pub regions_after_failure : Outcome → (i : ℕ) → List (Option Region) → List (Option Region)
+regions_after_failure Done i regions = regions
+regions_after_failure Late i regions = regions
+regions_after_failure Failed i regions = slice_set regions i None

@@ -11,9 +11,9 @@ use Rattle.vd_format.specs.declared.header.Header.{Header}
 use Rattle.vd_image.specs.Image.{geometry_of, DiskHas}
 use Rattle.vd_image.specs.Layouts.{layout_of}
 use Rattle.vd_image.specs.Decoders.{format_of}
-use Rattle.vd_image.specs.CrashImages.{base_at, IsCrashImage}
-use Rattle.vd_image.specs.Made.{zero_sector}
+use Rattle.vd_image.specs.CrashImages.{IsCrashImage}
 use Rattle.vd_replay.specs.Images.{image_of}
+use Rattle.vd_format.specs.Background.{zero_sector, base_at}
 
 -- A flush was asked once each write was done that is done in the history, and is answered Ok.
 pub record EndsFlushed (history : List Entry) : Type 0 where

@@ -4,7 +4,7 @@ use Rattle.vd_law.specs.declared.entry.Sector.{Sector}
 use Rattle.vd_device.specs.declared.store.Store as store
 use Rattle.vd_device.specs.declared.base.Base as base
 use Rattle.vd_device.specs.declared.settled.Settled.{Settled}
-use Rattle.vd_meta.specs.declared.stage.Route.{Route}
+use Rattle.vd_keeper.specs.declared.stage.Route.{Route}
 use Rattle.vd_metadata.specs.Flushing.{meta_state, BeginsFlush, PutsNext, SyncsPuts, SettlesMeta}
 use Rattle.vd_passes.specs.Steps.{FetchSettled, Issues, WriteSettled, Looks, LooksAtBase, LookSettled, BaseLookSettled}
 use Rattle.vd_core.specs.View.{View}
@@ -13,22 +13,22 @@ module _ {S B : Type 0} (g : store.Ghosts S) where
   -- the pass has issued its piece of this content, and the store's write is in flight
   abbrev pub IssuesPiece : (content : List Sector) (i : ℕ) → View S B → View S B → Type 0
   IssuesPiece content i c c' = Issues c.shape c.fresh content i c.passes c'.passes c.history.log.entries c'.history.log.entries
-      (g.flies c.store) (g.flies c'.store) (g.tells c.store) (g.tells c'.store) (g.disk c.store) (g.disk c'.store) (g.last c.store) (g.last c'.store)
+      (g.flight c.store) (g.flight c'.store) (g.tells c.store) (g.tells c'.store) (g.disk c.store) (g.disk c'.store) (g.last c.store) (g.last c'.store)
 
   -- that write is settled
   abbrev pub SettlesWrite : Settled → (i : ℕ) → View S B → View S B → Type 0
   SettlesWrite answer i c c' = WriteSettled answer i c.fresh c'.fresh c.passes c'.passes c.history.log.entries c'.history.log.entries
-      (g.flies c.store) (g.flies c'.store) (g.tells c.store) (g.tells c'.store) (g.disk c.store) (g.disk c'.store) (g.last c.store) (g.last c'.store)
+      (g.flight c.store) (g.flight c'.store) (g.tells c.store) (g.tells c'.store) (g.disk c.store) (g.disk c'.store) (g.last c.store) (g.last c'.store)
 
   -- the store's read of its piece is in flight
   abbrev pub LooksInStore : (i : ℕ) → View S B → View S B → Type 0
   LooksInStore i c c' = Looks c.shape i c.passes c'.passes
-      (g.flies c.store) (g.flies c'.store) (g.tells c.store) (g.tells c'.store) (g.disk c.store) (g.disk c'.store) (g.last c.store) (g.last c'.store)
+      (g.flight c.store) (g.flight c'.store) (g.tells c.store) (g.tells c'.store) (g.disk c.store) (g.disk c'.store) (g.last c.store) (g.last c'.store)
 
   -- that read is settled
   abbrev pub SettlesStoreLook : Settled → (i : ℕ) (out out' : List Sector) → View S B → View S B → Type 0
   SettlesStoreLook answer i out out' c c' = LookSettled answer i c.passes c'.passes c.history.log.entries c'.history.log.entries
-      (g.flies c.store) (g.flies c'.store) (g.tells c.store) (g.tells c'.store) (g.disk c.store) (g.disk c'.store) (g.last c.store) (g.last c'.store) out out'
+      (g.flight c.store) (g.flight c'.store) (g.tells c.store) (g.tells c'.store) (g.disk c.store) (g.disk c'.store) (g.last c.store) (g.last c'.store) out out'
 
   -- its flush has begun: the store's flush of what the guests wrote is in flight
   abbrev pub FlushBegins : Route → (i : ℕ) → View S B → View S B → Type 0
@@ -49,13 +49,13 @@ module _ {S B : Type 0} (g : store.Ghosts S) where
 module _ {S B : Type 0} (h : base.Ghosts B) where
   -- the base read of its block is settled
   abbrev pub SettlesFetch : Settled → (i : ℕ) → View S B → View S B → Type 0
-  SettlesFetch answer i c c' = FetchSettled answer c.shape i c.passes c'.passes (h.flies c.base) (h.flies c'.base) (h.tells c'.base) (h.content c'.base)
+  SettlesFetch answer i c c' = FetchSettled answer c.shape i c.passes c'.passes (h.flight c.base) (h.flight c'.base) (h.tells c'.base) (h.content c'.base)
 
   -- the base read of what the base has of its piece is in flight
   abbrev pub LooksInBase : (i : ℕ) → View S B → View S B → Type 0
-  LooksInBase i c c' = LooksAtBase c.shape i c.passes c'.passes (h.flies c.base) (h.flies c'.base)
+  LooksInBase i c c' = LooksAtBase c.shape i c.passes c'.passes (h.flight c.base) (h.flight c'.base)
 
   -- that read is settled
   abbrev pub SettlesBaseLook : Settled → (i : ℕ) (out out' : List Sector) → View S B → View S B → Type 0
   SettlesBaseLook answer i out out' c c' = BaseLookSettled answer c.shape i c.passes c'.passes c.history.log.entries c'.history.log.entries
-      (h.flies c.base) (h.flies c'.base) (h.tells c'.base) (h.content c'.base) out out'
+      (h.flight c.base) (h.flight c'.base) (h.tells c'.base) (h.content c'.base) out out'

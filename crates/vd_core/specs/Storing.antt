@@ -6,7 +6,7 @@ use Rattle.vd_law.specs.declared.entry.CallId.{CallId}
 use Rattle.vd_law.specs.declared.entry.Answer.TheVariants.{Full}
 use Rattle.vd_law.specs.Entries.{Asked, Write, Entry, Ask, Reply, same_call}
 use Rattle.vd_format.specs.declared.map.Entry.{Entry as MapEntry}
-use Rattle.vd_table.specs.Tables.{Given}
+use Rattle.vd_table.specs.Tables.{TableState}
 use Rattle.vd_passes.specs.declared.shape.Shape.{Shape}
 use Rattle.vd_core.specs.Asking.{run_from, run_count}
 
@@ -49,6 +49,6 @@ AreFullsCaused shape had chunks storage history = (at : ℕ) (id : CallId) (need
     → (first : ℕ) × (content : List Sector) × (slice_get history at ≡ Some (Ask id (Write first content))) × IsFullCaused shape (is_counted shape had history (take at history)) chunks storage (Write first content) needed free
 
 -- the chunks that have storage are those that had some and those for which writes have taken it
-pub record IsStoredBy (shape : Shape) (had : List MapEntry) (table : Given) (history : List Entry) : Type 0 where
+pub record IsStoredBy (shape : Shape) (had : List MapEntry) (table : TableState) (history : List Entry) : Type 0 where
   pub counted : (chunk : ℕ) → chunk < length table.chunks → (slice_get table.chunks chunk ≡ Some None) ↔ (is_counted shape had history history chunk ≡ false)
   pub fulls : AreFullsCaused shape had (length table.chunks) table.storage history

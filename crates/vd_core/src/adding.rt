@@ -4,11 +4,11 @@ ghost use Rattle.std.specs.Prelude.{◌≡◌, ◌<◌, ◌^◌, ◌++◌, [], �
 ghost use Rattle.vd_law.specs.Entries.{entry_of};
 ghost use Rattle.vd_law.specs.Logs.{content_of};
 ghost use Rattle.vd_device.specs.Disks.{IsRunning};
-ghost use Rattle.vd_core.specs.Adding.{CanAdd, Extends};
+ghost use Rattle.vd_core.specs.Adding.{CanAdd, AddsEntries};
 
 use vd_device::Store;
 use vd_law::entry::{CallId, Event};
-use vd_law::history::History;
+use vd_log::history::History;
 
 pub(crate) fn call_id(pass: usize, call: u64) -> CallId
     requires { pass < 2 ^ 32 }
@@ -25,7 +25,7 @@ pub(crate) fn call_id(pass: usize, call: u64) -> CallId
 pub(crate) fn add<S: Store>(store: &S, history: &mut History, event: Event<'_>)
     requires room { CanAdd (length (content_of (entry_of event))) history.old (S.events store.now) }
     ensures entry { history.new.log.entries ≡ history.old.log.entries ++ entry_of event.entry ∷ [] }
-    ensures extends { Extends (S.events store.now ∷ []) (length (content_of (entry_of event.entry))) history.old history.new }
+    ensures extends { AddsEntries (S.events store.now ∷ []) (length (content_of (entry_of event.entry))) history.old history.new }
     ensures running { S.tells store.now → IsRunning (S.events store.now) (S.disk store.now) }
 {
     history.add(event, store.events());

@@ -7,12 +7,12 @@ ghost use Rattle.vd_law.specs.Logs.{asked_content};
 ghost use Rattle.vd_passes.specs.Needs.{need_of, pieces, sectors_of};
 ghost use Rattle.vd_passes.specs.Steps.{IsAt, Asks, AsksFull, Replies};
 ghost use Rattle.vd_device.specs.Disks.{IsRunning};
-ghost use Rattle.vd_core.specs.Adding.{CanAdd, Extends};
+ghost use Rattle.vd_core.specs.Adding.{CanAdd, AddsEntries};
 
 use crate::adding::{add, call_id};
 use vd_device::Store;
 use vd_law::entry::{Answer, Event, Request, Room};
-use vd_law::history::History;
+use vd_log::history::History;
 use vd_passes::pass::Pass;
 use vd_passes::shape::Shape;
 
@@ -66,7 +66,7 @@ pub(crate) fn ask_request<S: Store>(
     requires room { CanAdd (length (asked_content (asked_of request))) history.old (S.events store.now) }
     ensures asks { Asks (asked_of request.entry) left.events left.sectors pass
         passes.old.items passes.new.items history.old.log.entries history.new.log.entries }
-    ensures extends { Extends (S.events store.now ∷ []) (length (asked_content (asked_of request.entry))) history.old history.new }
+    ensures extends { AddsEntries (S.events store.now ∷ []) (length (asked_content (asked_of request.entry))) history.old history.new }
     ensures running { S.tells store.now → IsRunning (S.events store.now) (S.disk store.now) }
 {
     let p = &mut passes[pass];
@@ -91,7 +91,7 @@ pub(crate) fn ask_full<S: Store>(
     requires reply { 1 < history.old.log.left.events }
     ensures answer { result ≡ Full needed free }
     ensures asks { AsksFull (asked_of request.entry) needed free pass passes.old.items passes.new.items history.old.log.entries history.new.log.entries }
-    ensures extends { Extends (S.events store.now ∷ S.events store.now ∷ []) (length (asked_content (asked_of request.entry))) history.old history.new }
+    ensures extends { AddsEntries (S.events store.now ∷ S.events store.now ∷ []) (length (asked_content (asked_of request.entry))) history.old history.new }
     ensures running { S.tells store.now → IsRunning (S.events store.now) (S.disk store.now) }
 {
     let p = &mut passes[pass];
@@ -114,7 +114,7 @@ pub(crate) fn reply_request<S: Store>(
     requires few { length passes.old.items ≤ 64 }
     requires room { CanAdd 0 history.old (S.events store.now) }
     ensures replies { Replies result pass passes.old.items passes.new.items history.old.log.entries history.new.log.entries }
-    ensures extends { Extends (S.events store.now ∷ []) 0 history.old history.new }
+    ensures extends { AddsEntries (S.events store.now ∷ []) 0 history.old history.new }
     ensures running { S.tells store.now → IsRunning (S.events store.now) (S.disk store.now) }
 {
     let p = &mut passes[pass];

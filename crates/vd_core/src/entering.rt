@@ -2,7 +2,7 @@
 
 ghost use Rattle.std.specs.Prelude.{ℕ, ◌≡◌, ◌+◌, ◌-◌, ◌*◌, ◌/◌, ◌^◌, ◌<◌, ◌≤◌, IfErr, OnOk, length, None, Some, slice_get};
 ghost use Rattle.vd_passes.specs.Places.{place_of};
-ghost use Rattle.vd_passes.specs.Steps.{IsAt, IsNextPiece};
+ghost use Rattle.vd_passes.specs.Steps.{IsAt, IsPieceToEnter};
 ghost use Rattle.vd_core.specs.Entering.{CanEnter, EntersBlock, IsKeptOut};
 
 use vd_passes::pass::Pass;
@@ -16,7 +16,7 @@ fn next_piece(shape: &Shape, p: &Pass) -> (u64, u64)
     requires small { shape.now.block ≤ 128 }
     requires left { p.now.done < p.now.count }
     requires fits { p.now.first + p.now.count ≤ 2 ^ 26 }
-    ensures { IsNextPiece shape.now p.now result.0 result.1 }
+    ensures { IsPieceToEnter shape.now p.now result.0 result.1 }
 {
     let at = p.first + p.done;
     let block = at / shape.block;

@@ -3,12 +3,12 @@
 ghost use Rattle.std.specs.Prelude.{ℕ, ◌≡◌, ◌≢◌, None, Some, slice_get};
 ghost use Rattle.vd_device.specs.declared.settled.Settled.{Settled as AnySettled};
 ghost use Rattle.vd_device.specs.Calls.{IsCaused};
-ghost use Rattle.vd_meta.specs.declared.stage.Stage.TheVariants.{Puts, Syncs, Seals};
-ghost use Rattle.vd_meta.specs.declared.stage.Route.TheVariants.{Recycle};
-ghost use Rattle.vd_meta.specs.Moves.{adopting};
+ghost use Rattle.vd_keeper.specs.declared.stage.Stage.TheVariants.{Puts, Syncs, Seals};
+ghost use Rattle.vd_keeper.specs.declared.stage.Route.TheVariants.{Recycle};
+ghost use Rattle.vd_keeper.specs.Moves.{after_adopt};
 ghost use Rattle.vd_passes.specs.declared.pass.Pass.{Pass as AnyPass};
 ghost use Rattle.vd_passes.specs.declared.pass.Phase.TheVariants.{Idle};
-ghost use Rattle.vd_passes.specs.Causes.{OfStore, IsNumbered};
+ghost use Rattle.vd_passes.specs.Causes.{OfStore, HasNextTicket};
 ghost use Rattle.vd_passes.specs.Steps.{IsAt};
 ghost use Rattle.vd_metadata.specs.Flushing.{IsWornOut, SealsFlush};
 ghost use Rattle.vd_core.specs.Stepping.{FlushBegins, FlushPuts, FlushSyncs, FlushSettles};
@@ -20,7 +20,7 @@ ghost use Rattle.vd_core.specs.Flushing.{HasAskedFlush, IsBetween, IsAway, still
 use crate::outcome::{Step, step_of};
 use crate::state::Core;
 use vd_device::{Base, Store};
-use vd_meta::Route;
+use vd_keeper::Route;
 use vd_metadata as metadata;
 use vd_metadata::Outcome;
 
@@ -56,7 +56,7 @@ impl<S: Store, B: Base> Core<S, B> {
         ensures going { result ≡ Going → (self.old.flusher ≡ None) × (self.new.flusher ≡ Some pass) × FlushBegins S.Store route pass self.old self.new }
         ensures worn { result ≡ Worn → (self.old.flusher ≡ None) × IsWornOut route pass self.old.keeping self.old.passes self.new.passes
             × (self.new ≡ record self.old { passes = self.new.passes }) }
-        ensures number { result ≡ Going → IsAt self.new.passes pass (IsNumbered OfStore (S.last self.old.store) (S.last self.new.store)) }
+        ensures number { result ≡ Going → IsAt self.new.passes pass (HasNextTicket OfStore (S.last self.old.store) (S.last self.new.store)) }
         ensures keeps { KeepsStore S.Store self.old.store self.new.store }
         ensures others { self.new ≡ record self.old {
           store = self.new.store;
@@ -89,7 +89,7 @@ impl<S: Store, B: Base> Core<S, B> {
         requires phase { IsAt self.old.passes pass IsBetween }
         requires stage { self.old.keeping.stage ≡ Puts }
         ensures puts { FlushPuts S.Store pass self.old self.new }
-        ensures number { IsAt self.new.passes pass (IsNumbered OfStore (S.last self.old.store) (S.last self.new.store)) }
+        ensures number { IsAt self.new.passes pass (HasNextTicket OfStore (S.last self.old.store) (S.last self.new.store)) }
         ensures keeps { KeepsStore S.Store self.old.store self.new.store }
         ensures others { self.new ≡ record self.old {
           store = self.new.store;
@@ -112,7 +112,7 @@ impl<S: Store, B: Base> Core<S, B> {
         requires phase { IsAt self.old.passes pass IsBetween }
         requires stage { self.old.keeping.stage ≡ Syncs }
         ensures syncs { FlushSyncs S.Store pass self.old self.new }
-        ensures number { IsAt self.new.passes pass (IsNumbered OfStore (S.last self.old.store) (S.last self.new.store)) }
+        ensures number { IsAt self.new.passes pass (HasNextTicket OfStore (S.last self.old.store) (S.last self.new.store)) }
         ensures keeps { KeepsStore S.Store self.old.store self.new.store }
         ensures others { self.new ≡ record self.old { store = self.new.store; passes = self.new.passes; opening = self.new.opening } }
     {
@@ -160,7 +160,7 @@ impl<S: Store, B: Base> Core<S, B> {
     /// whole bitmap.
     pub fn adopt(&mut self)
         requires idle { (i : ℕ) (p : AnyPass) → slice_get self.old.passes i ≡ Some p → p.phase ≡ Idle }
-        ensures keeping { self.new.keeping ≡ adopting self.old.fresh self.old.keeping }
+        ensures keeping { self.new.keeping ≡ after_adopt self.old.fresh self.old.keeping }
         ensures others { self.new ≡ record self.old { keeping = self.new.keeping } }
     {
         self.keeper.adopt(&self.state.fresh);

@@ -5,24 +5,24 @@ ghost use Rattle.vd_device.specs.declared.ticket.Kind.TheVariants.{Read};
 ghost use Rattle.vd_device.specs.declared.settled.Settled.{Settled as AnySettled};
 ghost use Rattle.vd_device.specs.Calls.{IsCaused};
 ghost use Rattle.vd_device.specs.Tickets.{IsInFlight};
-ghost use Rattle.vd_device.specs.Disks.{IsRunning, TellsOrStood};
+ghost use Rattle.vd_device.specs.Disks.{IsRunning, TellsOrStoppedSince};
 ghost use Rattle.vd_passes.specs.Buffers.{BufferSettled};
-ghost use Rattle.vd_reading.specs.Background.{zero_sector};
-ghost use Rattle.vd_passes.specs.Laying.{below};
-ghost use Rattle.vd_passes.specs.Causes.{OfStore, OfBase, IsNumbered};
+ghost use Rattle.vd_passes.specs.Laying.{count_below};
+ghost use Rattle.vd_passes.specs.Causes.{OfStore, OfBase, HasNextTicket};
 ghost use Rattle.vd_passes.specs.Steps.{IsAt, CanRead, CanReadBase, IsWaiting, IsWaitingForBase, Looks, LooksAtBase, Sees, LookSettled, BaseLookSettled};
-ghost use Rattle.vd_core.specs.Adding.{CanAdd, Extends};
+ghost use Rattle.vd_core.specs.Adding.{CanAdd, AddsEntries};
 ghost use Rattle.vd_core.specs.Outcomes.{outcome_of, read_numbers_of, read_sectors_of};
 ghost use Rattle.vd_device.specs.Stores.{KeepsStore};
 ghost use Rattle.vd_device.specs.Bases.{KeepsBase};
+ghost use Rattle.vd_format.specs.Background.{zero_sector};
 
 use crate::adding::{add, call_id};
 use crate::fetching::below;
 use vd_device::{Base, Settled, Store, Ticket};
+use vd_format::zeros::clear;
 use vd_law::entry::{Event, Sector};
-use vd_law::history::History;
+use vd_log::history::History;
 use vd_metadata::Outcome;
-use vd_passes::buffer::clear;
 use vd_passes::pass::{Fault, Pass};
 use vd_passes::shape::Shape;
 
@@ -33,11 +33,11 @@ pub(crate) fn look_at_store<S: Store>(
     passes: &mut Vec<Pass>,
     pass: usize,
 )
-    requires ready { IsAt passes.old.items pass (CanRead shape.now (S.sectors store.old) (S.depth store.old) (S.flies store.old)) }
-    ensures looks { Looks shape.now pass passes.old.items passes.new.items (S.flies store.old) (S.flies store.new) (S.tells store.old)
+    requires ready { IsAt passes.old.items pass (CanRead shape.now (S.sectors store.old) (S.depth store.old) (S.flight store.old)) }
+    ensures looks { Looks shape.now pass passes.old.items passes.new.items (S.flight store.old) (S.flight store.new) (S.tells store.old)
         (S.tells store.new) (S.disk store.old) (S.disk store.new) (S.last store.old) (S.last store.new) }
-    ensures number { IsAt passes.new.items pass (IsNumbered OfStore (S.last store.old) (S.last store.new)) }
-    ensures stopped { S.records store.new → TellsOrStood (S.tells store.new) (S.events store.new) (S.disk store.old) (S.disk store.new) }
+    ensures number { IsAt passes.new.items pass (HasNextTicket OfStore (S.last store.old) (S.last store.new)) }
+    ensures stopped { S.records store.new → TellsOrStoppedSince (S.tells store.new) (S.events store.new) (S.disk store.old) (S.disk store.new) }
     ensures keeps { KeepsStore S.Store store.old store.new }
 {
     let p = &mut passes[pass];
@@ -53,10 +53,10 @@ pub(crate) fn look_at_base<B: Base>(
     passes: &mut Vec<Pass>,
     pass: usize,
 )
-    requires ready { IsAt passes.old.items pass (λ p. CanReadBase shape.now (B.sectors base.old) (B.depth base.old) (B.flies base.old) p
-        × (0 < below shape.now.limit (p.first + p.done) p.piece)) }
-    ensures looks { LooksAtBase shape.now pass passes.old.items passes.new.items (B.flies base.old) (B.flies base.new) }
-    ensures number { IsAt passes.new.items pass (IsNumbered OfBase (B.last base.old) (B.last base.new)) }
+    requires ready { IsAt passes.old.items pass (λ p. CanReadBase shape.now (B.sectors base.old) (B.depth base.old) (B.flight base.old) p
+        × (0 < count_below shape.now.limit (p.first + p.done) p.piece)) }
+    ensures looks { LooksAtBase shape.now pass passes.old.items passes.new.items (B.flight base.old) (B.flight base.new) }
+    ensures number { IsAt passes.new.items pass (HasNextTicket OfBase (B.last base.old) (B.last base.new)) }
     ensures keeps { KeepsBase B.Base base.old base.new }
 {
     let p = &mut passes[pass];
@@ -78,7 +78,7 @@ pub(crate) fn see_zeros<S: Store>(
     requires few { length passes.old.items ≤ 64 }
     ensures sees { IsAt passes.old.items pass (λ p. Sees (replicate p.piece zero_sector) pass
         passes.old.items passes.new.items history.old.log.entries history.new.log.entries out.old out.new
-        × Extends (S.events store.now ∷ []) p.piece history.old history.new) }
+        × AddsEntries (S.events store.now ∷ []) p.piece history.old history.new) }
     ensures running { S.tells store.now → IsRunning (S.events store.now) (S.disk store.now) }
 {
     let p = &mut passes[pass];
@@ -104,17 +104,17 @@ pub(crate) fn settle_store_look<S: Store>(
     pass: usize,
     out: &mut [Sector],
 ) -> Outcome
-    requires waiting { IsAt passes.old.items pass (λ p. (w : IsWaiting Read shape.now (S.flies store.old) p) × (w.ticket.count ≡ p.piece)
+    requires waiting { IsAt passes.old.items pass (λ p. (w : IsWaiting Read shape.now (S.flight store.old) p) × (w.ticket.count ≡ p.piece)
         × (p.done + p.piece ≤ length out.old) × CanAdd p.piece history.old (S.events store.old)) }
     requires few { length passes.old.items ≤ 64 }
     ensures settled { (answer : AnySettled) × (result ≡ outcome_of answer) × LookSettled answer pass
         passes.old.items passes.new.items history.old.log.entries history.new.log.entries
-        (S.flies store.old) (S.flies store.new) (S.tells store.old) (S.tells store.new) (S.disk store.old) (S.disk store.new)
+        (S.flight store.old) (S.flight store.new) (S.tells store.old) (S.tells store.new) (S.disk store.old) (S.disk store.new)
         (S.last store.old) (S.last store.new) out.old out.new
-        × IsAt passes.old.items pass (λ p. Extends (read_numbers_of answer (S.events store.new)) (read_sectors_of answer p.piece) history.old history.new)
+        × IsAt passes.old.items pass (λ p. AddsEntries (read_numbers_of answer (S.events store.new)) (read_sectors_of answer p.piece) history.old history.new)
         × IsCaused answer (S.faults store.old) (S.faults store.new) (S.late store.old) (S.late store.new) }
     ensures running { S.tells store.new → (history.new ≡ history.old) ⊎ IsRunning (S.events store.new) (S.disk store.new) }
-    ensures stopped { S.records store.new → TellsOrStood (S.tells store.new) (S.events store.new) (S.disk store.old) (S.disk store.new) }
+    ensures stopped { S.records store.new → TellsOrStoppedSince (S.tells store.new) (S.events store.new) (S.disk store.old) (S.disk store.new) }
     ensures keeps { KeepsStore S.Store store.old store.new }
 {
     let p = &mut passes[pass];
@@ -144,7 +144,7 @@ pub(crate) fn settle_store_look<S: Store>(
 
 /// Settles a base read at the front of a part, and makes the rest of it zeros.
 fn settle_part<B: Base>(base: &mut B, ticket: Ticket, part: &mut [Sector]) -> Settled
-    requires mine { IsInFlight (B.flies base.old) ticket }
+    requires mine { IsInFlight (B.flight base.old) ticket }
     requires kind { ticket.kind ≡ Read }
     requires fits { ticket.count ≤ length part.old }
     ensures { BufferSettled B.Base result ticket part.old part.new base.old base.new }
@@ -168,13 +168,13 @@ pub(crate) fn settle_base_look<S: Store, B: Base>(
     pass: usize,
     out: &mut [Sector],
 ) -> Outcome
-    requires waiting { IsAt passes.old.items pass (λ p. (w : IsWaitingForBase shape.now (B.flies base.old) p) × (w.ticket.count ≤ p.piece)
+    requires waiting { IsAt passes.old.items pass (λ p. (w : IsWaitingForBase shape.now (B.flight base.old) p) × (w.ticket.count ≤ p.piece)
         × (p.done + p.piece ≤ length out.old) × CanAdd p.piece history.old (S.events store.now)) }
     requires few { length passes.old.items ≤ 64 }
     ensures settled { (answer : AnySettled) × (result ≡ outcome_of answer) × BaseLookSettled answer shape.now pass
         passes.old.items passes.new.items history.old.log.entries history.new.log.entries
-        (B.flies base.old) (B.flies base.new) (B.tells base.new) (B.content base.new) out.old out.new
-        × IsAt passes.old.items pass (λ p. Extends (read_numbers_of answer (S.events store.now)) (read_sectors_of answer p.piece) history.old history.new)
+        (B.flight base.old) (B.flight base.new) (B.tells base.new) (B.content base.new) out.old out.new
+        × IsAt passes.old.items pass (λ p. AddsEntries (read_numbers_of answer (S.events store.now)) (read_sectors_of answer p.piece) history.old history.new)
         × IsCaused answer (B.faults base.old) (B.faults base.new) (B.late base.old) (B.late base.new) }
     ensures running { S.tells store.now → (history.new ≡ history.old) ⊎ IsRunning (S.events store.now) (S.disk store.now) }
     ensures number { B.last base.new ≡ B.last base.old }

@@ -3,13 +3,13 @@
 ghost use Rattle.std.specs.Prelude.{ℕ, ◌≡◌, ◌+◌, ◌*◌, ◌^◌, ◌<◌, ◌≤◌, ◌++◌, List, [], ◌∷◌, None, replicate, IfOk, IfErr, length, slice_get, Some, vec_capacity};
 ghost use Rattle.vd_format.specs.Headers.{IsValid};
 ghost use Rattle.vd_format.specs.Layouts.{need_of};
-ghost use Rattle.vd_replay.specs.States.{IsSized, IsWhole, Says};
+ghost use Rattle.vd_replay.specs.States.{IsSized, IsWholeState, StateSays};
 ghost use Rattle.vd_passes.specs.declared.pass.Pass.{Pass as AnyPass};
 ghost use Rattle.vd_passes.specs.declared.pass.Phase.TheVariants.{Idle};
 ghost use Rattle.vd_passes.specs.Passes.{IsNew};
 ghost use Rattle.vd_device.specs.Disks.{Disk};
-ghost use Rattle.vd_reading.specs.Quiet.{AddsFlush};
-ghost use Rattle.vd_core.specs.Opening.{shape_of, new_keeping, AreNew, IsOpened, empty_history};
+ghost use Rattle.vd_device.specs.Quiet.{AddsFlush};
+ghost use Rattle.vd_core.specs.Opening.{disk_shape, new_keeping, AreNew, IsNewCore, empty_history};
 ghost use Rattle.vd_core.specs.History.{HasOpening, IsHistoryOf, HasEnded};
 
 use crate::state::Core;
@@ -18,9 +18,9 @@ use vd_bits::marked::Marked;
 use vd_device::{Base, Store};
 use vd_format::Header;
 use vd_header::layout_of;
+use vd_keeper::Keeper;
 use vd_law::entry::{NoMemory, Room};
-use vd_law::history::History;
-use vd_meta::Keeper;
+use vd_log::history::History;
 use vd_passes::buffer::Buffer;
 use vd_passes::pass::Pass;
 use vd_passes::shape::Shape;
@@ -45,7 +45,7 @@ pub struct Closed<S, B> {
 /// The shape of the disk of an image with this header, over a base of so many sectors.
 fn shape_of(header: &Header, base_sectors: u64) -> Shape
     requires { IsValid header.now }
-    ensures { result ≡ shape_of header.now base_sectors }
+    ensures { result ≡ disk_shape header.now base_sectors }
 {
     let layout = layout_of(header);
     Shape {
@@ -120,7 +120,7 @@ fn new_parts(
     room: Room,
     events: u64,
 ) -> Result<Parts, NoMemory>
-    requires whole { IsWhole state.now }
+    requires whole { IsWholeState state.now }
     requires version { state.now.header.version ≡ 2 }
     requires some { 0 < passes }
     requires most { passes ≤ 64 }
@@ -193,18 +193,18 @@ impl<S: Store, B: Base> Core<S, B> {
         passes: u32,
         room: Room,
     ) -> Result<Core<S, B>, Unopened<S, B>>
-        requires whole { IsWhole state }
+        requires whole { IsWholeState state }
         requires version { state.header.version ≡ 2 }
         requires fits { need_of state.header ≤ S.sectors store }
-        requires says { S.tells store → Says (S.disk store).held state }
+        requires says { S.tells store → StateSays (S.disk store).held state }
         // what was written before is durable
         requires flushed { S.tells store → (old : Disk) × AddsFlush old (S.disk store) }
-        requires idle { S.flies store [] }
-        requires base_idle { B.flies base [] }
+        requires idle { S.flight store [] }
+        requires base_idle { B.flight base [] }
         requires some { 0 < passes }
         requires most { passes ≤ 64 }
         ensures back { IfErr result (λ refused. (refused.store ≡ store) × (refused.base ≡ base)) }
-        ensures opened { IfOk result (λ core. IsOpened S.Store B.Base state passes room store base core) }
+        ensures opened { IfOk result (λ core. IsNewCore S.Store B.Base state passes room store base core) }
         ensures opening { IfOk result (λ core. HasOpening S.Store core) }
     {
         // Asked for what their clauses say alone: the invariant bounds what the devices tell.
@@ -254,8 +254,8 @@ impl<S: Store, B: Base> Core<S, B> {
         ensures base { result.base ≡ self.base }
         ensures history { result.history ≡ self.history }
         ensures state { IsSized result.state × (result.state.header ≡ self.header) }
-        ensures calm { S.flies result.store [] }
-        ensures base_calm { B.flies result.base [] }
+        ensures none_in_flight { S.flight result.store [] }
+        ensures none_in_base_flight { B.flight result.base [] }
         ensures known { IsHistoryOf S.Store B.Base self }
         ensures ended { HasEnded S.Store B.Base self }
     {

@@ -1,7 +1,7 @@
 //! How a settle went on, and what a step tells its caller.
 
 ghost use Rattle.std.specs.Prelude.{◌≡◌, ◌<◌, length};
-ghost use Rattle.vd_core.specs.Outcomes.{step_of, released, released_failed};
+ghost use Rattle.vd_core.specs.Outcomes.{step_of, regions_after_end, regions_after_failure};
 
 use vd_law::entry::Answer;
 use vd_metadata::Outcome;
@@ -24,7 +24,7 @@ pub enum Step {
 pub(crate) fn release(regions: &mut Regions, pass: u32, outcome: Outcome) -> Step
     requires { pass < length regions.old }
     ensures step { result ≡ step_of outcome }
-    ensures regions { regions.new ≡ released outcome pass regions.old }
+    ensures regions { regions.new ≡ regions_after_end outcome pass regions.old }
 {
     match outcome {
         Outcome::Late => Step::Late,
@@ -39,7 +39,7 @@ pub(crate) fn release(regions: &mut Regions, pass: u32, outcome: Outcome) -> Ste
 pub(crate) fn release_failed(regions: &mut Regions, pass: u32, outcome: Outcome) -> Step
     requires { pass < length regions.old }
     ensures step { result ≡ step_of outcome }
-    ensures regions { regions.new ≡ released_failed outcome pass regions.old }
+    ensures regions { regions.new ≡ regions_after_failure outcome pass regions.old }
 {
     match outcome {
         Outcome::Late => Step::Late,

@@ -4,13 +4,13 @@ ghost use Rattle.std.specs.Prelude.{◌≡◌, ◌⊎◌, ◌+◌, ◌<◌, [], 
 ghost use Rattle.vd_device.specs.declared.settled.Settled.{Settled as AnySettled};
 ghost use Rattle.vd_device.specs.Calls.{IsCaused};
 ghost use Rattle.vd_passes.specs.declared.pass.Phase.TheVariants.{Looking};
-ghost use Rattle.vd_passes.specs.Laying.{below};
+ghost use Rattle.vd_passes.specs.Laying.{count_below};
 ghost use Rattle.vd_passes.specs.Steps.{IsAt, SeesZeros};
 ghost use Rattle.vd_core.specs.Stepping.{LooksInStore, LooksInBase, SettlesStoreLook, SettlesBaseLook};
-ghost use Rattle.vd_core.specs.Adding.{Extends};
+ghost use Rattle.vd_core.specs.Adding.{AddsEntries};
 ghost use Rattle.vd_device.specs.Stores.{KeepsStore};
 ghost use Rattle.vd_device.specs.Bases.{KeepsBase};
-ghost use Rattle.vd_passes.specs.Causes.{OfStore, OfBase, IsNumbered};
+ghost use Rattle.vd_passes.specs.Causes.{OfStore, OfBase, HasNextTicket};
 ghost use Rattle.vd_core.specs.Outcomes.{outcome_of, read_numbers_of, read_sectors_of, step_of};
 ghost use Rattle.vd_core.specs.Looking.{IsReader, LooksSomewhere, SettlesLook};
 
@@ -26,7 +26,7 @@ impl<S: Store, B: Base> Core<S, B> {
     fn look_in_store(&mut self, pass: u32)
         requires phase { IsAt self.old.passes pass (λ p. IsReader p × (slice_get self.old.fresh p.block ≡ Some true)) }
         ensures looks { LooksInStore S.Store pass self.old self.new }
-        ensures number { IsAt self.new.passes pass (IsNumbered OfStore (S.last self.old.store) (S.last self.new.store)) }
+        ensures number { IsAt self.new.passes pass (HasNextTicket OfStore (S.last self.old.store) (S.last self.new.store)) }
         ensures keeps { KeepsStore S.Store self.old.store self.new.store }
         ensures others { self.new ≡ record self.old { store = self.new.store; passes = self.new.passes; opening = self.new.opening } }
     {
@@ -41,9 +41,9 @@ impl<S: Store, B: Base> Core<S, B> {
     /// The look at a piece of which the base has something.
     fn look_in_base(&mut self, pass: u32)
         requires phase { IsAt self.old.passes pass (λ p. IsReader p × (slice_get self.old.fresh p.block ≡ Some false)
-            × (0 < below self.old.shape.limit (p.first + p.done) p.piece)) }
+            × (0 < count_below self.old.shape.limit (p.first + p.done) p.piece)) }
         ensures looks { LooksInBase B.Base pass self.old self.new }
-        ensures number { IsAt self.new.passes pass (IsNumbered OfBase (B.last self.old.base) (B.last self.new.base)) }
+        ensures number { IsAt self.new.passes pass (HasNextTicket OfBase (B.last self.old.base) (B.last self.new.base)) }
         ensures base_keeps { KeepsBase B.Base self.old.base self.new.base }
         ensures others { self.new ≡ record self.old { base = self.new.base; passes = self.new.passes } }
     {
@@ -53,9 +53,9 @@ impl<S: Store, B: Base> Core<S, B> {
     /// The look at a piece that is zeros.
     fn look_at_zeros(&mut self, pass: u32, out: &mut [Sector])
         requires phase { IsAt self.old.passes pass (λ p. IsReader p × (slice_get self.old.fresh p.block ≡ Some false)
-            × (below self.old.shape.limit (p.first + p.done) p.piece ≡ 0) × (p.count ≡ length out.old)) }
+            × (count_below self.old.shape.limit (p.first + p.done) p.piece ≡ 0) × (p.count ≡ length out.old)) }
         ensures sees { SeesZeros self.old.shape pass self.old.passes self.new.passes self.old.history.log.entries self.new.history.log.entries out.old out.new }
-        ensures extends { IsAt self.old.passes pass (λ p. Extends (S.events self.old.store ∷ []) p.piece self.old.history self.new.history) }
+        ensures extends { IsAt self.old.passes pass (λ p. AddsEntries (S.events self.old.store ∷ []) p.piece self.old.history self.new.history) }
         ensures others { self.new ≡ record self.old { passes = self.new.passes; history = self.new.history } }
     {
         see_zeros(
@@ -73,13 +73,13 @@ impl<S: Store, B: Base> Core<S, B> {
     pub fn look(&mut self, pass: u32, out: &mut [Sector])
         requires phase { IsAt self.old.passes pass (λ p. IsReader p × (p.count ≡ length out.old)) }
         ensures looks { LooksSomewhere S.Store B.Base pass out.old out.new self.old self.new }
-        ensures number { IsAt self.new.passes pass (IsNumbered OfStore (S.last self.old.store) (S.last self.new.store)) }
-        ensures base_number { IsAt self.new.passes pass (IsNumbered OfBase (B.last self.old.base) (B.last self.new.base)) }
+        ensures number { IsAt self.new.passes pass (HasNextTicket OfStore (S.last self.old.store) (S.last self.new.store)) }
+        ensures base_number { IsAt self.new.passes pass (HasNextTicket OfBase (B.last self.old.base) (B.last self.new.base)) }
         ensures base_keeps { KeepsBase B.Base self.old.base self.new.base }
         ensures keeps { KeepsStore S.Store self.old.store self.new.store }
         ensures store_same { IsAt self.old.passes pass (λ p. slice_get self.old.fresh p.block ≡ Some false → self.new.store ≡ self.old.store) }
         ensures base_same { IsAt self.old.passes pass (λ p. (slice_get self.old.fresh p.block ≡ Some true)
-            ⊎ (below self.old.shape.limit (p.first + p.done) p.piece ≡ 0) → self.new.base ≡ self.old.base) }
+            ⊎ (count_below self.old.shape.limit (p.first + p.done) p.piece ≡ 0) → self.new.base ≡ self.old.base) }
         ensures others { self.new ≡ record self.old {
           store = self.new.store;
           base = self.new.base;
@@ -104,7 +104,7 @@ impl<S: Store, B: Base> Core<S, B> {
         requires phase { IsAt self.old.passes pass (λ p. (p.phase ≡ Looking) × IsSome p.ticket × (p.count ≡ length out.old)) }
         ensures settled { (answer : AnySettled) × (result ≡ step_of (outcome_of answer))
             × SettlesStoreLook S.Store answer pass out.old out.new self.old self.new
-            × IsAt self.old.passes pass (λ p. Extends (read_numbers_of answer (S.events self.new.store))
+            × IsAt self.old.passes pass (λ p. AddsEntries (read_numbers_of answer (S.events self.new.store))
             (read_sectors_of answer p.piece) self.old.history self.new.history)
             × IsCaused answer (S.faults self.old.store) (S.faults self.new.store) (S.late self.old.store) (S.late self.new.store) }
         ensures keeps { KeepsStore S.Store self.old.store self.new.store }
@@ -130,7 +130,7 @@ impl<S: Store, B: Base> Core<S, B> {
     fn settle_base(&mut self, pass: u32, out: &mut [Sector]) -> Step
         requires phase { IsAt self.old.passes pass (λ p. (p.phase ≡ Looking) × (p.ticket ≡ None) × (p.count ≡ length out.old)) }
         ensures settled { (answer : AnySettled) × (result ≡ step_of (outcome_of answer)) × SettlesBaseLook B.Base answer pass out.old out.new self.old self.new
-            × IsAt self.old.passes pass (λ p. Extends (read_numbers_of answer (S.events self.old.store))
+            × IsAt self.old.passes pass (λ p. AddsEntries (read_numbers_of answer (S.events self.old.store))
             (read_sectors_of answer p.piece) self.old.history self.new.history)
             × IsCaused answer (B.faults self.old.base) (B.faults self.new.base) (B.late self.old.base) (B.late self.new.base) }
         ensures number { B.last self.new.base ≡ B.last self.old.base }

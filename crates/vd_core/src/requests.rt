@@ -6,18 +6,18 @@ ghost use Rattle.vd_law.specs.Logs.{asked_content};
 ghost use Rattle.vd_law.specs.Rules.{IsInside};
 ghost use Rattle.vd_passes.specs.declared.pass.Phase.TheVariants.{Idle, Ready};
 ghost use Rattle.vd_passes.specs.Steps.{IsAt, Replies};
-ghost use Rattle.vd_table.specs.Tables.{used};
+ghost use Rattle.vd_table.specs.Tables.{used_chunks};
 ghost use Rattle.vd_table.specs.Runs.{lacking};
-ghost use Rattle.vd_core.specs.Adding.{Extends};
+ghost use Rattle.vd_core.specs.Adding.{AddsEntries};
 ghost use Rattle.vd_device.specs.Disks.{IsRunning};
 ghost use Rattle.vd_device.specs.Stores.{IsTold};
-ghost use Rattle.vd_core.specs.Asking.{CanAsk, AskEnds, Claims, HasSize, CanReply, IsOkWhereDone, asking, asking_of, run_from, run_count, freed, without};
+ghost use Rattle.vd_core.specs.Asking.{CanAsk, AskEnds, Claims, HasSize, CanReply, IsOkWhereDone, ask_state, ask_state_of, run_from, run_count, room_after_reply, room_without};
 
 use crate::asking::{ask_full, ask_request, need_of, reply_request};
 use crate::state::Core;
 use vd_device::{Base, Store};
 use vd_law::entry::{Answer, Request, Room};
-use vd_law::history::History;
+use vd_log::history::History;
 use vd_passes::pass::Pass;
 use vd_passes::shape::Shape;
 use vd_table::table::Table;
@@ -44,7 +44,7 @@ fn run(shape: &Shape, request: Request<'_>) -> (u32, u32)
 /// where these are fewer.
 fn claim(table: &mut Table, from: u32, count: u32) -> Option<(u32, u32)>
     requires inside { from + count ≤ length table.old.chunks }
-    ensures full { IfSome result (λ full. (full.0 ≡ lacking table.old from count) × (full.1 + used table.old ≡ table.old.storage)
+    ensures full { IfSome result (λ full. (full.0 ≡ lacking table.old from count) × (full.1 + used_chunks table.old ≡ table.old.storage)
         × (full.1 < full.0) × (table.new ≡ table.old)) }
     ensures claims { IfNone result (Claims table.old table.new from count) }
 {
@@ -71,7 +71,7 @@ fn content_of(request: Request<'_>) -> u64
 fn without(left: Room, events: u64, sectors: u64) -> Room
     requires events { events ≤ left.events }
     requires sectors { sectors ≤ left.sectors }
-    ensures { result ≡ without left events sectors }
+    ensures { result ≡ room_without left events sectors }
 {
     Room {
         events: left.events - events,
@@ -92,7 +92,7 @@ fn ask_in_room<S: Store>(
 ) -> Option<Answer>
     requires can { CanAsk shape.now table.old passes.old.items history.old spare.old (S.events store.now) (asked_of request) pass }
     ensures ends { AskEnds result (asked_of request.entry) (S.events store.now) pass
-        (asking shape.now table.old passes.old.items history.old spare.old) (asking shape.now table.new passes.new.items history.new spare.new) }
+        (ask_state shape.now table.old passes.old.items history.old spare.old) (ask_state shape.now table.new passes.new.items history.new spare.new) }
     ensures running { S.tells store.now → (history.new ≡ history.old) ⊎ IsRunning (S.events store.now) (S.disk store.now) }
 {
     let need = need_of(shape, request);
@@ -137,8 +137,8 @@ fn reply_in_room<S: Store>(
 ) -> Answer
     requires can { IsAt passes.old.items pass (CanReply passes.old.items history.old spare.old (S.events store.now)) }
     ensures replies { Replies result pass passes.old.items passes.new.items history.old.log.entries history.new.log.entries }
-    ensures extends { Extends (S.events store.now ∷ []) 0 history.old history.new }
-    ensures left { IsAt passes.old.items pass (λ p. spare.new ≡ freed p spare.old) }
+    ensures extends { AddsEntries (S.events store.now ∷ []) 0 history.old history.new }
+    ensures left { IsAt passes.old.items pass (λ p. spare.new ≡ room_after_reply p spare.old) }
     ensures running { S.tells store.now → IsRunning (S.events store.now) (S.disk store.now) }
 {
     // The numbers of the room that is left have 64 bits, and the two sums are part of it.
@@ -159,7 +159,7 @@ impl<S: Store, B: Base> Core<S, B> {
         requires phase { IsAt self.old.passes pass (λ p. p.phase ≡ Idle) }
         requires size { HasSize (asked_of request) }
         requires inside { IsInside (self.old.shape.block * self.old.shape.blocks) (asked_of request) }
-        ensures ends { AskEnds result (asked_of request.entry) (S.events self.old.store) pass (asking_of self.old) (asking_of self.new) }
+        ensures ends { AskEnds result (asked_of request.entry) (S.events self.old.store) pass (ask_state_of self.old) (ask_state_of self.new) }
         ensures running { S.tells self.new.store → (self.new.history ≡ self.old.history) ⊎ IsRunning (S.events self.new.store) (S.disk self.new.store) }
         ensures told { IsTold S.Store self.new.store }
         ensures others { self.new ≡ record self.old { table = self.new.table; passes = self.new.passes; history = self.new.history; spare = self.new.spare } }
@@ -182,8 +182,8 @@ impl<S: Store, B: Base> Core<S, B> {
         requires phase { IsAt self.old.passes pass (λ p. p.phase ≡ Ready) }
         ensures replies { Replies result pass self.old.passes self.new.passes self.old.history.log.entries self.new.history.log.entries }
         ensures ok { IsAt self.old.passes pass (IsOkWhereDone result) }
-        ensures extends { Extends (S.events self.old.store ∷ []) 0 self.old.history self.new.history }
-        ensures left { IsAt self.old.passes pass (λ p. self.new.spare ≡ freed p self.old.spare) }
+        ensures extends { AddsEntries (S.events self.old.store ∷ []) 0 self.old.history self.new.history }
+        ensures left { IsAt self.old.passes pass (λ p. self.new.spare ≡ room_after_reply p self.old.spare) }
         ensures running { S.tells self.new.store → IsRunning (S.events self.new.store) (S.disk self.new.store) }
         ensures others { self.new ≡ record self.old { passes = self.new.passes; history = self.new.history; spare = self.new.spare } }
     {

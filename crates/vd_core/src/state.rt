@@ -4,10 +4,10 @@ ghost use Rattle.std.specs.Prelude.{◌≡◌, ◌<◌, ◌↔◌, IsTrue, true,
 ghost use Rattle.vd_format.specs.Headers.{IsValid};
 ghost use Rattle.vd_image.specs.Image.{geometry_of};
 ghost use Rattle.vd_passes.specs.declared.pass.Phase.TheVariants.{Flushing};
-ghost use Rattle.vd_metadata.specs.Attending.{IsAttended};
+ghost use Rattle.vd_metadata.specs.Attending.{KeeperAgrees};
 ghost use Rattle.vd_core.specs.History.{IsHistoryOf};
 ghost use Rattle.vd_passes.specs.Passes.{has_region};
-ghost use Rattle.vd_core.specs.Moves.{IsStanding};
+ghost use Rattle.vd_core.specs.Moves.{IsInPhase};
 ghost use Rattle.vd_passes.specs.Steps.{IsAt};
 ghost use Rattle.vd_device.specs.Stores.{IsTold};
 ghost use Rattle.vd_passes.specs.declared.pass.Pass.{Pass as AnyPass};
@@ -15,9 +15,9 @@ ghost use Rattle.vd_passes.specs.declared.pass.Pass.{Pass as AnyPass};
 use std::marker::Model;
 use vd_device::{Base, Store};
 use vd_format::Header;
+use vd_keeper::{Keeper, Stage};
 use vd_law::entry::Room;
-use vd_law::history::History;
-use vd_meta::{Keeper, Stage};
+use vd_log::history::History;
 use vd_passes::pass::{Pass, Phase};
 use vd_passes::shape::Shape;
 use vd_regions::regions::Regions;
@@ -51,7 +51,7 @@ impl<S: Store, B: Base> Model for Core<S, B> {
     ghost use Rattle.std.specs.Prelude.{◌⊎◌};
     ghost use Rattle.vd_device.specs.Stores.{IsTold};
     ghost use Rattle.vd_core.specs.Start.{opening_at};
-    ghost use Rattle.vd_core.specs.Kept.{IsKept, IsFaithfullyKept, IsLogged, IsAccounted, IsRecorded, IsSafelyKept, IsSafelyStopped};
+    ghost use Rattle.vd_core.specs.Kept.{IsSoundCore, IsFaithfullyKept, LogAgrees, IsAccounted, MetadataAgrees, IsSafelyKept, IsSafelyStopped};
 
     ghost view = { λ c. record {
       store = c.store;
@@ -71,11 +71,11 @@ impl<S: Store, B: Base> Model for Core<S, B> {
       base_faults = c.base_faults;
     } };
 
-    ghost invariant = { λ c. IsKept S.Store B.Base c.shape c.state c.regions c.passes.items c.history c.spare c.store c.base
+    ghost invariant = { λ c. IsSoundCore S.Store B.Base c.shape c.state c.regions c.passes.items c.history c.spare c.store c.base
         × (S.tells c.store → B.tells c.base → IsFaithfullyKept S.Store B.Base c.shape c.state c.passes.items c.history c.store c.base)
         × IsAccounted S.Store B.Base c.shape c.state c.passes.items c.history c.store_faults c.base_faults c.store c.base
-        × (S.tells c.store → IsLogged c.passes.items c.history (S.disk c.store))
-        × IsRecorded c.shape c.state c.passes.items c.flusher c.keeper
+        × (S.tells c.store → LogAgrees c.passes.items c.history (S.disk c.store))
+        × MetadataAgrees c.shape c.state c.passes.items c.flusher c.keeper
         × (S.tells c.store → B.tells c.base → IsSafelyKept S.Store B.Base c.state c.keeper c.flusher c.passes.items c.history c.store c.base)
         × (S.records c.store → B.tells c.base → S.tells c.store ⊎ IsSafelyStopped S.Store B.Base c.state.header c.history c.store c.base)
         × IsTold S.Store c.store };
@@ -86,8 +86,8 @@ impl<S: Store, B: Base> Core<S, B> {
     pub fn phase(&self, pass: u32) -> Phase
         requires { pass < length self.now.passes }
         ensures phase { (p : AnyPass) → slice_get self.now.passes pass ≡ Some p → result ≡ p.phase }
-        ensures stands { (p : AnyPass) → slice_get self.now.passes pass ≡ Some p → IsStanding self.now.shape p }
-        ensures attended { IsAttended self.now.shape self.now.table self.now.fresh self.now.passes self.now.flusher self.now.keeping }
+        ensures stands { (p : AnyPass) → slice_get self.now.passes pass ≡ Some p → IsInPhase self.now.shape p }
+        ensures attended { KeeperAgrees self.now.shape self.now.table self.now.fresh self.now.passes self.now.flusher self.now.keeping }
         ensures told { IsTold S.Store self.now.store }
     {
         self.passes[pass as usize].phase

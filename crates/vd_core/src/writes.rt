@@ -7,15 +7,15 @@ ghost use Rattle.vd_passes.specs.declared.pass.Phase.TheVariants.{Asked, Held, F
 ghost use Rattle.vd_passes.specs.Passes.{region_of};
 ghost use Rattle.vd_passes.specs.Steps.{IsAt, HasAskedWrite};
 ghost use Rattle.vd_core.specs.Stepping.{SettlesFetch, IssuesPiece, SettlesWrite};
-ghost use Rattle.vd_core.specs.Adding.{Extends};
+ghost use Rattle.vd_core.specs.Adding.{AddsEntries};
 ghost use Rattle.vd_core.specs.Outcomes.{outcome_of, numbers_of, step_of};
 ghost use Rattle.vd_device.specs.Stores.{KeepsStore};
 ghost use Rattle.vd_device.specs.Bases.{KeepsBase};
 ghost use Rattle.vd_device.specs.Disks.{IsRunning};
-ghost use Rattle.vd_passes.specs.Causes.{OfStore, OfBase, IsNumbered};
+ghost use Rattle.vd_passes.specs.Causes.{OfStore, OfBase, HasNextTicket};
 ghost use Rattle.vd_core.specs.Entering.{IsKeptOut, EntersBlock};
 ghost use Rattle.vd_core.specs.Fetching.{FetchesBlock};
-ghost use Rattle.vd_core.specs.Issuing.{IsWritable, owed_after};
+ghost use Rattle.vd_core.specs.Issuing.{IsWritable, keeper_after_write};
 
 use crate::entering::enter_block;
 use crate::fetching::{fetch_block, settle_block};
@@ -51,7 +51,7 @@ impl<S: Store, B: Base> Core<S, B> {
     pub fn fetch(&mut self, pass: u32)
         requires phase { IsAt self.old.passes pass (λ p. (p.phase ≡ Held) × (p.write ≡ true) × (slice_get self.old.fresh p.block ≡ Some false)) }
         ensures fetches { FetchesBlock B.Base self.old.shape pass self.old.passes self.new.passes self.old.base self.new.base }
-        ensures number { IsAt self.new.passes pass (IsNumbered OfBase (B.last self.old.base) (B.last self.new.base)) }
+        ensures number { IsAt self.new.passes pass (HasNextTicket OfBase (B.last self.old.base) (B.last self.new.base)) }
         ensures base_keeps { KeepsBase B.Base self.old.base self.new.base }
         ensures others { self.new ≡ record self.old { base = self.new.base; passes = self.new.passes } }
     {
@@ -79,8 +79,8 @@ impl<S: Store, B: Base> Core<S, B> {
         requires phase { IsAt self.old.passes pass (IsWritable self.old.shape self.old.fresh) }
         requires content { HasAskedWrite self.old.history.log.entries pass content.now }
         ensures issues { IssuesPiece S.Store content.now pass self.old self.new }
-        ensures extends { IsAt self.old.passes pass (λ p. Extends (S.events self.old.store ∷ []) p.piece self.old.history self.new.history) }
-        ensures number { IsAt self.new.passes pass (IsNumbered OfStore (S.last self.old.store) (S.last self.new.store)) }
+        ensures extends { IsAt self.old.passes pass (λ p. AddsEntries (S.events self.old.store ∷ []) p.piece self.old.history self.new.history) }
+        ensures number { IsAt self.new.passes pass (HasNextTicket OfStore (S.last self.old.store) (S.last self.new.store)) }
         ensures running { S.tells self.old.store → IsRunning (S.events self.old.store) (S.disk self.old.store) }
         ensures keeps { KeepsStore S.Store self.old.store self.new.store }
         ensures others { self.new ≡ record self.old {
@@ -106,9 +106,9 @@ impl<S: Store, B: Base> Core<S, B> {
     pub fn settle_issue(&mut self, pass: u32) -> Step
         requires phase { IsAt self.old.passes pass (λ p. p.phase ≡ Issuing) }
         ensures settled { (answer : AnySettled) × (result ≡ step_of (outcome_of answer)) × SettlesWrite S.Store answer pass self.old self.new
-            × Extends (numbers_of answer (S.events self.new.store)) 0 self.old.history self.new.history
+            × AddsEntries (numbers_of answer (S.events self.new.store)) 0 self.old.history self.new.history
             × IsCaused answer (S.faults self.old.store) (S.faults self.new.store) (S.late self.old.store) (S.late self.new.store)
-            × IsAt self.old.passes pass (λ p. self.new.keeping ≡ owed_after answer p.block self.old.keeping) }
+            × IsAt self.old.passes pass (λ p. self.new.keeping ≡ keeper_after_write answer p.block self.old.keeping) }
         ensures keeps { KeepsStore S.Store self.old.store self.new.store }
         ensures others { self.new ≡ record self.old {
           store = self.new.store;

@@ -1,16 +1,1 @@
-pub mod History
-pub mod Contents
-pub mod Recovered
-pub mod Moments
-pub mod Growth
-pub mod Metadata
-pub mod Steps
-pub mod Writes
-pub mod Ends
-pub mod Opened
-pub mod Pieces
-pub mod Histories
-pub mod CrashSafe
-pub mod New
-pub mod Bits
-pub mod Drops
+-- The lemmas of each part stand in the folder of its functions, which the file beside it lists.

@@ -1,5 +1,3 @@
-pub mod Safe
-pub mod Facts
-pub mod Opened
-pub mod Words
-pub mod CrashSafe
+pub mod facts
+pub mod flushes
+pub mod primitives

@@ -9,7 +9,7 @@ use Rattle.std.proofs.lemmas.Fmt.{IsAscii-from_digits, digits_decimal, length-de
 use Rattle.std.proofs.lemmas.Slice.Eq.{bytes_eq-Decides}
 use Rattle.std.proofs.lemmas.Str.{IsUtf8-from_ascii}
 use Rattle.std.proofs.lemmas.Str.Parse.{IsNumeralModel, numerals_by_value, tells_by_index, parse_digits, digits_value_short}
-use Rattle.vd_decimal.specs.Numbers.{Spells, number_in, AreDigits, ArePlain}
+use Rattle.vd_decimal.specs.Numbers.{SpellsNumber, number_in, AreDigits, ArePlain}
 
 own : IsNumeralModel AreDigits (digits_value 10)
 own = numerals_by_value _ tells_by_index
@@ -25,30 +25,30 @@ one_zero n fits zero =
       | inr none ↦ ap length (decimal_digit n (omega arith))
     ]
 
-pub spells-plain : (most : ℕ) (bytes : List ℕ) (n : ℕ) → Spells most bytes n → ArePlain most bytes
+pub spells-plain : (most : ℕ) (bytes : List ℕ) (n : ℕ) → SpellsNumber most bytes n → ArePlain most bytes
 spells-plain most bytes n s = record {
   few = s.digits;
   digits = rw s.printed (digits_decimal own n s.fits);
   no_zero = λ many zero. let one : length bytes ≡ 1 = ap length s.printed ∙ one_zero n s.fits (rw s.printed at zero) in omega arith;
 }
 
-plain-spells : (most : ℕ) (bytes : List ℕ) → ArePlain most bytes → 0 < length bytes → digits_value 10 bytes < 2 ^ 64 → Spells most bytes (digits_value 10 bytes)
+plain-spells : (most : ℕ) (bytes : List ℕ) → ArePlain most bytes → 0 < length bytes → digits_value 10 bytes < 2 ^ 64 → SpellsNumber most bytes (digits_value 10 bytes)
 plain-spells most bytes p some fits = record {
   printed = sym (decimal-digits_value own bytes p.digits some (λ zero. elim (cases_lt 1 (length bytes)) [ inl many ↦ absurd (p.no_zero many zero) | inr one ↦ omega arith ]) fits);
   digits = p.few;
   fits = fits;
 }
 
-spells-value : (most : ℕ) (bytes : List ℕ) (n : ℕ) → Spells most bytes n → digits_value 10 bytes ≡ n
+spells-value : (most : ℕ) (bytes : List ℕ) (n : ℕ) → SpellsNumber most bytes n → digits_value 10 bytes ≡ n
 spells-value most bytes n s = rw s.printed (digits_value-decimal own n s.fits)
 
-spells-some : (most : ℕ) (bytes : List ℕ) (n : ℕ) → Spells most bytes n → 0 < length bytes
+spells-some : (most : ℕ) (bytes : List ℕ) (n : ℕ) → SpellsNumber most bytes n → 0 < length bytes
 spells-some most bytes n s = rw s.printed (decimal_nonempty n s.fits)
 
 parsed-some : {E : Type 0} (most : ℕ) (bytes : List ℕ) → ArePlain most bytes → (r : Result ℕ E) → OkIff r ((0 < length bytes) × (digits_value 10 bytes < 2 ^ 64)) (digits_value 10 bytes)
-    → (n : ℕ) → (result_ok r ≡ Some n) ↔ Spells most bytes n
+    → (n : ℕ) → (result_ok r ≡ Some n) ↔ SpellsNumber most bytes n
 parsed-some most bytes p (Ok m) ((some, fits), value) n = (
-  λ e. let same : m ≡ n = cc in subst (Spells most bytes) (sym value ∙ same) (plain-spells most bytes p some fits),
+  λ e. let same : m ≡ n = cc in subst (SpellsNumber most bytes) (sym value ∙ same) (plain-spells most bytes p some fits),
   λ s. ap Some (value ∙ spells-value most bytes n s),
 )
 parsed-some most bytes p (Err _) fails n = (
@@ -58,11 +58,11 @@ parsed-some most bytes p (Err _) fails n = (
 
 -- what is parsed is the number that is spelled
 pub parse-spells : {E : Type 0} (most : ℕ) (bytes : List ℕ) (r : Result ℕ E) → ArePlain most bytes → ParsesUnsigned 64 10 bytes r
-    → (n : ℕ) → (result_ok r ≡ Some n) ↔ Spells most bytes n
+    → (n : ℕ) → (result_ok r ≡ Some n) ↔ SpellsNumber most bytes n
 parse-spells most bytes r p parsed n = parsed-some most bytes p r (parse_digits own 64 bytes r parsed p.digits) n
 
 -- where the bytes have not the form, they spell none
-pub plain-none : (most : ℕ) (bytes : List ℕ) → (ArePlain most bytes → ⊥) → (n : ℕ) → (None ≡ Some n) ↔ Spells most bytes n
+pub plain-none : (most : ℕ) (bytes : List ℕ) → (ArePlain most bytes → ⊥) → (n : ℕ) → (None ≡ Some n) ↔ SpellsNumber most bytes n
 plain-none most bytes other n = (λ e. absurd (cc), λ s. absurd (other (spells-plain most bytes n s)))
 
 some-if : (b : Bool) (m n : ℕ) → cond b (Some m) None ≡ Some n → (b ≡ true) × (m ≡ n)
@@ -73,14 +73,14 @@ if-some : (b : Bool) (m n : ℕ) → b ≡ true → m ≡ n → cond b (Some m) 
 if-some true m n t e = ap Some e
 if-some false m n t e = absurd (cc)
 
-pub number_in-exact : (most : ℕ) (bytes : List ℕ) (n : ℕ) → (number_in most bytes ≡ Some n) ↔ Spells most bytes n
+pub number_in-exact : (most : ℕ) (bytes : List ℕ) (n : ℕ) → (number_in most bytes ≡ Some n) ↔ SpellsNumber most bytes n
 unfolding number_in
 number_in-exact most bytes n = (
   λ e.
       let found = some-if _ _ _ e in
       let both = and_parts _ _ found.0 in
       let first = and_parts _ _ both.0 in
-      subst (Spells most bytes) found.1 (record {
+      subst (SpellsNumber most bytes) found.1 (record {
         printed = (bytes_eq-Decides _ _).0 first.0;
         digits = leb-true _ _ first.1;
         fits = ltb-true _ _ both.1;
@@ -98,13 +98,13 @@ same-numbers None (Some n) f g = g n refl
 same-numbers (Some n) p f g = sym (f n refl)
 
 -- what is some number exactly where the bytes spell it is the number in them
-pub exact-value : (most : ℕ) (bytes : List ℕ) (o : Option ℕ) → ((n : ℕ) → (o ≡ Some n) ↔ Spells most bytes n) → o ≡ number_in most bytes
+pub exact-value : (most : ℕ) (bytes : List ℕ) (o : Option ℕ) → ((n : ℕ) → (o ≡ Some n) ↔ SpellsNumber most bytes n) → o ≡ number_in most bytes
 exact-value most bytes o exact =
     same-numbers o (number_in most bytes) (λ n e. (number_in-exact most bytes n).1 ((exact n).0 e)) (λ n e. (exact n).1 ((number_in-exact most bytes n).0 e))
 
 -- a number of so many digits
-pub spells-below : (most : ℕ) (bytes : List ℕ) (n : ℕ) → Spells most bytes n → n < 10 ^ most
+pub spells-below : (most : ℕ) (bytes : List ℕ) (n : ℕ) → SpellsNumber most bytes n → n < 10 ^ most
 spells-below most bytes n s = rw (← spells-value most bytes n s) (digits_value_short own bytes most (spells-plain most bytes n s).digits s.digits)
 
-pub decimal-spells : (most n : ℕ) → 0 < most → n < 10 ^ most → n < 2 ^ 64 → Spells most (decimal n) n
+pub decimal-spells : (most n : ℕ) → 0 < most → n < 10 ^ most → n < 2 ^ 64 → SpellsNumber most (decimal n) n
 decimal-spells most n some short fits = record { printed = refl; digits = length-decimal-le most n some short fits; fits = fits }

@@ -6,7 +6,7 @@ use Rattle.std.specs.Str.{bytes_eq}
 use Rattle.std.specs.Str.Parse.{digits_value}
 
 -- the bytes are what is printed for n, in at most so many digits
-pub record Spells (most : ℕ) (bytes : List ℕ) (n : ℕ) : Type 0 where
+pub record SpellsNumber (most : ℕ) (bytes : List ℕ) (n : ℕ) : Type 0 where
   pub printed : bytes ≡ decimal n
   pub digits : length bytes ≤ most
   pub fits : n < 2 ^ 64

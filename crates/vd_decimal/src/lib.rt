@@ -2,7 +2,7 @@
 #![tactic(auto)]
 
 ghost use Rattle.std.specs.Prelude.{◌≡◌, ◌↔◌, ℕ, Some, IsTrue};
-ghost use Rattle.vd_decimal.specs.Numbers.{Spells, number_in, AreDigits, ArePlain};
+ghost use Rattle.vd_decimal.specs.Numbers.{SpellsNumber, number_in, AreDigits, ArePlain};
 
 fn are_digits(bytes: &[u8]) -> bool
     ensures { IsTrue result ↔ AreDigits bytes.now }
@@ -20,7 +20,7 @@ fn are_plain(bytes: &[u8], most: usize) -> bool
 /// The number that the digits spell: with no sign, no leading zero but for `0` itself, and at most `most` digits.
 /// None exactly where they spell none below 2^64.
 pub fn read_number(digits: &[u8], most: usize) -> Option<u64>
-    ensures exact { (n : ℕ) → (result ≡ Some n) ↔ Spells most digits.now n }
+    ensures exact { (n : ℕ) → (result ≡ Some n) ↔ SpellsNumber most digits.now n }
     ensures value { result ≡ number_in most digits.now }
 {
     if !are_plain(digits, most) {

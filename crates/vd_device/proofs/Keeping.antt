@@ -4,7 +4,7 @@ use Rattle.std.proofs.lemmas.List.{append_assoc, append-nil}
 use Rattle.vd_law.specs.declared.entry.Sector.{Sector}
 use Rattle.vd_device.specs.declared.store.Store as store
 use Rattle.vd_device.specs.declared.base.Base as base
-use Rattle.vd_device.specs.Disks.{Disk, HasStood}
+use Rattle.vd_device.specs.Disks.{Disk, StoppedSince}
 use Rattle.vd_device.specs.Frames.{GoesOn, CountsStand, TellingStands, ContentStands}
 use Rattle.vd_device.specs.Stores.{IsTold, KeepsStore}
 use Rattle.vd_device.specs.Bases.{KeepsBase}
@@ -16,7 +16,7 @@ goes-on-twice a b c x y = record {
   log = y.log ∙ ap (λ l. l ++ y.more) x.log ∙ append_assoc a.log x.more y.more;
 }
 
-stood-twice : (m n : ℕ) (a b c : Disk) → HasStood m a b → HasStood n b c → HasStood n a c
+stood-twice : (m n : ℕ) (a b c : Disk) → StoppedSince m a b → StoppedSince n b c → StoppedSince n a c
 stood-twice m n a b c x y = record { stopped = y.stopped; start = y.start ∙ x.start; log = y.log ∙ x.log }
 
 pub counts-on : {S : Type 0} (sectors_of depth_of faults_of late_of : S → ℕ) (r s t : S) → CountsStand sectors_of depth_of faults_of late_of r s

@@ -7,14 +7,14 @@ use Rattle.std.proofs.lemmas.Bool.Decides.{leb_tells}
 use Rattle.vd_law.specs.declared.entry.Sector.{Sector}
 use Rattle.vd_law.specs.declared.entry.CallId.{CallId}
 use Rattle.vd_law.specs.Entries.{Entry, Ask, Read as Asks_read, Flush as Asks_flush, Issue, Done, Broke, Seen, Reply, past}
-use Rattle.vd_law.specs.Contents.{open_writes, opened, sector_in, written}
+use Rattle.vd_law.specs.Contents.{open_writes, open_after_issue, sector_in, issued_contents}
 use Rattle.vd_law.proofs.Appending.{after-push}
 use Rattle.vd_law.specs.declared.entry.Answer.TheVariants.{Ok as Fine, StoreFault}
 use Rattle.vd_device.specs.declared.ticket.Ticket.{Ticket}
 use Rattle.vd_device.specs.declared.ticket.Kind.TheVariants.{Read, Write, Flush}
 use Rattle.vd_device.specs.Tickets.{IsTicket}
-use Rattle.vd_device.specs.Calls.{asked_read, asked_flush, issued, done_entry, failed_entry}
-use Rattle.vd_device.specs.Disks.{Disk, IsCalmAt, IsRunning, HasStopped, Records, RecordsSome, GrowsBy}
+use Rattle.vd_device.specs.Calls.{ask_read_entry, ask_flush_entry, issue_entry, done_entry, failed_entry}
+use Rattle.vd_device.specs.Disks.{Disk, IsUnwrittenAt, IsRunning, HasStopped, Records, RecordsSome, GrowsBy}
 use Rattle.vd_device.specs.Now.{call_number, WritesBy}
 
 pub records_twice : (a b : Entry) (e0 e1 e2 : ℕ) (old mid new : Disk) → Records (a ∷ []) e0 e1 old mid → Records (b ∷ []) e1 e2 mid new → RecordsSome (a ∷ b ∷ []) e0 e2 old new
@@ -46,11 +46,11 @@ outside first content s h =
 
 -- a write leaves no sector open but its own
 pub calm_issued : (old mid : Disk) (id : CallId) (first : ℕ) (content : List Sector) (s : ℕ) → mid.log ≡ old.log ++ Issue id first content ∷ []
-    → (s < first) ⊎ (first + length content ≤ s) → IsCalmAt old s → IsCalmAt mid s
+    → (s < first) ⊎ (first + length content ≤ s) → IsUnwrittenAt old s → IsUnwrittenAt mid s
 calm_issued old mid id first content s log h calm =
     ap (λ (l : List Entry). open_writes (past l) s) log
     ∙ after-push (λ p. open_writes p s) old.log (Issue id first content)
-    ∙ ap (λ (v : Option Sector). opened id (length (written (past old.log) s) + 1) v ++ open_writes (past old.log) s) (outside first content s h)
+    ∙ ap (λ (v : Option Sector). open_after_issue id (length (issued_contents (past old.log) s) + 1) v ++ open_writes (past old.log) s) (outside first content s h)
     ∙ calm
 
 pub writes_twice : (id : CallId) (first : ℕ) (content : List Sector) (end : Entry) (old mid new : Disk)
@@ -67,10 +67,10 @@ writes_twice id first content end old mid new x y = record {
 
 -- The entries of a ticket whose number, kind and range are known.
 
-pub issued_is : (ticket : Ticket) (number first count : ℕ) (content : List Sector) → number ≡ ticket.number → IsTicket ticket Write first count → issued ticket content ≡ Issue (call_number number) first content
+pub issued_is : (ticket : Ticket) (number first count : ℕ) (content : List Sector) → number ≡ ticket.number → IsTicket ticket Write first count → issue_entry ticket content ≡ Issue (call_number number) first content
 issued_is ticket number first count content n t = let f = t.first_is in cc
 
-pub asked_is : (ticket : Ticket) (number first count : ℕ) → number ≡ ticket.number → IsTicket ticket Read first count → asked_read ticket ≡ Ask (call_number number) (Asks_read first count)
+pub asked_is : (ticket : Ticket) (number first count : ℕ) → number ≡ ticket.number → IsTicket ticket Read first count → ask_read_entry ticket ≡ Ask (call_number number) (Asks_read first count)
 asked_is ticket number first count n t = let f = t.first_is in let k = t.count_is in cc
 
 pub seen_is : (ticket : Ticket) (number first count : ℕ) (out : List Sector) → number ≡ ticket.number → IsTicket ticket Read first count → done_entry ticket.kind ticket out ≡ Seen (call_number number) first out
@@ -85,7 +85,7 @@ written_is ticket number first count out n t = rw t.kind_is cc
 pub broke_is : (ticket : Ticket) (number first count : ℕ) → number ≡ ticket.number → IsTicket ticket Write first count → failed_entry ticket.kind ticket ≡ Broke (call_number number)
 broke_is ticket number first count n t = rw t.kind_is cc
 
-pub flush_is : (ticket : Ticket) (number : ℕ) → number ≡ ticket.number → asked_flush ticket ≡ Ask (call_number number) Asks_flush
+pub flush_is : (ticket : Ticket) (number : ℕ) → number ≡ ticket.number → ask_flush_entry ticket ≡ Ask (call_number number) Asks_flush
 flush_is ticket number n = cc
 
 pub unflushed_is : (ticket : Ticket) (number : ℕ) → number ≡ ticket.number → ticket.kind ≡ Flush → failed_entry ticket.kind ticket ≡ Reply (call_number number) (StoreFault number 0)

@@ -1,9 +1,10 @@
 -- What the calls of a device do.
-use Rattle.std.specs.Prelude.{ℕ, ◌≡◌, ◌+◌, ◌-◌, ◌^◌, ◌≤◌, min, List, [], ◌∷◌, Some, slice_get}
+use Rattle.std.specs.Prelude.{ℕ, ◌≡◌, ◌+◌, ◌≤◌, List, [], ◌∷◌, Some, slice_get}
 use Rattle.vd_law.specs.declared.entry.Sector.{Sector}
 use Rattle.vd_law.specs.declared.entry.Answer.TheVariants.{Ok as Fine, StoreFault}
 use Rattle.vd_law.specs.Entries.{Read as Asks_read, Flush as Asks_flush, Entry, Ask, Issue, Done as Write_done, Broke, Seen, Reply}
 use Rattle.vd_law.specs.Contents.{sector_in}
+use Rattle.vd_law.specs.Counts.{Rose, next_count}
 use Rattle.vd_device.specs.declared.ticket.Ticket.{Ticket}
 use Rattle.vd_device.specs.declared.ticket.Kind.{Kind}
 use Rattle.vd_device.specs.declared.ticket.Kind.TheVariants.{Read, Write, Flush}
@@ -11,26 +12,22 @@ use Rattle.vd_device.specs.declared.settled.Settled.{Settled}
 use Rattle.vd_device.specs.declared.settled.Settled.TheVariants.{Done, NotYet, Failed}
 use Rattle.vd_device.specs.declared.settled.Waited.{Waited}
 use Rattle.vd_device.specs.declared.settled.Waited.TheVariants as waited
-use Rattle.vd_device.specs.Tickets.{ticket_id, Takes, Keeps}
+use Rattle.vd_device.specs.Tickets.{ticket_id, Takes, KeepsFlight}
 use Rattle.vd_device.specs.Disks.{Disk, GrowsBy}
 
 -- the number of the next ticket: they rise from 1, and the greatest u64 is given again
 abbrev pub next_number : ℕ → ℕ
-next_number last = min (last + 1) (2 ^ 64 - 1)
-
--- a count rose, or stands at the greatest u64
-abbrev pub Rose : (before after : ℕ) → Type 0
-Rose before after = next_number before ≤ after
+next_number last = next_count last
 
 -- the entries with which a call begins
-abbrev pub asked_read : Ticket → Entry
-asked_read ticket = Ask (ticket_id ticket) (Asks_read ticket.first ticket.count)
+abbrev pub ask_read_entry : Ticket → Entry
+ask_read_entry ticket = Ask (ticket_id ticket) (Asks_read ticket.first ticket.count)
 
-abbrev pub asked_flush : Ticket → Entry
-asked_flush ticket = Ask (ticket_id ticket) Asks_flush
+abbrev pub ask_flush_entry : Ticket → Entry
+ask_flush_entry ticket = Ask (ticket_id ticket) Asks_flush
 
-abbrev pub issued : Ticket → List Sector → Entry
-issued ticket content = Issue (ticket_id ticket) ticket.first content
+abbrev pub issue_entry : Ticket → List Sector → Entry
+issue_entry ticket content = Issue (ticket_id ticket) ticket.first content
 
 -- the entry with which a call of this kind is done, with what was read
 abbrev pub done_entry : Kind → Ticket → List Sector → Entry
@@ -52,18 +49,18 @@ settled_of (waited.Failed number) = Failed number
 -- How the ticket went on: it has left the flight, or it stays in it and nothing was read.
 abbrev pub Settles : Settled → Ticket → (out out' : List Sector) → (List Ticket → Type 0) → (List Ticket → Type 0) → Type 0
 Settles Done ticket out out' old new = Takes ticket old new
-Settles (NotYet same) ticket out out' old new = (same ≡ ticket) × (out' ≡ out) × Keeps old new
+Settles (NotYet same) ticket out out' old new = (same ≡ ticket) × (out' ≡ out) × KeepsFlight old new
 Settles (Failed number) ticket out out' old new = (number ≡ ticket.number) × (out' ≡ out) × Takes ticket old new
 
 -- no count of failed or late calls falls
-abbrev pub IsCalm : (faults faults' late late' : ℕ) → Type 0
-IsCalm faults faults' late late' = (faults ≤ faults') × (late ≤ late')
+abbrev pub CountsNeverFall : (faults faults' late late' : ℕ) → Type 0
+CountsNeverFall faults faults' late late' = (faults ≤ faults') × (late ≤ late')
 
 -- A failure and a delay have their cause: the count of them rose in this call, or stands at its last value.
 abbrev pub IsCaused : Settled → (faults faults' late late' : ℕ) → Type 0
-IsCaused Done faults faults' late late' = IsCalm faults faults' late late'
-IsCaused (NotYet same) faults faults' late late' = IsCalm faults faults' late late' × Rose late late'
-IsCaused (Failed number) faults faults' late late' = IsCalm faults faults' late late' × Rose faults faults'
+IsCaused Done faults faults' late late' = CountsNeverFall faults faults' late late'
+IsCaused (NotYet same) faults faults' late late' = CountsNeverFall faults faults' late late' × Rose late late'
+IsCaused (Failed number) faults faults' late late' = CountsNeverFall faults faults' late late' × Rose faults faults'
 
 -- the call isn't done
 abbrev pub IsUndone : Settled → Type 0

@@ -3,7 +3,7 @@ use Rattle.std.specs.Prelude.{ℕ, ◌≡◌, ◌+◌, ◌<◌, ◌≤◌, ◌�
 use Rattle.std.specs.List.{All, Contains}
 use Rattle.vd_law.specs.declared.entry.Sector.{Sector}
 use Rattle.vd_law.specs.Entries.{Entry, past}
-use Rattle.vd_law.specs.Contents.{Open, could, open_writes, last_done, written}
+use Rattle.vd_law.specs.Contents.{Open, could, open_writes, last_done, issued_contents}
 use Rattle.vd_device.specs.declared.ticket.Ticket.{Ticket}
 use Rattle.vd_device.specs.declared.ticket.Kind.TheVariants.{Write}
 use Rattle.vd_device.specs.Tickets.{ticket_id}
@@ -19,12 +19,12 @@ abbrev pub IsHonest : Disk → Type 0
 IsHonest d = (s : ℕ) (v : Sector) → slice_get d.held s ≡ Some v → Contains (could d.start d.log s) v
 
 -- no write to sector s is open
-abbrev pub IsCalmAt : Disk → ℕ → Type 0
-IsCalmAt d s = open_writes (past d.log) s ≡ []
+abbrev pub IsUnwrittenAt : Disk → ℕ → Type 0
+IsUnwrittenAt d s = open_writes (past d.log) s ≡ []
 
 -- what is held changed only where a write is open before or after
 abbrev pub KeepsOthers : Disk → Disk → Type 0
-KeepsOthers old new = (s : ℕ) → IsCalmAt old s → IsCalmAt new s → slice_get new.held s ≡ slice_get old.held s
+KeepsOthers old new = (s : ℕ) → IsUnwrittenAt old s → IsUnwrittenAt new s → slice_get new.held s ≡ slice_get old.held s
 
 -- an honest store took these further events, and no others
 pub record GrowsBy (events : List Entry) (old new : Disk) : Type 0 where
@@ -51,14 +51,14 @@ abbrev pub TellsOrStopped : (tells : Type 0) → (events : ℕ) → Disk → Typ
 TellsOrStopped tells events d = tells ⊎ HasStopped events d
 
 -- It has stopped, and its log stands as it stood before.
-pub record HasStood (events : ℕ) (old new : Disk) : Type 0 where
+pub record StoppedSince (events : ℕ) (old new : Disk) : Type 0 where
   pub stopped : HasStopped events new
   pub start : new.start ≡ old.start
   pub log : new.log ≡ old.log
 
 -- A store whose log is told tells all after a call, or it has stopped, before the call or in it.
-abbrev pub TellsOrStood : (tells : Type 0) → (events : ℕ) → (old new : Disk) → Type 0
-TellsOrStood tells events old new = tells ⊎ HasStood events old new
+abbrev pub TellsOrStoppedSince : (tells : Type 0) → (events : ℕ) → (old new : Disk) → Type 0
+TellsOrStoppedSince tells events old new = tells ⊎ StoppedSince events old new
 
 -- A store whose log is told took these further events in one call, or has stopped before or in it. After a stop the log
 -- stands as it stood.
@@ -86,4 +86,4 @@ AreWrites tickets d = (s : ℕ) → All (IsOneOf tickets s) (open_writes (past d
 
 -- Nothing is being written, and in each sector the last write is done: no write failed without a later one that is done.
 abbrev pub IsClean : Disk → Type 0
-IsClean d = (s : ℕ) → IsCalmAt d s × (last_done (past d.log) s ≡ length (written (past d.log) s))
+IsClean d = (s : ℕ) → IsUnwrittenAt d s × (last_done (past d.log) s ≡ length (issued_contents (past d.log) s))

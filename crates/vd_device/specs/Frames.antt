@@ -3,7 +3,7 @@ use Rattle.std.specs.Prelude.{ℕ, ◌≡◌, ◌≤◌, List, ◌++◌}
 use Rattle.vd_law.specs.declared.entry.Sector.{Sector}
 use Rattle.vd_law.specs.Entries.{Entry}
 use Rattle.vd_device.specs.declared.ticket.Ticket.{Ticket}
-use Rattle.vd_device.specs.Disks.{Disk, GrowsBy, HasStopped, HasStood, Records, TellsOrStopped}
+use Rattle.vd_device.specs.Disks.{Disk, GrowsBy, HasStopped, StoppedSince, Records, TellsOrStopped}
 use Rattle.vd_device.specs.Calls.{next_number}
 
 -- the log before is the front of the log after, from the same start
@@ -28,7 +28,7 @@ module _ {S : Type 0} where
     pub recorded_before : logs_of s' → logs_of s
     pub goes_on : logs_of s' → GoesOn (disk_of s) (disk_of s')
     pub state : logs_of s' → TellsOrStopped (tells_of s') (events_of s') (disk_of s')
-    pub stood : logs_of s' → HasStopped (events_of s) (disk_of s) → HasStood (events_of s') (disk_of s) (disk_of s')
+    pub stood : logs_of s' → HasStopped (events_of s) (disk_of s) → StoppedSince (events_of s') (disk_of s) (disk_of s')
 
   -- A store took these events in one call, and no others: all of them where it tells, all or none where it logs.
   pub record TakesEvents (tells_of logs_of : S → Type 0) (disk_of : S → Disk) (events_of : S → ℕ) (es : List Entry) (s s' : S) : Type 0 where
@@ -42,6 +42,6 @@ module _ {S : Type 0} where
     pub content : tells_of s' → content_of s' ≡ content_of s
 
   -- the ticket has the next number, which is the last one from now on
-  pub record IsNext (last_of : S → ℕ) (ticket : Ticket) (s s' : S) : Type 0 where
+  pub record IsNextTicket (last_of : S → ℕ) (ticket : Ticket) (s s' : S) : Type 0 where
     pub number : ticket.number ≡ next_number (last_of s)
     pub last : last_of s' ≡ ticket.number

@@ -6,3 +6,4 @@ pub mod Now
 pub mod Orders
 pub mod Stores
 pub mod Bases
+pub mod Quiet

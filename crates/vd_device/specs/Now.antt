@@ -4,7 +4,7 @@ use Rattle.vd_law.specs.declared.entry.Sector.{Sector}
 use Rattle.vd_law.specs.declared.entry.CallId.{CallId}
 use Rattle.vd_law.specs.declared.entry.Answer.TheVariants.{Ok as Fine, StoreFault}
 use Rattle.vd_law.specs.Entries.{Read, Flush, Entry, Ask, Issue, Done, Broke, Seen, Reply}
-use Rattle.vd_device.specs.Disks.{Disk, IsHonest, IsCalmAt}
+use Rattle.vd_device.specs.Disks.{Disk, IsHonest, IsUnwrittenAt}
 
 -- the call of the ticket with this number
 abbrev pub call_number : ℕ → CallId
@@ -25,7 +25,7 @@ flush_entries number (Err failed) = Ask (call_number number) Flush ∷ Reply (ca
 
 -- What is held changed only in the range, and where a write is open before or after.
 abbrev pub KeepsOutside : (first count : ℕ) → Disk → Disk → Type 0
-KeepsOutside first count old new = (s : ℕ) → (s < first) ⊎ (first + count ≤ s) → IsCalmAt old s → IsCalmAt new s → slice_get new.held s ≡ slice_get old.held s
+KeepsOutside first count old new = (s : ℕ) → (s < first) ⊎ (first + count ≤ s) → IsUnwrittenAt old s → IsUnwrittenAt new s → slice_get new.held s ≡ slice_get old.held s
 
 -- an honest store took these entries of one write to this range
 pub record WritesBy (entries : List Entry) (first count : ℕ) (old new : Disk) : Type 0 where

@@ -5,10 +5,11 @@ use Rattle.vd_law.specs.Entries.{Entry}
 use Rattle.vd_device.specs.declared.store.Store as store
 use Rattle.vd_device.specs.declared.ticket.Ticket.{Ticket}
 use Rattle.vd_device.specs.declared.settled.Settled.{Settled}
-use Rattle.vd_device.specs.Tickets.{Keeps, Puts}
+use Rattle.vd_device.specs.Tickets.{KeepsFlight, Puts}
 use Rattle.vd_device.specs.Disks.{HasStopped, RecordsSome, TellsOrStopped}
-use Rattle.vd_device.specs.Calls.{Gives, IsCaused, IsUndone, Rose, Settles, next_number, settle_entries}
-use Rattle.vd_device.specs.Frames.{CountsStand, TellingStands, TakesEvents, IsNext}
+use Rattle.vd_device.specs.Calls.{Gives, IsCaused, IsUndone, Settles, next_number, settle_entries}
+use Rattle.vd_device.specs.Frames.{CountsStand, TellingStands, TakesEvents, IsNextTicket}
+use Rattle.vd_law.specs.Counts.{Rose}
 
 module _ {S : Type 0} (g : store.Ghosts S) where
   -- where it logs, it tells all or has stopped
@@ -32,15 +33,15 @@ module _ {S : Type 0} (g : store.Ghosts S) where
 
   -- a call was submitted, and this entry is its beginning
   pub record Submits (ticket : Ticket) (entry : Entry) (s s' : S) : Type 0 where
-    pub next : IsNext g.last ticket s s'
+    pub next : IsNextTicket g.last ticket s s'
     pub rises : g.tells s' → g.last s < ticket.number
-    pub flight : Puts ticket (g.flies s) (g.flies s')
+    pub flight : Puts ticket (g.flight s) (g.flight s')
     pub counts : StoreCountsStand s s'
     pub takes : StoreTakes (entry ∷ []) s s'
 
   -- A call was settled. A store that has stopped answers no call Done.
   pub record SettlesCall (answer : Settled) (ticket : Ticket) (out out' : List Sector) (s s' : S) : Type 0 where
-    pub settles : Settles answer ticket out out' (g.flies s) (g.flies s')
+    pub settles : Settles answer ticket out out' (g.flight s) (g.flight s')
     pub cause : IsCaused answer (g.faults s) (g.faults s') (g.late s) (g.late s')
     pub last : g.last s' ≡ g.last s
     pub counts : StoreCountsStand s s'
@@ -53,6 +54,6 @@ module _ {S : Type 0} (g : store.Ghosts S) where
     pub number : g.last s' ≡ next_number (g.last s)
     pub fault : IfErr result (λ (n : ℕ). n ≡ g.last s')
     pub cause : OnErr result (Rose (g.faults s) (g.faults s'))
-    pub flight : Keeps (g.flies s) (g.flies s')
+    pub flight : KeepsFlight (g.flight s) (g.flight s')
     pub keeps : KeepsStore s s'
     pub recorded : g.records s' → RecordsSome es (g.events s) (g.events s') (g.disk s) (g.disk s')

@@ -16,21 +16,21 @@ pub record IsTicket (ticket : Ticket) (kind : Kind) (first count : ℕ) : Type 0
   pub count_is : ticket.count ≡ count
 
 -- the two ranges have no sector in common
-abbrev pub AreApart : (first count other_first other_count : ℕ) → Type 0
-AreApart first count other_first other_count = (first + count ≤ other_first) ⊎ (other_first + other_count ≤ first)
+abbrev pub AreRangesApart : (first count other_first other_count : ℕ) → Type 0
+AreRangesApart first count other_first other_count = (first + count ≤ other_first) ⊎ (other_first + other_count ≤ first)
 
 -- a write doesn't touch the range
 abbrev pub IsClear : (first count : ℕ) → Ticket → Type 0
-IsClear first count t = t.kind ≡ Write → AreApart t.first t.count first count
+IsClear first count t = t.kind ≡ Write → AreRangesApart t.first t.count first count
 
 -- fewer tickets than `depth` are in flight
 abbrev pub HasPlace : (List Ticket → Type 0) → (depth : ℕ) → Type 0
-HasPlace flies depth = (tickets : List Ticket) × flies tickets × (length tickets < depth)
+HasPlace flight depth = (tickets : List Ticket) × flight tickets × (length tickets < depth)
 
 -- fewer tickets than `depth` are in flight, and no write among them touches the range
 abbrev pub IsFree : (List Ticket → Type 0) → (depth first count : ℕ) → Type 0
-IsFree flies depth first count =
-    (tickets : List Ticket) × flies tickets × (length tickets < depth) × AllByRecursion (IsClear first count) tickets
+IsFree flight depth first count =
+    (tickets : List Ticket) × flight tickets × (length tickets < depth) × AllByRecursion (IsClear first count) tickets
 
 -- these are the others, and the ticket stands somewhere among them
 pub record HasAmong (ticket : Ticket) (others all : List Ticket) : Type 0 where
@@ -48,11 +48,11 @@ abbrev pub Takes : Ticket → (List Ticket → Type 0) → (List Ticket → Type
 Takes ticket old new = (others all : List Ticket) → HasAmong ticket others all → old all → new others
 
 -- what was in flight is so now
-abbrev pub Keeps : (List Ticket → Type 0) → (List Ticket → Type 0) → Type 0
-Keeps old new = (tickets : List Ticket) → old tickets → new tickets
+abbrev pub KeepsFlight : (List Ticket → Type 0) → (List Ticket → Type 0) → Type 0
+KeepsFlight old new = (tickets : List Ticket) → old tickets → new tickets
 
 abbrev pub IsInFlight : (List Ticket → Type 0) → Ticket → Type 0
-IsInFlight flies ticket = (others : List Ticket) × (all : List Ticket) × HasAmong ticket others all × flies all
+IsInFlight flight ticket = (others : List Ticket) × (all : List Ticket) × HasAmong ticket others all × flight all
 
 abbrev pub reads_of : Kind → ℕ → ℕ
 reads_of Read count = count
@@ -60,8 +60,8 @@ reads_of Write count = 0
 reads_of Flush count = 0
 
 -- how many sectors the ticket reads
-abbrev pub reads : Ticket → ℕ
-reads ticket = reads_of ticket.kind ticket.count
+abbrev pub sectors_read : Ticket → ℕ
+sectors_read ticket = reads_of ticket.kind ticket.count
 
 -- in a store's log a call is of pass 0, and its number is its ticket's
 abbrev pub ticket_id : Ticket → CallId

@@ -4,8 +4,8 @@ ghost use Rattle.std.specs.Prelude.{◌≡◌, ◌+◌, ◌-◌, ◌*◌, ◌^�
 ghost use Rattle.vd_law.specs.declared.entry.Sector.{Sector as AnySector};
 ghost use Rattle.vd_device.specs.declared.ticket.Ticket.{Ticket as AnyTicket};
 ghost use Rattle.vd_device.specs.declared.ticket.Kind.TheVariants.{Read};
-ghost use Rattle.vd_device.specs.Tickets.{IsRange, IsFree, IsInFlight, Puts, IsTicket, reads};
-ghost use Rattle.vd_device.specs.Frames.{ContentStands, CountsStand, IsNext};
+ghost use Rattle.vd_device.specs.Tickets.{IsRange, IsFree, IsInFlight, Puts, IsTicket, sectors_read};
+ghost use Rattle.vd_device.specs.Frames.{ContentStands, CountsStand, IsNextTicket};
 ghost use Rattle.vd_device.specs.Calls.{Gives, Settles, IsCaused, settled_of};
 
 use crate::settled::{Settled, Waited};
@@ -20,7 +20,7 @@ pub trait Base {
     ghost content: { Self → List AnySector };
 
     /// These tickets are in flight, in whatever order.
-    ghost flies: { Self → List AnyTicket → Type 0 };
+    ghost flight: { Self → List AnyTicket → Type 0 };
 
     /// How many sectors it has. This never changes.
     ghost sectors: { Self → ℕ };
@@ -53,25 +53,25 @@ pub trait Base {
 
     /// How many tickets are in flight.
     fn in_flight(&self) -> u64
-        ensures many { (tickets : List AnyTicket) → flies self.now tickets → result ≡ length tickets }
-        ensures none { result ≡ 0 → flies self.now [] };
+        ensures many { (tickets : List AnyTicket) → flight self.now tickets → result ≡ length tickets }
+        ensures none { result ≡ 0 → flight self.now [] };
 
     /// Submits a read of `count` sectors from `first` on.
     fn submit_read(&mut self, first: u64, count: u64) -> Ticket
         requires range { IsRange (sectors self.old) first count }
-        requires free { IsFree (flies self.old) (depth self.old) first count }
+        requires free { IsFree (flight self.old) (depth self.old) first count }
         ensures ticket { IsTicket result Read first count }
-        ensures next { IsNext last result self.old self.new }
-        ensures flight { Puts result (flies self.old) (flies self.new) }
+        ensures next { IsNextTicket last result self.old self.new }
+        ensures flight { Puts result (flight self.old) (flight self.new) }
         ensures counts { CountsStand sectors depth faults late self.old self.new }
         ensures telling { ContentStands tells content self.old self.new };
 
     /// Asks once how the ticket went on. `out` has as many sectors as the ticket reads; it is left as it was where the
     /// answer isn't Done. Failed and NotYet come only where their count rose or stands at the greatest u64.
     fn settle(&mut self, ticket: Ticket, out: &mut [Sector]) -> Settled
-        requires mine { IsInFlight (flies self.old) ticket }
-        requires room { length out.old ≡ reads ticket }
-        ensures settles { Settles result ticket out.old out.new (flies self.old) (flies self.new) }
+        requires mine { IsInFlight (flight self.old) ticket }
+        requires room { length out.old ≡ sectors_read ticket }
+        ensures settles { Settles result ticket out.old out.new (flight self.old) (flight self.new) }
         ensures cause { IsCaused result (faults self.old) (faults self.new) (late self.old) (late self.new) }
         ensures last { last self.new ≡ last self.old }
         ensures counts { CountsStand sectors depth faults late self.old self.new }
@@ -80,9 +80,9 @@ pub trait Base {
 
     /// Waits for the ticket's end. It always returns. Else as `settle`.
     fn wait(&mut self, ticket: Ticket, out: &mut [Sector]) -> Waited
-        requires mine { IsInFlight (flies self.old) ticket }
-        requires room { length out.old ≡ reads ticket }
-        ensures settles { Settles (settled_of result) ticket out.old out.new (flies self.old) (flies self.new) }
+        requires mine { IsInFlight (flight self.old) ticket }
+        requires room { length out.old ≡ sectors_read ticket }
+        ensures settles { Settles (settled_of result) ticket out.old out.new (flight self.old) (flight self.new) }
         ensures cause { IsCaused (settled_of result) (faults self.old) (faults self.new) (late self.old) (late self.new) }
         ensures last { last self.new ≡ last self.old }
         ensures counts { CountsStand sectors depth faults late self.old self.new }

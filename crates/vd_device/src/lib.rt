@@ -4,6 +4,7 @@
 mod base;
 mod now;
 mod patient;
+mod quiet;
 mod settled;
 mod store;
 mod ticket;
@@ -11,6 +12,7 @@ mod ticket;
 pub use base::Base;
 pub use now::{flush_now, read_base, read_now, write_now};
 pub use patient::Patient;
+pub use quiet::{flush_only, read_only, sectors_at_rest};
 pub use settled::{Settled, Waited};
 pub use store::Store;
 pub use ticket::{Kind, Ticket};

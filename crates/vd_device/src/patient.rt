@@ -45,7 +45,7 @@ impl<D: Store> Store for Patient<D> {
 
     ghost disk = { λ p. D.disk p.inner };
 
-    ghost flies = { λ p. D.flies p.inner };
+    ghost flight = { λ p. D.flight p.inner };
 
     ghost sectors = { λ p. D.sectors p.inner };
 
@@ -109,7 +109,7 @@ impl<D: Base> Base for Patient<D> {
 
     ghost content = { λ p. D.content p.inner };
 
-    ghost flies = { λ p. D.flies p.inner };
+    ghost flight = { λ p. D.flight p.inner };
 
     ghost sectors = { λ p. D.sectors p.inner };
 

@@ -3,11 +3,11 @@
 ghost use Rattle.std.specs.Prelude.{◌≡◌, ◌+◌, ◌-◌, ◌*◌, ◌^◌, ◌<◌, ◌≤◌, ℕ, List, [], ◌∷◌, length};
 ghost use Rattle.vd_device.specs.declared.ticket.Ticket.{Ticket as AnyTicket};
 ghost use Rattle.vd_device.specs.declared.ticket.Kind.TheVariants.{Read, Write, Flush};
-ghost use Rattle.vd_device.specs.Tickets.{IsRange, HasPlace, IsFree, IsInFlight, Puts, IsTicket, reads};
+ghost use Rattle.vd_device.specs.Tickets.{IsRange, HasPlace, IsFree, IsInFlight, Puts, IsTicket, sectors_read};
 ghost use Rattle.vd_device.specs.Disks.{Disk, AreWrites, HasStopped, IsHonest, IsRunning, TellsOrStopped};
-ghost use Rattle.vd_device.specs.Frames.{CountsStand, IsNext, TakesEvents};
+ghost use Rattle.vd_device.specs.Frames.{CountsStand, IsNextTicket, TakesEvents};
 ghost use Rattle.vd_device.specs.Orders.{IsInOrder};
-ghost use Rattle.vd_device.specs.Calls.{Gives, Settles, IsCaused, IsUndone, asked_read, asked_flush, issued, settled_of, settle_entries};
+ghost use Rattle.vd_device.specs.Calls.{Gives, Settles, IsCaused, IsUndone, ask_read_entry, ask_flush_entry, issue_entry, settled_of, settle_entries};
 
 use crate::settled::{Settled, Waited};
 use crate::ticket::Ticket;
@@ -28,7 +28,7 @@ pub trait Store {
     ghost disk: { Self → Disk };
 
     /// These tickets are in flight, in whatever order.
-    ghost flies: { Self → List AnyTicket → Type 0 };
+    ghost flight: { Self → List AnyTicket → Type 0 };
 
     /// How many sectors it has. This never changes.
     ghost sectors: { Self → ℕ };
@@ -65,10 +65,10 @@ pub trait Store {
 
     /// How many tickets are in flight.
     fn in_flight(&self) -> u64
-        ensures many { (tickets : List AnyTicket) → flies self.now tickets → result ≡ length tickets }
-        ensures none { result ≡ 0 → flies self.now [] }
+        ensures many { (tickets : List AnyTicket) → flight self.now tickets → result ≡ length tickets }
+        ensures none { result ≡ 0 → flight self.now [] }
         // each write that is open in the log is in flight
-        ensures writes { tells self.now → (tickets : List AnyTicket) → flies self.now tickets → AreWrites tickets (disk self.now) }
+        ensures writes { tells self.now → (tickets : List AnyTicket) → flight self.now tickets → AreWrites tickets (disk self.now) }
         // what reads give could stand there by the log
         ensures honest { tells self.now → IsHonest (disk self.now) }
         // each write was begun inside it where none was open, and each read was given what could be there
@@ -84,42 +84,42 @@ pub trait Store {
     /// Submits a write of `content` to the sectors from `first` on.
     fn submit_write(&mut self, first: u64, content: &[Sector]) -> Ticket
         requires range { IsRange (sectors self.old) first (length content.now) }
-        requires free { IsFree (flies self.old) (depth self.old) first (length content.now) }
+        requires free { IsFree (flight self.old) (depth self.old) first (length content.now) }
         ensures ticket { IsTicket result Write first (length content.now) }
-        ensures next { IsNext last result self.old self.new }
+        ensures next { IsNextTicket last result self.old self.new }
         ensures rises { tells self.new → last self.old < result.number }
-        ensures flight { Puts result (flies self.old) (flies self.new) }
+        ensures flight { Puts result (flight self.old) (flight self.new) }
         ensures counts { CountsStand sectors depth faults late self.old self.new }
-        ensures takes { TakesEvents tells records disk events (issued result content.now ∷ []) self.old self.new };
+        ensures takes { TakesEvents tells records disk events (issue_entry result content.now ∷ []) self.old self.new };
 
     /// Submits a read of `count` sectors from `first` on.
     fn submit_read(&mut self, first: u64, count: u64) -> Ticket
         requires range { IsRange (sectors self.old) first count }
-        requires free { IsFree (flies self.old) (depth self.old) first count }
+        requires free { IsFree (flight self.old) (depth self.old) first count }
         ensures ticket { IsTicket result Read first count }
-        ensures next { IsNext last result self.old self.new }
+        ensures next { IsNextTicket last result self.old self.new }
         ensures rises { tells self.new → last self.old < result.number }
-        ensures flight { Puts result (flies self.old) (flies self.new) }
+        ensures flight { Puts result (flight self.old) (flight self.new) }
         ensures counts { CountsStand sectors depth faults late self.old self.new }
-        ensures takes { TakesEvents tells records disk events (asked_read result ∷ []) self.old self.new };
+        ensures takes { TakesEvents tells records disk events (ask_read_entry result ∷ []) self.old self.new };
 
     /// Submits a flush: once it is done, each write that was done before this call is durable.
     fn submit_flush(&mut self) -> Ticket
-        requires place { HasPlace (flies self.old) (depth self.old) }
+        requires place { HasPlace (flight self.old) (depth self.old) }
         ensures kind { result.kind ≡ Flush }
-        ensures next { IsNext last result self.old self.new }
+        ensures next { IsNextTicket last result self.old self.new }
         ensures rises { tells self.new → last self.old < result.number }
-        ensures flight { Puts result (flies self.old) (flies self.new) }
+        ensures flight { Puts result (flight self.old) (flight self.new) }
         ensures counts { CountsStand sectors depth faults late self.old self.new }
-        ensures takes { TakesEvents tells records disk events (asked_flush result ∷ []) self.old self.new };
+        ensures takes { TakesEvents tells records disk events (ask_flush_entry result ∷ []) self.old self.new };
 
     /// Asks once how the ticket went on. `out` has as many sectors as the ticket reads, else none; it is left as it was
     /// where the answer isn't Done. Failed comes only where the count of faults rose, NotYet only where that of late
     /// settles did, or where these stand at the greatest u64. A store that has stopped never answers Done.
     fn settle(&mut self, ticket: Ticket, out: &mut [Sector]) -> Settled
-        requires mine { IsInFlight (flies self.old) ticket }
-        requires room { length out.old ≡ reads ticket }
-        ensures settles { Settles result ticket out.old out.new (flies self.old) (flies self.new) }
+        requires mine { IsInFlight (flight self.old) ticket }
+        requires room { length out.old ≡ sectors_read ticket }
+        ensures settles { Settles result ticket out.old out.new (flight self.old) (flight self.new) }
         ensures cause { IsCaused result (faults self.old) (faults self.new) (late self.old) (late self.new) }
         ensures last { last self.new ≡ last self.old }
         ensures counts { CountsStand sectors depth faults late self.old self.new }
@@ -130,9 +130,9 @@ pub trait Store {
 
     /// Waits for the ticket's end. It always returns. Else as `settle`.
     fn wait(&mut self, ticket: Ticket, out: &mut [Sector]) -> Waited
-        requires mine { IsInFlight (flies self.old) ticket }
-        requires room { length out.old ≡ reads ticket }
-        ensures settles { Settles (settled_of result) ticket out.old out.new (flies self.old) (flies self.new) }
+        requires mine { IsInFlight (flight self.old) ticket }
+        requires room { length out.old ≡ sectors_read ticket }
+        ensures settles { Settles (settled_of result) ticket out.old out.new (flight self.old) (flight self.new) }
         ensures cause { IsCaused (settled_of result) (faults self.old) (faults self.new) (late self.old) (late self.new) }
         ensures last { last self.new ≡ last self.old }
         ensures counts { CountsStand sectors depth faults late self.old self.new }

@@ -5,16 +5,17 @@ use Rattle.std.proofs.lemmas.Bool.{cases_eq, eq-eqb, ne_eqb, or_cases, or_left, 
 use Rattle.vd_image.specs.Log.{Sector, CallId, Entry, Write, Flush, Fine, Ask, Issue, Done, Reply, At}
 use Rattle.vd_image.specs.Image.{Fact}
 use Rattle.vd_image.proofs.Logs.{at_below}
-use Rattle.vd_crash.specs.Safe.{NumberedEntry, Opening}
-use Rattle.vd_crash.specs.Facts.{Discards, Memory, Numbered}
-use Rattle.vd_crash.specs.Words.{IsDropWrite, IsDiscarded, IsUpdated, AreOthers, WritesOnly, Sealing, discarded_memory, with_index, sealed_memory}
-use Rattle.vd_crash.specs.Opened.{IsAtOpening}
-use Rattle.vd_flushes.specs.Moves.{entry_now}
-use Rattle.vd_flushes.specs.Flushing.{Snapshot, snapshot_of, IsOffAfter, IsReleased, IsLogged, IsWantedRecord, IsWantedMapping}
-use Rattle.vd_flushes.specs.Stage.{Flight, Idle, Answering, Progress, IsLoggedBy}
-use Rattle.vd_primitives.specs.Core.{Resting, Sending, Working, Putting, Syncing}
-use Rattle.vd_primitives.specs.Primitives.{State, state, at_rest, nothing_put, IsPrimitive, Notes, Begins, Data_flushed, Puts_record, Put_done, Syncs, Synced, Seals, Answers, Drops, Marks, Interleaves, Nothing, Then}
+use Rattle.vd_crash.specs.facts.Safe.{NumberedEntry, Opening}
+use Rattle.vd_crash.specs.facts.Facts.{HasEntry}
+use Rattle.vd_crash.specs.facts.Words.{IsDropWrite, IsDiscarded, IsUpdated, AreOthers, WritesOnly, Sealing, discarded_memory, with_index, sealed_memory}
+use Rattle.vd_crash.specs.facts.Opened.{IsAtOpening}
+use Rattle.vd_crash.specs.flushes.Moves.{entry_now}
+use Rattle.vd_crash.specs.flushes.Flushing.{Snapshot, snapshot_of, IsOffAfter, IsReleased, IsLogged, IsWantedRecord, IsWantedMapping}
+use Rattle.vd_crash.specs.flushes.Stage.{Flight, Idle, Answering, Progress, IsLoggedBy}
+use Rattle.vd_crash.specs.primitives.Core.{Resting, Sending, Working, Putting, Syncing}
+use Rattle.vd_crash.specs.primitives.Primitives.{State, state, at_rest, nothing_put, IsPrimitive, Notes, Begins, Data_flushed, Puts_record, Put_done, Syncs, Synced, Seals, Answers, Drops, Marks, Interleaves, Nothing, Then}
 use Rattle.vd_discard.specs.Released.{loss, IsReleasing}
+use Rattle.vd_crash.specs.facts.Memory.{Discards, Memory}
 
 -- one value is put at one place
 abbrev put : {X : Type 0} → (ℕ → X) → ℕ → X → ℕ → X
@@ -110,7 +111,7 @@ no_reply : (d f : CallId) → Reply d Fine ≡ Ask f Flush → ⊥
 no_reply d f same = cc
 
 -- no flush but this one is asked for
-flush_asked : (log : List Entry) (d f : CallId) (first : ℕ) (content : List Sector) (b i : ℕ) → Numbered (asked_flush log d f first content) b i (Ask f Flush) → b ≡ 4
+flush_asked : (log : List Entry) (d f : CallId) (first : ℕ) (content : List Sector) (b i : ℕ) → HasEntry (asked_flush log d f first content) b i (Ask f Flush) → b ≡ 4
 flush_asked log d f first content zero i at = absurd (no_flush d f first content (asked_first _ _ at))
 flush_asked log d f first content (suc zero) i at = absurd (no_issue d f first content (asked_first _ _ at))
 flush_asked log d f first content (suc (suc zero)) i at = absurd (no_done d f (asked_first _ _ at))
@@ -118,7 +119,7 @@ flush_asked log d f first content (suc (suc (suc zero))) i at = absurd (no_reply
 flush_asked log d f first content (suc (suc (suc (suc zero)))) i at = refl
 flush_asked log d f first content (suc (suc (suc (suc (suc b))))) i at = absurd (cc)
 
-none_asked : (log : List Entry) (d : CallId) (first : ℕ) (content : List Sector) (c : CallId) (a n : ℕ) → Numbered (dropped log d first content) a n (Ask c Flush) → ⊥
+none_asked : (log : List Entry) (d : CallId) (first : ℕ) (content : List Sector) (c : CallId) (a n : ℕ) → HasEntry (dropped log d first content) a n (Ask c Flush) → ⊥
 none_asked log d first content c zero n at = no_flush d c first content (asked_first _ _ at)
 none_asked log d first content c (suc zero) n at = no_issue d c first content (asked_first _ _ at)
 none_asked log d first content c (suc (suc zero)) n at = no_done d c (asked_first _ _ at)

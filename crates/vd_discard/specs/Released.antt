@@ -2,8 +2,8 @@
 use Rattle.std.specs.Prelude.{ℕ, ◌≡◌, true, false, List, [], ◌∷◌, None}
 use Rattle.vd_image.specs.Log.{Sector, CallId, Write, Flush, Fine, Ask, Issue, Done, Reply}
 use Rattle.vd_image.specs.Image.{Record}
-use Rattle.vd_crash.specs.Safe.{Opening, events}
-use Rattle.vd_primitives.specs.Primitives.{State, Interleaves}
+use Rattle.vd_crash.specs.facts.Safe.{Opening, events}
+use Rattle.vd_crash.specs.primitives.Primitives.{State, Interleaves}
 
 -- a record that says of this chunk that it is zeros and has no storage
 abbrev pub loss : ℕ → ℕ → Record

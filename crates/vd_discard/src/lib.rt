@@ -6,12 +6,12 @@
 ghost use Rattle.std.specs.Prelude.{ℕ, ◌≡◌, ◌<◌, Bool, true, List, Ok, Some};
 ghost use Rattle.vd_law.specs.Entries.{Entry, Issue};
 ghost use Rattle.vd_image.specs.Log.{Sector, CallId};
-ghost use Rattle.vd_crash.specs.Safe.{Opening};
-ghost use Rattle.vd_crash.specs.Facts.{Memory};
-ghost use Rattle.vd_crash.specs.Words.{IsDropWrite};
-ghost use Rattle.vd_crash.specs.Opened.{IsAtOpening};
-ghost use Rattle.vd_primitives.specs.Primitives.{at_rest};
+ghost use Rattle.vd_crash.specs.facts.Safe.{Opening};
+ghost use Rattle.vd_crash.specs.facts.Words.{IsDropWrite};
+ghost use Rattle.vd_crash.specs.facts.Opened.{IsAtOpening};
+ghost use Rattle.vd_crash.specs.primitives.Primitives.{at_rest};
 ghost use Rattle.vd_discard.specs.Released.{loss, IsReleasing};
+ghost use Rattle.vd_crash.specs.facts.Memory.{Memory};
 
 /// From each opening with a slot left, a guest's discard of a chunk and a flush have a run by which the chunk is zeros and its storage is free.
 pub fn storage_is_released()

@@ -8,7 +8,7 @@ use Rattle.vd_law.specs.declared.entry.Sector.{Sector}
 use Rattle.vd_device.specs.declared.settled.Waited.{Waited}
 use Rattle.vd_device.specs.declared.settled.Waited.TheVariants.{Done, Failed}
 use Rattle.vd_device.specs.Calls.{Settles, settled_of}
-use Rattle.vd_file.specs.Standing.{Standing, ReadsInside, AreFlying}
+use Rattle.vd_file.specs.Standing.{FileState, ReadsInside, AreFlying}
 
 all_but : (P : Ticket → Type 0) (before after : List Ticket) (t : Ticket) → AllByRecursion P (before ++ t ∷ after) → P t × AllByRecursion P (before ++ after)
 all_but P [] after t all = all
@@ -21,19 +21,19 @@ all_with P (x ∷ before) after t it (here, there) = (here, all_with P before af
 length-with : (before after : List Ticket) (t : Ticket) → length (before ++ t ∷ after) ≡ length (before ++ after) + 1
 length-with before after t = omega (arith, length-append before (t ∷ after), length-append before after)
 
-pub put : (s s' : Standing) (t : Ticket) → s'.flying ≡ s.flying + 1 → s'.sectors ≡ s.sectors → ReadsInside s.sectors t → Puts t (AreFlying s) (AreFlying s')
+pub put : (s s' : FileState) (t : Ticket) → s'.flying ≡ s.flying + 1 → s'.sectors ≡ s.sectors → ReadsInside s.sectors t → Puts t (AreFlying s) (AreFlying s')
 put s s' t more same it others all among flying = record {
   many = rw among.with_it (let o : s.flying ≡ length (among.before ++ among.after) = rw (← among.without) flying.many in omega (arith, length-with among.before among.after t));
   inside = rw (same, among.with_it) (all_with _ among.before among.after t it (rw among.without at flying.inside));
 }
 
-pub taken : (s s' : Standing) (t : Ticket) → s'.flying + 1 ≡ s.flying → s'.sectors ≡ s.sectors → Takes t (AreFlying s) (AreFlying s')
+pub taken : (s s' : FileState) (t : Ticket) → s'.flying + 1 ≡ s.flying → s'.sectors ≡ s.sectors → Takes t (AreFlying s) (AreFlying s')
 taken s s' t fewer same others all among flying = record {
   many = rw among.without (let a : s.flying ≡ length (among.before ++ t ∷ among.after) = rw (← among.with_it) flying.many in omega (arith, length-with among.before among.after t));
   inside = rw (same, among.without) (all_but _ among.before among.after t (rw among.with_it at flying.inside)).1;
 }
 
-pub known : (s : Standing) (t : Ticket) → IsInFlight (AreFlying s) t → ReadsInside s.sectors t × (0 < s.flying)
+pub known : (s : FileState) (t : Ticket) → IsInFlight (AreFlying s) t → ReadsInside s.sectors t × (0 < s.flying)
 known s t (others, all, among, flying) =
     let a : s.flying ≡ length (among.before ++ t ∷ among.after) = rw (← among.with_it) flying.many in
     ((all_but _ among.before among.after t (rw among.with_it at flying.inside)).0, omega (arith, length-with among.before among.after t))
@@ -45,5 +45,5 @@ settles true answer t out out' old new e unread takes = rw e takes
 settles false answer t out out' old new e unread takes = rw e (refl, unread refl, takes)
 
 -- whether a flush failed is nothing to the tickets
-pub takes_on : (s s' : Standing) (unsure : Bool) (t : Ticket) → Takes t (AreFlying (record s { unsure = unsure })) (AreFlying s') → Takes t (AreFlying s) (AreFlying s')
+pub takes_on : (s s' : FileState) (unsure : Bool) (t : Ticket) → Takes t (AreFlying (record s { unsure = unsure })) (AreFlying s') → Takes t (AreFlying s) (AreFlying s')
 takes_on s s' unsure t takes others all among flying = takes others all among (record { many = flying.many; inside = flying.inside })

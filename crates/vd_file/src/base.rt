@@ -1,7 +1,7 @@
 //! A base over a file.
 
 ghost use Rattle.std.specs.Prelude.{◌≡◌, IfOk, true, false};
-ghost use Rattle.vd_file.specs.Standing.{unused};
+ghost use Rattle.vd_file.specs.Standing.{unused_file};
 
 use crate::file::{NotOpened, SectorFile};
 use crate::store::FileStore;
@@ -19,9 +19,9 @@ pub struct FileBase {
 }
 
 impl Model for FileBase {
-    ghost use Rattle.vd_file.specs.Standing.{Standing};
+    ghost use Rattle.vd_file.specs.Standing.{FileState};
 
-    ghost Value = { Standing };
+    ghost Value = { FileState };
 
     ghost view = { λ b. b.store };
 }
@@ -32,7 +32,7 @@ impl FileBase {
         rt: &R,
         path: &str,
     ) -> Result<FileBase, NotOpened>
-        ensures { IfOk result (λ b. b ≡ unused true b.sectors) }
+        ensures { IfOk result (λ b. b ≡ unused_file true b.sectors) }
     {
         let file = SectorFile::open_to_read(rt, path)?;
         Ok(FileBase {
@@ -42,7 +42,7 @@ impl FileBase {
 
     /// A device of no sectors.
     pub fn none() -> FileBase
-        ensures { result ≡ unused false 0 }
+        ensures { result ≡ unused_file false 0 }
     {
         FileBase {
             store: FileStore::none(),
@@ -58,7 +58,7 @@ impl Base for FileBase {
 
     ghost content = { λ b. [] };
 
-    ghost flies = { AreFlying };
+    ghost flight = { AreFlying };
 
     ghost sectors = { λ b. b.sectors };
 

@@ -1,11 +1,12 @@
 //! A store over a file.
 
 ghost use Rattle.std.specs.Prelude.{◌≡◌, ◌+◌, ◌-◌, ◌*◌, ◌^◌, ◌<◌, ◌≤◌, ℕ, [], length, Some, IfOk, IsTrue, IsFalse, true, false, not, if◌then◌else◌};
-ghost use Rattle.vd_device.specs.Tickets.{IsRange, Puts, Takes, reads};
+ghost use Rattle.vd_device.specs.Tickets.{IsRange, Puts, Takes, sectors_read};
 ghost use Rattle.vd_device.specs.declared.ticket.Kind.TheVariants.{Read, Flush};
-ghost use Rattle.vd_device.specs.Calls.{next_number, Rose};
+ghost use Rattle.vd_device.specs.Calls.{next_number};
 ghost use Rattle.vd_device.specs.declared.settled.Waited.{Waited as AnyWaited};
-ghost use Rattle.vd_file.specs.Standing.{unused, ReadsInside, AreFlying};
+ghost use Rattle.vd_file.specs.Standing.{unused_file, ReadsInside, AreFlying};
+ghost use Rattle.vd_law.specs.Counts.{Rose};
 
 use crate::file::{NotOpened, SectorFile};
 use std::fs::File;
@@ -38,9 +39,9 @@ pub struct FileStore {
 impl Model for FileStore {
     ghost use Rattle.std.specs.Prelude.{◌<◌, ◌^◌};
     ghost use Rattle.std.specs.Option.{is_some};
-    ghost use Rattle.vd_file.specs.Standing.{Standing};
+    ghost use Rattle.vd_file.specs.Standing.{FileState};
 
-    ghost Value = { Standing };
+    ghost Value = { FileState };
 
     ghost view = { λ s. record {
       has_file = is_some s.file;
@@ -63,7 +64,7 @@ impl FileStore {
         path: &str,
         made: Option<u64>,
     ) -> Result<FileStore, NotOpened>
-        ensures unused { IfOk result (λ s. s ≡ unused true s.sectors) }
+        ensures unused { IfOk result (λ s. s ≡ unused_file true s.sectors) }
         ensures made { IfOk result (λ s. (sectors : ℕ) → made ≡ Some sectors → s.sectors ≡ sectors) }
     {
         let file = match made {
@@ -75,7 +76,7 @@ impl FileStore {
 
     /// A device of no sectors.
     pub fn none() -> FileStore
-        ensures { result ≡ unused false 0 }
+        ensures { result ≡ unused_file false 0 }
     {
         FileStore {
             file: None,
@@ -89,7 +90,7 @@ impl FileStore {
     }
 
     pub(crate) fn over(file: SectorFile) -> FileStore
-        ensures { result ≡ unused true file.sectors }
+        ensures { result ≡ unused_file true file.sectors }
     {
         FileStore {
             sectors: file.sectors(),
@@ -157,7 +158,7 @@ impl FileStore {
     /// Does what is left of the ticket's work, and answers whether all of it is done.
     fn work(&mut self, ticket: &Ticket, out: &mut [Sector]) -> bool
         requires inside { ReadsInside self.old.sectors ticket.now }
-        requires room { length out.old ≡ reads ticket.now }
+        requires room { length out.old ≡ sectors_read ticket.now }
         ensures unread { IsFalse result → out.new ≡ out.old }
         ensures flushed { ticket.now.kind ≡ Flush → result ≡ not self.new.unsure }
         ensures kept { IsTrue self.old.unsure → self.new.unsure ≡ true }
@@ -176,7 +177,7 @@ impl FileStore {
         ensures answer { result ≡ (if is_done then AnyWaited.Done else AnyWaited.Failed ticket.number) }
         ensures flying { self.new.flying + 1 ≡ self.old.flying }
         ensures same { self.new ≡ record self.old { flying = self.new.flying; faults = self.new.faults; events = self.new.events } }
-        ensures calm { self.old.faults ≤ self.new.faults }
+        ensures no_fewer_faults { self.old.faults ≤ self.new.faults }
         ensures counted { IsFalse is_done → Rose self.old.faults self.new.faults }
         ensures events { self.old.events ≤ self.new.events }
         ensures flight { Takes ticket (AreFlying self.old) (AreFlying self.new) }
@@ -199,7 +200,7 @@ impl Store for FileStore {
 
     ghost disk = { λ s. record { start = []; log = []; held = [] } };
 
-    ghost flies = { AreFlying };
+    ghost flight = { AreFlying };
 
     ghost sectors = { λ s. s.sectors };
 

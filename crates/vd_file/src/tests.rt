@@ -135,7 +135,7 @@ fn a_flush_that_fails_is_told(rt: HostRuntime) -> Result<(), Fail> {
     Ok(())
 }
 
-/// A running program can't be opened to be written.
+/// A running program can't be opened to be written. As a base it need not be.
 #[test]
 fn a_file_that_may_not_be_written_is_read(rt: HostRuntime) -> Result<(), Fail> {
     let Ok(mut store) = FileStore::at(&rt, "/proc/self/exe", None) else {
@@ -145,6 +145,14 @@ fn a_file_that_may_not_be_written_is_read(rt: HostRuntime) -> Result<(), Fail> {
     assert_eq!(rt; read(&rt, &mut store, 0, &mut out), Ok(()));
     assert!(rt; &out[0].bytes[..4] == b"\x7fELF".as_slice());
     assert_eq!(rt; write(&rt, &mut store, 0, &out), Err(2));
+
+    let Ok(mut base) = FileBase::at(&rt, "/proc/self/exe") else {
+        panic!(rt; "not opened");
+    };
+    assert_eq!(rt; base.sectors(), store.sectors());
+    let mut same = [Sector::filled(0)];
+    assert_eq!(rt; read_of_base(&rt, &mut base, 0, &mut same), Ok(()));
+    assert!(rt; same == out);
     Ok(())
 }
 
@@ -211,17 +219,28 @@ fn each_sector_of_a_long_write_is_read_back(rt: HostRuntime) -> Result<(), Fail>
     Ok(())
 }
 
+/// Whether a file of so many sectors is refused and not left; or made, where the file system takes it.
+fn is_refused_or_whole(rt: &HostRuntime, path: &str, sectors: u64) -> bool {
+    let left = match FileStore::at(rt, path, Some(sectors)) {
+        Ok(store) if store.sectors() == sectors && sectors < 1 << 54 => Some(sectors * 512),
+        Ok(_) | Err(NotOpened::NoMemory) => return false,
+        Err(NotOpened::NoFile) => None,
+    };
+    let found = fs::metadata(rt, path).ok().map(|found| found.len());
+    let _ = fs::remove_file(rt, path);
+    found == left
+}
+
+/// 2^63 - 512 bytes are too many for most file systems, and 2^63 for all.
 #[test]
 fn a_file_that_can_t_be_so_long_is_not_left(rt: HostRuntime) -> Result<(), Fail> {
     folder(&rt, "vd_file_huge")?;
-    let path = "vd_file_huge/image";
-    assert!(rt;
-        matches!(
-            FileStore::at(&rt, path, Some((1 << 54) - 1)),
-            Err(NotOpened::NoFile)
-        )
-    );
-    assert!(rt; fs::metadata(&rt, path).is_err());
+    for sectors in [(1 << 54) - 1, 1 << 54, 1 << 55, u64::MAX] {
+        assert!(rt;
+            is_refused_or_whole(&rt, "vd_file_huge/image", sectors),
+            "{sectors}"
+        );
+    }
     fs::remove_dir_all(&rt, "vd_file_huge")?;
     Ok(())
 }

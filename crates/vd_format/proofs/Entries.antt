@@ -10,7 +10,7 @@ use Rattle.vd_law.specs.declared.entry.Sector.{Sector}
 use Rattle.vd_format.specs.declared.map.Entry.{Entry}
 use Rattle.vd_format.specs.declared.map.Shape2.{Shape2}
 use Rattle.vd_format.specs.Numbers.{IsBytes, u32_at, u64_at, u32_bytes, u64_bytes}
-use Rattle.vd_format.specs.Entries.{Fits, IsEntry, kind_of, entry_bytes, entry_from, has_kind, blocks_in, is_entry, entry_at, has_entry, entry_of, bytes_at, SpellsEntry, IsBadEntry}
+use Rattle.vd_format.specs.Entries.{Fits, IsEntry, kind_of, entry_bytes, entry_from, has_kind, blocks_in, is_entry, entry_at, has_entry, entry_or_storage, bytes_at, SpellsEntry, IsBadEntry}
 use Rattle.vd_format.proofs.Bytes.{take-then, take-u32_at, take-u64_at}
 use Rattle.vd_format.proofs.Bits.{below_from_bits, bits_below}
 
@@ -176,8 +176,8 @@ entry_is : (a b : Entry) → ok_entry a ≡ ok_entry b → a ≡ b
 entry_is a b told = cc
 
 -- an entry is read exactly where the sector spells it
-pub entry_of-ok : (shape : Shape2) (chunk : ℕ) (sector : Sector) (place : ℕ) (e : Entry) → shape.storage < 2 ^ 32 → IsBytes sector.bytes → length sector.bytes ≡ 512 → place < 32 → (entry_of shape chunk sector place ≡ Ok e) ↔ SpellsEntry shape chunk sector place e
-unfolding entry_of
+pub entry_of-ok : (shape : Shape2) (chunk : ℕ) (sector : Sector) (place : ℕ) (e : Entry) → shape.storage < 2 ^ 32 → IsBytes sector.bytes → length sector.bytes ≡ 512 → place < 32 → (entry_or_storage shape chunk sector place ≡ Ok e) ↔ SpellsEntry shape chunk sector place e
+unfolding entry_or_storage
 entry_of-ok shape chunk sector place e small fits len inside = (
   λ told. elim (cases_Bool (has_entry shape chunk sector place)) [
     | inl has ↦ rw (← entry_is (entry_at sector place) e (sym (cond-true (has_entry shape chunk sector place) (ok_entry (entry_at sector place)) (Err (entry_at sector place).storage) has) ∙ told)) (has_spelled shape chunk sector place fits len inside has)
@@ -188,8 +188,8 @@ entry_of-ok shape chunk sector place e small fits len inside = (
 )
 
 -- and refused exactly where it spells none
-pub entry_of-err : (shape : Shape2) (chunk : ℕ) (sector : Sector) (place storage : ℕ) → shape.storage < 2 ^ 32 → IsBytes sector.bytes → length sector.bytes ≡ 512 → place < 32 → (entry_of shape chunk sector place ≡ Err storage) ↔ IsBadEntry shape chunk sector place storage
-unfolding entry_of
+pub entry_of-err : (shape : Shape2) (chunk : ℕ) (sector : Sector) (place storage : ℕ) → shape.storage < 2 ^ 32 → IsBytes sector.bytes → length sector.bytes ≡ 512 → place < 32 → (entry_or_storage shape chunk sector place ≡ Err storage) ↔ IsBadEntry shape chunk sector place storage
+unfolding entry_or_storage
 entry_of-err shape chunk sector place storage small fits len inside =
     let at = storage-at sector place in (
       λ told. elim (cases_Bool (has_entry shape chunk sector place)) [

@@ -9,7 +9,7 @@ use Rattle.vd_format.specs.declared.header.Header.{Header}
 use Rattle.vd_format.specs.declared.header.HeaderError.{HeaderError}
 use Rattle.vd_format.specs.declared.header.HeaderError.TheVariants.{NotImage, Version, Field}
 use Rattle.vd_format.specs.Numbers.{IsBytes, u32_at, u64_at, u32_bytes, u64_bytes, put_at, are_zeros, has_magic}
-use Rattle.vd_format.specs.Headers.{IsValid, SpellsHeader, IsImage, HasOtherVersion, HasWrongField, header_magic, spelling, fields_in, zeros_in, is_version, judged, first_wrong, unless_wrong, header_of}
+use Rattle.vd_format.specs.Headers.{IsValid, SpellsHeader, HasHeaderMagic, HasOtherVersion, HasWrongField, header_magic, spelling, fields_in, zeros_in, is_version, judged_fields, first_wrong, unless_wrong, header_of}
 use Rattle.vd_format.proofs.Bytes.{take-then, take-magic, magic-take, take-u32_at, take-u64_at, zeros-are, IsWritten, written-part, written-zeros}
 use Rattle.vd_format.proofs.Rules.{none_wrong, wrong_none, valid_from, passes_from, known_version, version_known, block_within, chunk_within, size_within, storage_within}
 
@@ -82,7 +82,7 @@ pub data Reads (sector : Sector) (read : Result Header HeaderError) : Type 0 whe
   No_image : has_magic header_magic sector.bytes ≡ false → read ≡ Err NotImage → Reads sector read
   Other_version : has_magic header_magic sector.bytes ≡ true → is_version (fields_in sector.bytes).version ≡ false → read ≡ Err (Version (fields_in sector.bytes).version) → Reads sector read
   Judged : has_magic header_magic sector.bytes ≡ true → is_version (fields_in sector.bytes).version ≡ true
-      → read ≡ unless_wrong (fields_in sector.bytes) (first_wrong (judged (fields_in sector.bytes) (zeros_in sector.bytes))) → Reads sector read
+      → read ≡ unless_wrong (fields_in sector.bytes) (first_wrong (judged_fields (fields_in sector.bytes) (zeros_in sector.bytes))) → Reads sector read
 
 pub reads : (sector : Sector) → Reads sector (header_of sector)
 unfolding header_of
@@ -113,7 +113,7 @@ read_spells : (sector : Sector) (h : Header) (read : Result Header HeaderError) 
 read_spells sector h read fits len (No_image magic none) told = absurd cc
 read_spells sector h read fits len (Other_version magic version other) told = absurd cc
 read_spells sector h read fits len (Judged magic version answer) told =
-    let right = unless_wrong-ok (fields_in sector.bytes) h (first_wrong (judged (fields_in sector.bytes) (zeros_in sector.bytes))) (sym answer ∙ told) in
+    let right = unless_wrong-ok (fields_in sector.bytes) h (first_wrong (judged_fields (fields_in sector.bytes) (zeros_in sector.bytes))) (sym answer ∙ told) in
     let all = none_wrong (fields_in sector.bytes) (zeros_in sector.bytes) right.0 in
     rw (← right.1) (record { valid = valid_from (fields_in sector.bytes) (zeros_in sector.bytes) version all; bytes = spelled sector.bytes fits len magic all.zeros_are })
 
@@ -121,19 +121,19 @@ read_spells sector h read fits len (Judged magic version answer) told =
 pub header_of-ok : (sector : Sector) (h : Header) → IsBytes sector.bytes → length sector.bytes ≡ 512 → (header_of sector ≡ Ok h) ↔ SpellsHeader sector h
 header_of-ok sector h fits len = (read_spells sector h (header_of sector) fits len (reads sector), header_of-spelling sector h)
 
-is_image : (sector : Sector) → has_magic header_magic sector.bytes ≡ true → IsImage sector
+is_image : (sector : Sector) → has_magic header_magic sector.bytes ≡ true → HasHeaderMagic sector
 is_image sector magic = take-magic header_magic sector.bytes magic
 
-no_image : (sector : Sector) → has_magic header_magic sector.bytes ≡ false → IsImage sector → ⊥
+no_image : (sector : Sector) → has_magic header_magic sector.bytes ≡ false → HasHeaderMagic sector → ⊥
 no_image sector none image = let magic = magic-take header_magic sector.bytes image in cc
 
-read_not_image : (sector : Sector) (read : Result Header HeaderError) → Reads sector read → (read ≡ Err NotImage) ↔ (IsImage sector → ⊥)
+read_not_image : (sector : Sector) (read : Result Header HeaderError) → Reads sector read → (read ≡ Err NotImage) ↔ (HasHeaderMagic sector → ⊥)
 read_not_image sector read (No_image magic none) = (λ told image. no_image sector magic image, λ _. none)
 read_not_image sector read (Other_version magic version other) = (λ told image. cc, λ none. absurd (none (is_image sector magic)))
 read_not_image sector read (Judged magic version answer) =
-    (λ told image. unless_wrong-other (fields_in sector.bytes) (first_wrong (judged (fields_in sector.bytes) (zeros_in sector.bytes))) NotImage (λ n same. cc) (sym answer ∙ told), λ none. absurd (none (is_image sector magic)))
+    (λ told image. unless_wrong-other (fields_in sector.bytes) (first_wrong (judged_fields (fields_in sector.bytes) (zeros_in sector.bytes))) NotImage (λ n same. cc) (sym answer ∙ told), λ none. absurd (none (is_image sector magic)))
 
-pub header_of-not_image : (sector : Sector) → (header_of sector ≡ Err NotImage) ↔ (IsImage sector → ⊥)
+pub header_of-not_image : (sector : Sector) → (header_of sector ≡ Err NotImage) ↔ (HasHeaderMagic sector → ⊥)
 header_of-not_image sector = read_not_image sector (header_of sector) (reads sector)
 
 version-is : (sector : Sector) → (fields_in sector.bytes).version ≡ u32_at sector.bytes 8
@@ -153,7 +153,7 @@ read_version sector v read (Other_version magic version other) =
     )
 read_version sector v read (Judged magic version answer) =
     let same = version-is sector in (
-      λ told. absurd (unless_wrong-other (fields_in sector.bytes) (first_wrong (judged (fields_in sector.bytes) (zeros_in sector.bytes))) (Version v) (λ n same. cc) (sym answer ∙ told)),
+      λ told. absurd (unless_wrong-other (fields_in sector.bytes) (first_wrong (judged_fields (fields_in sector.bytes) (zeros_in sector.bytes))) (Version v) (λ n same. cc) (sym answer ∙ told)),
       λ has. absurd (elim (version_known (fields_in sector.bytes).version version) [
         | inl one ↦ has.unknown.0 (sym has.says ∙ sym same ∙ one)
         | inr two ↦ has.unknown.1 (sym has.says ∙ sym same ∙ two)
@@ -171,11 +171,11 @@ read_field sector n read (Other_version magic version other) =
     (λ told. absurd cc, λ has. absurd (elim has.version [ inl one ↦ unknown.0 (same ∙ one) | inr two ↦ unknown.1 (same ∙ two) ]))
 read_field sector n read (Judged magic version answer) =
     let same = version-is sector in
-    let wrong : Option ℕ = first_wrong (judged (fields_in sector.bytes) (zeros_in sector.bytes)) in (
+    let wrong : Option ℕ = first_wrong (judged_fields (fields_in sector.bytes) (zeros_in sector.bytes)) in (
       λ told. record {
         image = is_image sector magic;
         version = rw (← same) (version_known (fields_in sector.bytes).version version);
-        wrong = unless_wrong-field (fields_in sector.bytes) n (first_wrong (judged (fields_in sector.bytes) (zeros_in sector.bytes))) (sym answer ∙ told);
+        wrong = unless_wrong-field (fields_in sector.bytes) n (first_wrong (judged_fields (fields_in sector.bytes) (zeros_in sector.bytes))) (sym answer ∙ told);
       },
       λ has. answer ∙ ap (unless_wrong (fields_in sector.bytes)) has.wrong,
     )

@@ -8,3 +8,4 @@ pub mod Records
 pub mod Slots
 pub mod Pages
 pub mod Writing
+pub mod BackgroundLaws

@@ -6,7 +6,7 @@ use Rattle.std.proofs.Math.Nat.{div-le_self}
 use Rattle.std.proofs.lemmas.Bool.{cond_both, eqb-true, eq-eqb, leb-true, le-leb, ltb-true, lt-ltb, and_parts, and_from, or_cases, or_left, or_right}
 use Rattle.vd_format.specs.declared.header.Header.{Header}
 use Rattle.vd_format.specs.Layouts.{blocks_of, chunks_of}
-use Rattle.vd_format.specs.Headers.{IsValid, block_sizes, chunk_sizes, most_slots, most_sectors, is_among, is_version, is_block, is_chunk, is_size, is_storage, is_slots, is_tracked, is_generation, judged, first_wrong}
+use Rattle.vd_format.specs.Headers.{IsValid, block_sizes, chunk_sizes, most_slots, most_sectors, is_among, is_version, is_block, is_chunk, is_size, is_storage, is_slots, is_tracked, is_generation, judged_fields, first_wrong}
 
 pub Contains-among : (sizes : List ℕ) (n : ℕ) → is_among sizes n ≡ true → Contains sizes n
 Contains-among [] n told = absurd cc
@@ -53,8 +53,8 @@ passes : (test : Bool) (n : ℕ) (later : Option ℕ) → cond test later (Some 
 passes true n later none = (refl, none)
 passes false n later none = absurd cc
 
-pub none_wrong : (h : Header) (zeros : Bool) → first_wrong (judged h zeros) ≡ None → AllPass h zeros
-unfolding judged
+pub none_wrong : (h : Header) (zeros : Bool) → first_wrong (judged_fields h zeros) ≡ None → AllPass h zeros
+unfolding judged_fields
 none_wrong h zeros none =
     let block = passes (is_block h.block) 1 (first_wrong ((2, is_chunk h.chunk) ∷ (3, is_size h) ∷ (4, is_storage h) ∷ (5, is_slots h.slots) ∷ (6, is_tracked h) ∷ (7, is_generation h.generation) ∷ (8, zeros) ∷ [])) none in
     let chunk = passes (is_chunk h.chunk) 2 (first_wrong ((3, is_size h) ∷ (4, is_storage h) ∷ (5, is_slots h.slots) ∷ (6, is_tracked h) ∷ (7, is_generation h.generation) ∷ (8, zeros) ∷ [])) block.1 in
@@ -66,8 +66,8 @@ none_wrong h zeros none =
     let last = passes zeros 8 None generation.1 in
     record { block = block.0; chunk = chunk.0; size = size.0; storage = storage.0; slots = slots.0; tracked = tracked.0; generation = generation.0; zeros_are = last.0 }
 
-pub wrong_none : (h : Header) (zeros : Bool) → AllPass h zeros → first_wrong (judged h zeros) ≡ None
-unfolding judged
+pub wrong_none : (h : Header) (zeros : Bool) → AllPass h zeros → first_wrong (judged_fields h zeros) ≡ None
+unfolding judged_fields
 wrong_none h zeros all = rw (all.block, all.chunk, all.size, all.storage, all.slots, all.tracked, all.generation, all.zeros_are) refl
 
 pub version_known : (version : ℕ) → is_version version ≡ true → (version ≡ 1) ⊎ (version ≡ 2)

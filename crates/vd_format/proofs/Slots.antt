@@ -8,7 +8,7 @@ use Rattle.vd_law.specs.declared.entry.Sector.{Sector}
 use Rattle.vd_format.specs.declared.map.Fact2.{Fact2}
 use Rattle.vd_format.specs.declared.map.Shape2.{Shape2}
 use Rattle.vd_format.specs.Numbers.{IsBytes, u64_at, u32_bytes, u64_bytes, are_zeros, has_magic}
-use Rattle.vd_format.specs.Records.{ShapeFits, Said, Nothing, Facts, Outside, HasRecord, SpellsRecord, IsOutside, record_magic, most_facts, fact_bytes, record_bytes, facts_from, have_kinds, count_in, is_well_formed, are_facts, slot_of}
+use Rattle.vd_format.specs.Records.{ShapeFits, Said, Nothing, Facts, Outside, HasRecord, SpellsRecord, IsOutsideGrammar, record_magic, most_facts, fact_bytes, record_bytes, facts_from, have_kinds, count_in, is_well_formed, are_facts, slot_of}
 use Rattle.vd_format.proofs.Bytes.{take-then, take-magic, magic-take, take-u32_at, take-u64_at, zeros-are}
 use Rattle.vd_format.proofs.Facts.{facts_grammar, grammar_facts}
 use Rattle.vd_format.proofs.Records.{Says, No_magic, Other_generation, In_grammar, Not_in_grammar, says, facts_fit, length-facts_from, take-facts_from, magic-record, generation-record, record-well_formed, record-facts}
@@ -128,7 +128,7 @@ slot_of-nothing shape sector = says_nothing shape sector (slot_of shape sector) 
 
 -- ---- outside
 
-says_outside : (shape : Shape2) (sector : Sector) (said : Said) → ShapeFits shape → IsBytes sector.bytes → length sector.bytes ≡ 512 → Says shape sector said → (said ≡ Outside) ↔ IsOutside sector shape
+says_outside : (shape : Shape2) (sector : Sector) (said : Said) → ShapeFits shape → IsBytes sector.bytes → length sector.bytes ≡ 512 → Says shape sector said → (said ≡ Outside) ↔ IsOutsideGrammar sector shape
 says_outside shape sector said small fits len (No_magic none says) = (λ told. absurd cc, λ out. absurd (no_magic shape sector none out.counts))
 says_outside shape sector said small fits len (Other_generation magic other says) = (λ told. absurd cc, λ out. absurd (no_generation shape sector other out.counts))
 says_outside shape sector said small fits len (In_grammar magic same good says) =
@@ -137,5 +137,5 @@ says_outside shape sector said small fits len (Not_in_grammar magic same bad say
     (λ told. record { counts = has_record shape sector magic same; unspelled = λ facts spells. (let read = record_said shape sector facts said small (Not_in_grammar magic same bad says) spells in cc) }, λ out. says)
 
 -- a slot is outside the grammar exactly where it counts and spells no facts
-pub slot_of-outside : (shape : Shape2) (sector : Sector) → ShapeFits shape → IsBytes sector.bytes → length sector.bytes ≡ 512 → (slot_of shape sector ≡ Outside) ↔ IsOutside sector shape
+pub slot_of-outside : (shape : Shape2) (sector : Sector) → ShapeFits shape → IsBytes sector.bytes → length sector.bytes ≡ 512 → (slot_of shape sector ≡ Outside) ↔ IsOutsideGrammar sector shape
 slot_of-outside shape sector small fits len = says_outside shape sector (slot_of shape sector) small fits len (says shape sector)

@@ -70,8 +70,8 @@ abbrev pub has_entry : Shape2 → ℕ → Sector → ℕ → Bool
 has_entry shape chunk sector place = is_entry shape chunk (entry_at sector place) && has_kind sector.bytes (16 * place)
 
 -- the entry of a chunk that stands at this place, or its storage field where it is outside the grammar
-unfoldable pub entry_of : Shape2 → ℕ → Sector → ℕ → Result Entry ℕ
-entry_of shape chunk sector place = if has_entry shape chunk sector place then Ok (entry_at sector place) else Err (entry_at sector place).storage
+unfoldable pub entry_or_storage : Shape2 → ℕ → Sector → ℕ → Result Entry ℕ
+entry_or_storage shape chunk sector place = if has_entry shape chunk sector place then Ok (entry_at sector place) else Err (entry_at sector place).storage
 
 -- ---- what a sector of the map has
 

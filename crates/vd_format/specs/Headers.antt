@@ -113,8 +113,8 @@ unfoldable pub is_generation : ℕ → Bool
 is_generation generation = nat_le 1 generation && nat_lt generation (2 ^ 63)
 
 -- the fields by their numbers, each with whether it keeps its rule
-unfoldable pub judged : Header → Bool → List (ℕ × Bool)
-judged h zeros =
+unfoldable pub judged_fields : Header → Bool → List (ℕ × Bool)
+judged_fields h zeros =
     (1, is_block h.block)
     ∷ (2, is_chunk h.chunk)
     ∷ (3, is_size h)
@@ -140,23 +140,23 @@ unfoldable pub header_of : Sector → Result Header HeaderError
 header_of sector =
     let h = fields_in sector.bytes in
     if has_magic header_magic sector.bytes
-    then (if is_version h.version then unless_wrong h (first_wrong (judged h (zeros_in sector.bytes))) else Err (Version h.version))
+    then (if is_version h.version then unless_wrong h (first_wrong (judged_fields h (zeros_in sector.bytes))) else Err (Version h.version))
     else Err NotImage
 
 -- ---- what a sector without a header has
 
 -- the sector begins with the magic
-abbrev pub IsImage : Sector → Type 0
-IsImage sector = take 8 sector.bytes ≡ header_magic
+abbrev pub HasHeaderMagic : Sector → Type 0
+HasHeaderMagic sector = take 8 sector.bytes ≡ header_magic
 
 -- the sector has the magic, and an unknown version
 pub record HasOtherVersion (sector : Sector) (version : ℕ) : Type 0 where
-  pub image : IsImage sector
+  pub image : HasHeaderMagic sector
   pub says : u32_at sector.bytes 8 ≡ version
   pub unknown : (version ≢ 1) × (version ≢ 2)
 
 -- the sector has the magic and a known version, and the field of this number is the first that breaks its rule
 pub record HasWrongField (sector : Sector) (field : ℕ) : Type 0 where
-  pub image : IsImage sector
+  pub image : HasHeaderMagic sector
   pub version : (u32_at sector.bytes 8 ≡ 1) ⊎ (u32_at sector.bytes 8 ≡ 2)
-  pub wrong : first_wrong (judged (fields_in sector.bytes) (zeros_in sector.bytes)) ≡ Some field
+  pub wrong : first_wrong (judged_fields (fields_in sector.bytes) (zeros_in sector.bytes)) ≡ Some field

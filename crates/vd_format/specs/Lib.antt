@@ -3,3 +3,4 @@ pub mod Layouts
 pub mod Headers
 pub mod Entries
 pub mod Records
+pub mod Background

@@ -50,7 +50,7 @@ record_bytes generation facts =
 -- ---- reading
 
 -- what a sector with the magic of a record says. The bytes are well formed where the number of facts, the zeros and the kinds are as they must be.
-pub record Record : Type 0 where
+pub record JournalRecord : Type 0 where
   pub version : ℕ
   pub generation : ℕ
   pub well_formed : Bool
@@ -78,7 +78,7 @@ is_well_formed bytes =
     && have_kinds bytes 24 (count_in bytes)
 
 -- a record of version 1 is told by its magic and its generation alone
-unfoldable pub record_of : Sector → Option Record
+unfoldable pub record_of : Sector → Option JournalRecord
 record_of sector =
     let bytes = sector.bytes in
     if has_magic record_magic bytes
@@ -97,7 +97,7 @@ pub data Said : Type 0 where
   Facts : (facts : List Fact2) → Said
   Outside : Said
 
-abbrev pub said_by : Shape2 → Option Record → Said
+abbrev pub said_by : Shape2 → Option JournalRecord → Said
 said_by shape None = Nothing
 said_by shape (Some r) =
     if (r.version == 2) && (r.generation == shape.generation)
@@ -120,6 +120,6 @@ pub record SpellsRecord (sector : Sector) (shape : Shape2) (facts : List Fact2) 
   pub bytes : sector.bytes ≡ record_bytes shape.generation facts
 
 -- the slot counts, and is the spelling of no facts in the grammar
-pub record IsOutside (sector : Sector) (shape : Shape2) : Type 0 where
+pub record IsOutsideGrammar (sector : Sector) (shape : Shape2) : Type 0 where
   pub counts : HasRecord sector shape.generation
   pub unspelled : (facts : List Fact2) → SpellsRecord sector shape facts → ⊥

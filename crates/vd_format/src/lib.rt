@@ -6,6 +6,7 @@
 mod header;
 mod map;
 pub mod numbers;
+pub mod zeros;
 
 pub use header::{HEADER_MAGIC, Header, HeaderError, Layout};
 pub use map::{Entry, Fact2, RECORD_MAGIC, Shape2};

@@ -3,7 +3,7 @@
 ghost use Rattle.std.specs.Prelude.{ℕ, ◌≡◌, ◌≤◌, ◌↔◌, length, Ok, Err};
 ghost use Rattle.vd_format.specs.declared.header.Header.{Header};
 ghost use Rattle.vd_format.specs.Numbers.{IsBytes};
-ghost use Rattle.vd_format.specs.Headers.{SpellsHeader, IsImage, HasOtherVersion, HasWrongField, header_of, fields_in, zeros_in};
+ghost use Rattle.vd_format.specs.Headers.{SpellsHeader, HasHeaderMagic, HasOtherVersion, HasWrongField, header_of, fields_in, zeros_in};
 
 use crate::rules::{is_version, wrong_field};
 use vd_format::numbers::{are_zeros, u32_at, u64_at};
@@ -34,7 +34,7 @@ fn has_zeros(bytes: &[u8]) -> bool
     are_zeros(&bytes[28..32]) && are_zeros(&bytes[56..])
 }
 
-#[tactic(auto, unfolding(vd_format::specs::Headers::header_of, vd_format::specs::Headers::judged, vd_format::specs::Numbers::has_magic))]
+#[tactic(auto, unfolding(vd_format::specs::Headers::header_of, vd_format::specs::Headers::judged_fields, vd_format::specs::Numbers::has_magic))]
 fn read(bytes: &[u8; 512]) -> Result<Header, HeaderError>
     ensures read { result ≡ header_of (record { bytes = bytes.now }) }
     ensures fits { IsBytes bytes.now }
@@ -63,7 +63,7 @@ pub fn read_header(sector: &Sector) -> Result<Header, HeaderError>
     ensures ok { (h : Header) → (result ≡ Ok h) ↔ SpellsHeader sector.now h }
 
     // The magic is judged first, then the version, then the fields by their numbers.
-    ensures not_image { (result ≡ Err HeaderError.NotImage) ↔ (IsImage sector.now → ⊥) }
+    ensures not_image { (result ≡ Err HeaderError.NotImage) ↔ (HasHeaderMagic sector.now → ⊥) }
     ensures version { (version : ℕ) → (result ≡ Err (HeaderError.Version version)) ↔ HasOtherVersion sector.now version }
     ensures field { (field : ℕ) → (result ≡ Err (HeaderError.Field field)) ↔ HasWrongField sector.now field }
 {

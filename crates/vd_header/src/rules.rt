@@ -1,7 +1,7 @@
 //! The rules of a header's fields.
 
 ghost use Rattle.std.specs.Prelude.{◌≡◌, ◌≤◌, ◌↔◌, IsTrue, true};
-ghost use Rattle.vd_format.specs.Headers.{IsValid, is_version, is_block, is_chunk, is_size, is_storage, is_slots, is_tracked, is_generation, judged, first_wrong};
+ghost use Rattle.vd_format.specs.Headers.{IsValid, is_version, is_block, is_chunk, is_size, is_storage, is_slots, is_tracked, is_generation, judged_fields, first_wrong};
 
 use crate::layout::chunks_in;
 use vd_format::Header;
@@ -88,9 +88,9 @@ fn is_generation(generation: u64) -> bool
 }
 
 /// The number of the first field, before the zero bytes, that breaks its rule.
-#[tactic(auto, unfolding(vd_format::specs::Headers::judged))]
+#[tactic(auto, unfolding(vd_format::specs::Headers::judged_fields))]
 pub fn wrong_field(header: &Header) -> Option<u8>
-    ensures { result ≡ first_wrong (judged header.now true) }
+    ensures { result ≡ first_wrong (judged_fields header.now true) }
 {
     if !is_block(header.block) {
         return Some(1);

@@ -3,7 +3,7 @@ use Rattle.std.proofs.Common.{ℕ, ◌≡◌, ◌<◌, ◌⊎◌, inl, inr, [], 
 use Rattle.std.specs.Prelude.{if◌then◌else◌}
 use Rattle.std.proofs.lemmas.Bool.{cases_lt}
 use Rattle.vd_law.specs.Entries.{call_of, same_call, Past, nothing, ◌▸◌}
-use Rattle.vd_law.specs.Calls.{progress, gone_on, before_ask}
+use Rattle.vd_law.specs.Calls.{progress, progress_after, before_ask}
 use Rattle.vd_law.proofs.Opening.{same_call-is, same_call-refl, case}
 use Rattle.vd_image.specs.Log.{Sector, CallId, Asked, Entry, Ask, Issue, Done, Broke, Seen, Reply, At, Ends}
 use Rattle.vd_image.proofs.Logs.{at_push, at_end, at_below, at_pushed, at_one, ends_push, ends_pushed}
@@ -79,19 +79,19 @@ ask_known (p ▸ e) a id request h = elim (cases_lt a (size p)) [
       let place : a ≡ size p = omega arith in
       let event : e ≡ Ask id request = at_one (list_of p ++ e ∷ []) (size p) e (Ask id request) (at_end (list_of p) e) (subst (λ (j : ℕ). At (list_of p ++ e ∷ []) j (Ask id request)) place h.0) in
       subst (λ (x : Entry). ((progress (p ▸ x) id).asked ≡ Some request) × IsBefore (p ▸ x) a (before_ask (p ▸ x) id)) (sym event) (
-        ap (λ (b : Bool). (if b then gone_on (progress p id) (Ask id request) else progress p id).asked) (same_call-refl id),
+        ap (λ (b : Bool). (if b then progress_after (progress p id) (Ask id request) else progress p id).asked) (same_call-refl id),
         inr (place, sym (ap (λ (b : Bool). if b then p else before_ask p id) (same_call-refl id))),
       ))
 ]
   where
-    same_asked : (e : Entry) (b : Bool) → (gone_on (progress p id) e).asked ≡ (progress p id).asked → (progress p id).asked ≡ Some request → (if b then gone_on (progress p id) e else progress p id).asked ≡ Some request
+    same_asked : (e : Entry) (b : Bool) → (progress_after (progress p id) e).asked ≡ (progress p id).asked → (progress p id).asked ≡ Some request → (if b then progress_after (progress p id) e else progress p id).asked ≡ Some request
     same_asked e true same was = same ∙ was
     same_asked e false same was = was
 
     later : (e : Entry) → ((progress p id).asked ≡ Some request) × IsBefore p a (before_ask p id) → ((other : Asked) → e ≡ Ask id other → ⊥) → ((progress (p ▸ e) id).asked ≡ Some request) × IsBefore (p ▸ e) a (before_ask (p ▸ e) id)
     later (Ask c other) k not =
         let differ : same_call c id ≡ false = differs c id (λ same. not other (ap (λ (d : CallId). Ask d other) (sym same))) in (
-          ap (λ (b : Bool). (if b then gone_on (progress p id) (Ask c other) else progress p id).asked) differ ∙ k.0,
+          ap (λ (b : Bool). (if b then progress_after (progress p id) (Ask c other) else progress p id).asked) differ ∙ k.0,
           inl (subst (λ (q : Past). IsBefore p a q) (sym (ap (λ (b : Bool). if b then p else before_ask p id) differ)) k.1),
         )
     later (Issue c first content) k not = (same_asked (Issue c first content) (same_call c id) refl k.0, inl k.1)
@@ -107,14 +107,14 @@ known_ask (p ▸ e) id request is = by_entry (known_ask p id request) e is
     old : ((progress p id).asked ≡ Some request → (a : ℕ) × IsLastAsk p a id request) → (e : Entry) → ((other : Asked) → e ≡ Ask id other → ⊥) → (progress p id).asked ≡ Some request → (a : ℕ) × IsLastAsk (p ▸ e) a id request
     old again e not was = let h = again was in (h.0, ask_old p e h.0 id request not h.1)
 
-    same_asked : (e : Entry) (b : Bool) → (gone_on (progress p id) e).asked ≡ (progress p id).asked → (if b then gone_on (progress p id) e else progress p id).asked ≡ Some request → (progress p id).asked ≡ Some request
+    same_asked : (e : Entry) (b : Bool) → (progress_after (progress p id) e).asked ≡ (progress p id).asked → (if b then progress_after (progress p id) e else progress p id).asked ≡ Some request → (progress p id).asked ≡ Some request
     same_asked e true same is_now = sym same ∙ is_now
     same_asked e false same is_now = is_now
 
     by_entry : ((progress p id).asked ≡ Some request → (a : ℕ) × IsLastAsk p a id request) → (e : Entry) → (progress (p ▸ e) id).asked ≡ Some request → (a : ℕ) × IsLastAsk (p ▸ e) a id request
     by_entry again (Ask c other) is_now = elim (case (same_call c id)) [
       | inl same ↦
-          let asked : Some other ≡ Some request = sym (ap (λ (b : Bool). (if b then gone_on (progress p id) (Ask c other) else progress p id).asked) same) ∙ is_now in
+          let asked : Some other ≡ Some request = sym (ap (λ (b : Bool). (if b then progress_after (progress p id) (Ask c other) else progress p id).asked) same) ∙ is_now in
           let request_is : other ≡ request = cc in
           let event : Ask c other ≡ Ask id request = (let call = same_call-is c id same in cc) in (
             size p,
@@ -125,7 +125,7 @@ known_ask (p ▸ e) id request is = by_entry (known_ask p id request) e is
           )
       | inr differ ↦ old again (Ask c other)
           (λ x same. let call : c ≡ id = ap call_of same in let told = ap (λ (d : CallId). same_call c d) call in let is_same = same_call-refl c in cc)
-          (sym (ap (λ (b : Bool). (if b then gone_on (progress p id) (Ask c other) else progress p id).asked) differ) ∙ is_now)
+          (sym (ap (λ (b : Bool). (if b then progress_after (progress p id) (Ask c other) else progress p id).asked) differ) ∙ is_now)
     ]
     by_entry again (Issue c first content) is_now = old again (Issue c first content) (λ x same. absurd cc) (same_asked (Issue c first content) (same_call c id) refl is_now)
     by_entry again (Done c) is_now = old again (Done c) (λ x same. absurd cc) (same_asked (Done c) (same_call c id) refl is_now)

@@ -2,7 +2,7 @@
 use Rattle.std.proofs.Common.{ℕ, suc, zero, ◌≡◌, ◌+◌, ◌<◌, ◌≤◌, ◌⊎◌, inl, inr, List, [], ◌∷◌, Option, Some, None, Bool, true, false, arith, refl, ap, sym, subst, ◌∙◌}
 use Rattle.std.proofs.lemmas.Bool.{cases_lt, cases_eq}
 use Rattle.vd_image.specs.Log.{Sector, At}
-use Rattle.vd_image.specs.Image.{Header, Mapping, Fact, Record, Format, Layout, Image, IsCurrent, IsGoodMapping, IsGoodSlot, Counts, IsUnnamed, IsLastNamed, Maps, IsLocalBy, unmapped, IsSound, DiskHas}
+use Rattle.vd_image.specs.Image.{Header, Mapping, Fact, Record, Format, Layout, Image, IsCurrent, IsGoodMapping, IsGoodSlot, Counts, IsUnnamed, IsLastNamed, Maps, IsLocalBy, unmapped_sector, IsSound, DiskHas}
 use Rattle.vd_image.proofs.Logs.{at_one}
 
 -- whether a fact of the list names the chunk
@@ -152,7 +152,7 @@ disk_some f l base zeros image sound s within = by_mask (maps.0.storage) refl (m
     maps = maps_some f l image sound.header.generation sound.consistent.records sound.consistent.mappings (l.chunk_of (l.block_of s)) within
 
     absent : ((p : ℕ) → IsLocalBy maps.0 (l.block_of s) p → ⊥) → (v : Sector) × DiskHas f l base zeros image s v
-    absent none = (unmapped base zeros sound.header.tracked maps.0 s, record { header = sound.header; reads = sound.reads; mapping = maps.0; maps = maps.1; has = inr (none, refl) })
+    absent none = (unmapped_sector base zeros sound.header.tracked maps.0 s, record { header = sound.header; reads = sound.reads; mapping = maps.0; maps = maps.1; has = inr (none, refl) })
 
     by_mask : (storage : Option ℕ) → maps.0.storage ≡ storage → (has : Bool) → maps.0.has (l.block_of s) ≡ has → (v : Sector) × DiskHas f l base zeros image s v
     by_mask None none has is = absent (λ p local. let a = local.0 in cc)
@@ -169,12 +169,12 @@ disk_one f l base zeros image s u v a b = by_cases a.has there
     mapping : b.mapping ≡ a.mapping
     mapping = maps_one f l image a.header.generation (l.chunk_of (l.block_of s)) b.mapping a.mapping (subst (λ (h : Header). Maps f l image h.generation (l.chunk_of (l.block_of s)) b.mapping) header b.maps) a.maps
 
-    there : ((p : ℕ) × IsLocalBy a.mapping (l.block_of s) p × (v ≡ image (l.place p s))) ⊎ (((p : ℕ) → IsLocalBy a.mapping (l.block_of s) p → ⊥) × (v ≡ unmapped base zeros a.header.tracked a.mapping s))
-    there = subst (λ (h : Header). ((p : ℕ) × IsLocalBy a.mapping (l.block_of s) p × (v ≡ image (l.place p s))) ⊎ (((p : ℕ) → IsLocalBy a.mapping (l.block_of s) p → ⊥) × (v ≡ unmapped base zeros h.tracked a.mapping s))) header
-        (subst (λ (m : Mapping). ((p : ℕ) × IsLocalBy m (l.block_of s) p × (v ≡ image (l.place p s))) ⊎ (((p : ℕ) → IsLocalBy m (l.block_of s) p → ⊥) × (v ≡ unmapped base zeros b.header.tracked m s))) mapping b.has)
+    there : ((p : ℕ) × IsLocalBy a.mapping (l.block_of s) p × (v ≡ image (l.place p s))) ⊎ (((p : ℕ) → IsLocalBy a.mapping (l.block_of s) p → ⊥) × (v ≡ unmapped_sector base zeros a.header.tracked a.mapping s))
+    there = subst (λ (h : Header). ((p : ℕ) × IsLocalBy a.mapping (l.block_of s) p × (v ≡ image (l.place p s))) ⊎ (((p : ℕ) → IsLocalBy a.mapping (l.block_of s) p → ⊥) × (v ≡ unmapped_sector base zeros h.tracked a.mapping s))) header
+        (subst (λ (m : Mapping). ((p : ℕ) × IsLocalBy m (l.block_of s) p × (v ≡ image (l.place p s))) ⊎ (((p : ℕ) → IsLocalBy m (l.block_of s) p → ⊥) × (v ≡ unmapped_sector base zeros b.header.tracked m s))) mapping b.has)
 
-    by_cases : ((p : ℕ) × IsLocalBy a.mapping (l.block_of s) p × (u ≡ image (l.place p s))) ⊎ (((p : ℕ) → IsLocalBy a.mapping (l.block_of s) p → ⊥) × (u ≡ unmapped base zeros a.header.tracked a.mapping s))
-        → ((p : ℕ) × IsLocalBy a.mapping (l.block_of s) p × (v ≡ image (l.place p s))) ⊎ (((p : ℕ) → IsLocalBy a.mapping (l.block_of s) p → ⊥) × (v ≡ unmapped base zeros a.header.tracked a.mapping s)) → u ≡ v
+    by_cases : ((p : ℕ) × IsLocalBy a.mapping (l.block_of s) p × (u ≡ image (l.place p s))) ⊎ (((p : ℕ) → IsLocalBy a.mapping (l.block_of s) p → ⊥) × (u ≡ unmapped_sector base zeros a.header.tracked a.mapping s))
+        → ((p : ℕ) × IsLocalBy a.mapping (l.block_of s) p × (v ≡ image (l.place p s))) ⊎ (((p : ℕ) → IsLocalBy a.mapping (l.block_of s) p → ⊥) × (v ≡ unmapped_sector base zeros a.header.tracked a.mapping s)) → u ≡ v
     by_cases (inl h) (inl k) = let x = h.1.0 in let y = k.1.0 in let same : h.0 ≡ k.0 = cc in h.2 ∙ ap (λ (p : ℕ). image (l.place p s)) same ∙ sym k.2
     by_cases (inl h) (inr k) = absurd (k.0 h.0 h.1)
     by_cases (inr h) (inl k) = absurd (h.0 k.0 k.1)

@@ -8,7 +8,7 @@ use Rattle.std.proofs.lemmas.Bool.{cases_lt}
 use Rattle.vd_law.specs.declared.entry.Answer.TheVariants as answers
 use Rattle.vd_law.specs.Entries.{Past, nothing, ◌▸◌, past}
 use Rattle.vd_law.specs.Calls.{progress, before_ask}
-use Rattle.vd_law.specs.Contents.{written, last_done, is_flushed, firm_after, versions, may}
+use Rattle.vd_law.specs.Contents.{issued_contents, last_done, is_flushed, firm_after, versions, may}
 use Rattle.vd_image.specs.Log.{Sector, CallId, Answer, Fine, Asked, Flush, Entry, Ask, Issue, Done, Broke, Seen, Reply, At, Writes, Ends, Flushes, IsSure, May, IsImage}
 use Rattle.vd_image.specs.Log.{IsOpen}
 use Rattle.vd_image.proofs.Logs.{at_push, at_end, at_below, at_pushed, ends_push, ends_pushed, sure_push}
@@ -173,7 +173,7 @@ dropped_at (suc n) (x ∷ xs) k zero v sum at = absurd (omega (arith, sum))
 dropped_at (suc n) (x ∷ xs) k (suc j) v sum at = dropped_at n xs k j v (omega (arith, sum)) at
 
 -- what the law lists is the content at the start, where nothing is sure, or that of a write that no later sure one passed over
-pub listed : (held : ℕ → Sector) (p : Past) (s k : ℕ) (v : Sector) → firm_after p s ≤ k → At (held s ∷ written p s) k v → May held (list_of p) s v
+pub listed : (held : ℕ → Sector) (p : Past) (s k : ℕ) (v : Sector) → firm_after p s ≤ k → At (held s ∷ issued_contents p s) k v → May held (list_of p) s v
 listed held p s zero v firm at = inl (record {
   value = (let same : held s ≡ v = cc in sym same);
   newest = λ j u from w sure.
@@ -195,7 +195,7 @@ listed held p s (suc k) v firm at =
     })
 
 -- and each such content is listed
-pub in_list : (held : ℕ → Sector) (p : Past) (s : ℕ) (v : Sector) → May held (list_of p) s v → (k : ℕ) × (firm_after p s ≤ k) × At (held s ∷ written p s) k v
+pub in_list : (held : ℕ → Sector) (p : Past) (s : ℕ) (v : Sector) → May held (list_of p) s v → (k : ℕ) × (firm_after p s ≤ k) × At (held s ∷ issued_contents p s) k v
 in_list held p s v (inl h) = (0, none (firm_is p s), let same = h.value in cc)
   where
     none : (firm_after p s ≡ 0) ⊎ IsSureNth p s (firm_after p s) → firm_after p s ≤ 0
@@ -206,10 +206,10 @@ in_list held p s v (inr h) = (nth.0, most (firm_is p s), listed_at nth.0 nth.1 w
     nth : (n : ℕ) × IsNth p s n h.at v
     nth = writes_nth p s h.at v h.writes
 
-    within : (h.at < size p) × (1 ≤ nth.0) × (nth.0 ≤ length (written p s))
+    within : (h.at < size p) × (1 ≤ nth.0) × (nth.0 ≤ length (issued_contents p s))
     within = nth_within p s nth.0 h.at v nth.1
 
-    listed_at : (n : ℕ) → IsNth p s n h.at v → 1 ≤ n → At (held s ∷ written p s) n v
+    listed_at : (n : ℕ) → IsNth p s n h.at v → 1 ≤ n → At (held s ∷ issued_contents p s) n v
     listed_at zero is some = absurd (omega (arith, some))
     listed_at (suc n) is some = nth_at p s n h.at v (let same : suc n ≡ n + 1 = omega arith in subst (λ (m : ℕ). IsNth p s m h.at v) same is)
 
@@ -241,20 +241,20 @@ may_is_exact start held log s v there = (
       (subst (λ (xs : List Sector). At xs k.0 v) (sym all) k.2))),
 )
   where
-    all : versions start (past log) s ≡ held s ∷ written (past log) s
-    all = ap (λ (x : Option Sector). option_to_list x ++ written (past log) s) there
+    all : versions start (past log) s ≡ held s ∷ issued_contents (past log) s
+    all = ap (λ (x : Option Sector). option_to_list x ++ issued_contents (past log) s) there
 
 -- some content may always be left
 pub some_left : (held : ℕ → Sector) (log : List Entry) (s : ℕ) → (v : Sector) × May held log s v
 some_left held log s =
-    let at = at_inside (held s) (held s ∷ written (past log) s) (firm_after (past log) s) below in
-    let left = listed held (past log) s (firm_after (past log) s) (slice_index_or (held s ∷ written (past log) s) (firm_after (past log) s) (held s)) (omega arith) at in
-    (slice_index_or (held s ∷ written (past log) s) (firm_after (past log) s) (held s), subst (λ (l : List Entry). May held l s (slice_index_or (held s ∷ written (past log) s) (firm_after (past log) s) (held s))) (list_of-fold log nothing) left)
+    let at = at_inside (held s) (held s ∷ issued_contents (past log) s) (firm_after (past log) s) below in
+    let left = listed held (past log) s (firm_after (past log) s) (slice_index_or (held s ∷ issued_contents (past log) s) (firm_after (past log) s) (held s)) (omega arith) at in
+    (slice_index_or (held s ∷ issued_contents (past log) s) (firm_after (past log) s) (held s), subst (λ (l : List Entry). May held l s (slice_index_or (held s ∷ issued_contents (past log) s) (firm_after (past log) s) (held s))) (list_of-fold log nothing) left)
   where
     at_inside : (other : Sector) (xs : List Sector) (i : ℕ) → i < length xs → At xs i (slice_index_or xs i other)
     at_inside other xs i less = slice_get-get_or xs i other less
 
-    below : firm_after (past log) s < length (held s ∷ written (past log) s)
+    below : firm_after (past log) s < length (held s ∷ issued_contents (past log) s)
     below = elim (firm_is (past log) s) [ inl none ↦ omega arith | inr sure ↦ (let k = nth_within (past log) s (firm_after (past log) s) sure.0 sure.1 sure.2 in omega arith) ]
 
 -- and so some image

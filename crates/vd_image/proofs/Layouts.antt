@@ -5,7 +5,7 @@ use Rattle.std.proofs.Math.Nat.{div-div-eq-div-mul}
 use Rattle.vd_format.specs.Layouts.{blocks_of, chunks_of, storage_start, need_of}
 use Rattle.vd_format.specs.Headers.{block_sizes, chunk_sizes, IsValid}
 use Rattle.vd_image.specs.Image.{Header, IsApart}
-use Rattle.vd_image.specs.Layouts.{chunk_sectors, layout_of, IsInside}
+use Rattle.vd_image.specs.Layouts.{chunk_sectors, layout_of, FitsInStore}
 
 -- as many chunks as hold all blocks
 enough : (n k : ℕ) → 0 < k → n ≤ (n + k - 1) / k * k
@@ -87,7 +87,7 @@ parts_apart h valid = record {
     sectors = some_product h.block h.chunk block chunk
 
 -- and inside a store of as many sectors as it needs
-pub parts_inside : (h : Header) → IsValid h → IsInside (layout_of h) (need_of h)
+pub parts_inside : (h : Header) → IsValid h → FitsInStore (layout_of h) (need_of h)
 parts_inside h valid = record {
   header = omega arith;
   map = λ c below. let k = map_within (chunks_of h) c below in omega arith;

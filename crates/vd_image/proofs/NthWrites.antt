@@ -4,7 +4,7 @@ use Rattle.std.specs.List.{fold}
 use Rattle.std.specs.Option.{option_to_list}
 use Rattle.std.proofs.lemmas.List.{append_assoc, append-nil}
 use Rattle.vd_law.specs.Entries.{Past, nothing, ◌▸◌}
-use Rattle.vd_law.specs.Contents.{sector_in, written}
+use Rattle.vd_law.specs.Contents.{sector_in, issued_contents}
 use Rattle.vd_law.proofs.Sectors.{sector_in-at, sector_in-place}
 use Rattle.vd_image.specs.Log.{Sector, CallId, Entry, Ask, Issue, Done, Broke, Seen, Reply, At, Covers, Writes}
 use Rattle.vd_image.proofs.Logs.{at_push, at_end, at_pushed, covers_one, writes_push, writes_end, writes_pushed}
@@ -25,7 +25,7 @@ list_of-fold (x ∷ xs) p = list_of-fold xs (p ▸ x) ∙ append_assoc (list_of 
 -- the n-th write to s, counted from 1, is the i-th entry's, of v
 abbrev pub IsNth : Past → ℕ → ℕ → ℕ → Sector → Type 0
 IsNth nothing s n i v = ⊥
-IsNth (p ▸ e) s n i v = IsNth p s n i v ⊎ ((i ≡ size p) × Covers e s v × (n ≡ length (written p s) + 1))
+IsNth (p ▸ e) s n i v = IsNth p s n i v ⊎ ((i ≡ size p) × Covers e s v × (n ≡ length (issued_contents p s) + 1))
 
 pub covers_in : (first : ℕ) (content : List Sector) (s : ℕ) (v : Sector) → sector_in first content s ≡ Some v → (offset : ℕ) × (s ≡ first + offset) × At content offset v
 covers_in first content s v is = let h = sector_in-place first content s v is in (s - first, omega (arith, h.0), h.1)
@@ -34,21 +34,21 @@ pub in_covers : (id : CallId) (first : ℕ) (content : List Sector) (s : ℕ) (v
 in_covers id first content s v c = ap (λ (t : ℕ). sector_in first content t) c.1 ∙ sector_in-at first c.0 content ∙ c.2
 
 -- one more entry adds to what is written there what it covers
-pub written_step : (p : Past) (e : Entry) (s : ℕ) → ((v : Sector) × Covers e s v × (written (p ▸ e) s ≡ written p s ++ v ∷ [])) ⊎ (((v : Sector) → Covers e s v → ⊥) × (written (p ▸ e) s ≡ written p s))
+pub written_step : (p : Past) (e : Entry) (s : ℕ) → ((v : Sector) × Covers e s v × (issued_contents (p ▸ e) s ≡ issued_contents p s ++ v ∷ [])) ⊎ (((v : Sector) → Covers e s v → ⊥) × (issued_contents (p ▸ e) s ≡ issued_contents p s))
 written_step p (Issue id first content) s = go (sector_in first content s) refl
   where
-    go : (x : Option Sector) → sector_in first content s ≡ x → ((v : Sector) × Covers (Issue id first content) s v × (written (p ▸ Issue id first content) s ≡ written p s ++ v ∷ [])) ⊎ (((v : Sector) → Covers (Issue id first content) s v → ⊥) × (written (p ▸ Issue id first content) s ≡ written p s))
-    go (Some v) e = inl (v, covers_in first content s v e, ap (λ (x : Option Sector). written p s ++ option_to_list x) e)
-    go None e = inr ((λ v covers. let a = in_covers id first content s v covers in absurd cc), ap (λ (x : Option Sector). written p s ++ option_to_list x) e ∙ append-nil (written p s))
+    go : (x : Option Sector) → sector_in first content s ≡ x → ((v : Sector) × Covers (Issue id first content) s v × (issued_contents (p ▸ Issue id first content) s ≡ issued_contents p s ++ v ∷ [])) ⊎ (((v : Sector) → Covers (Issue id first content) s v → ⊥) × (issued_contents (p ▸ Issue id first content) s ≡ issued_contents p s))
+    go (Some v) e = inl (v, covers_in first content s v e, ap (λ (x : Option Sector). issued_contents p s ++ option_to_list x) e)
+    go None e = inr ((λ v covers. let a = in_covers id first content s v covers in absurd cc), ap (λ (x : Option Sector). issued_contents p s ++ option_to_list x) e ∙ append-nil (issued_contents p s))
 written_step p (Ask id request) s = inr ((λ v covers. covers), refl)
 written_step p (Done id) s = inr ((λ v covers. covers), refl)
 written_step p (Broke id) s = inr ((λ v covers. covers), refl)
 written_step p (Seen id first content) s = inr ((λ v covers. covers), refl)
 written_step p (Reply id answer) s = inr ((λ v covers. covers), refl)
 
-pub written_more : (p : Past) (e : Entry) (s : ℕ) → length (written p s) ≤ length (written (p ▸ e) s)
+pub written_more : (p : Past) (e : Entry) (s : ℕ) → length (issued_contents p s) ≤ length (issued_contents (p ▸ e) s)
 written_more p e s = elim (written_step p e s) [
-  | inl h ↦ (let l = length_one (written p s) h.0 in let k = ap length h.2 in omega arith)
+  | inl h ↦ (let l = length_one (issued_contents p s) h.0 in let k = ap length h.2 in omega arith)
   | inr h ↦ (let k = ap length h.1 in omega arith)
 ]
   where
@@ -64,10 +64,10 @@ pub writes_nth : (p : Past) (s i : ℕ) (v : Sector) → Writes (list_of p) i s 
 writes_nth nothing s i v w = absurd (let a = w.stands in cc)
 writes_nth (p ▸ e) s i v w = elim (writes_pushed (list_of p) e i s v w) [
   | inl old ↦ (let h = writes_nth p s i v old in (h.0, inl h.1))
-  | inr new ↦ (length (written p s) + 1, inr (new.0, new.1, refl))
+  | inr new ↦ (length (issued_contents p s) + 1, inr (new.0, new.1, refl))
 ]
 
-pub nth_within : (p : Past) (s n i : ℕ) (v : Sector) → IsNth p s n i v → (i < size p) × (1 ≤ n) × (n ≤ length (written p s))
+pub nth_within : (p : Past) (s n i : ℕ) (v : Sector) → IsNth p s n i v → (i < size p) × (1 ≤ n) × (n ≤ length (issued_contents p s))
 nth_within nothing s n i v h = absurd h
 nth_within (p ▸ e) s n i v (inl h) =
     let k = nth_within p s n i v h in let m = written_more p e s in let l = length_push (list_of p) e in
@@ -76,8 +76,8 @@ nth_within (p ▸ e) s n i v (inr h) =
     let l = length_push (list_of p) e in
     (omega (arith, h.0), omega (arith, h.2), last (written_step p e s))
   where
-    last : ((u : Sector) × Covers e s u × (written (p ▸ e) s ≡ written p s ++ u ∷ [])) ⊎ (((u : Sector) → Covers e s u → ⊥) × (written (p ▸ e) s ≡ written p s)) → n ≤ length (written (p ▸ e) s)
-    last (inl k) = let l = length_push (written p s) k.0 in let m = ap length k.2 in omega (arith, h.2)
+    last : ((u : Sector) × Covers e s u × (issued_contents (p ▸ e) s ≡ issued_contents p s ++ u ∷ [])) ⊎ (((u : Sector) → Covers e s u → ⊥) × (issued_contents (p ▸ e) s ≡ issued_contents p s)) → n ≤ length (issued_contents (p ▸ e) s)
+    last (inl k) = let l = length_push (issued_contents p s) k.0 in let m = ap length k.2 in omega (arith, h.2)
     last (inr k) = absurd (k.0 v h.1)
 
 -- later writes have greater numbers
@@ -97,23 +97,23 @@ nth_one (p ▸ e) s n m i u v (inr h) (inl k) = absurd (let w = nth_within p s m
 nth_one (p ▸ e) s n m i u v (inr h) (inr k) = omega (arith, h.2, k.2)
 
 -- the contents written to s, in order, are those of its writes
-pub nth_at : (p : Past) (s k i : ℕ) (v : Sector) → IsNth p s (k + 1) i v → At (written p s) k v
+pub nth_at : (p : Past) (s k i : ℕ) (v : Sector) → IsNth p s (k + 1) i v → At (issued_contents p s) k v
 nth_at nothing s k i v h = absurd h
 nth_at (p ▸ e) s k i v h = elim (written_step p e s) [
   | inl w ↦ subst (λ (xs : List Sector). At xs k v) (sym w.2) (elim h [
-    | inl old ↦ at_push (written p s) w.0 k v (nth_at p s k i v old)
+    | inl old ↦ at_push (issued_contents p s) w.0 k v (nth_at p s k i v old)
     | inr new ↦
-        let place : k ≡ length (written p s) = omega (arith, new.2) in
+        let place : k ≡ length (issued_contents p s) = omega (arith, new.2) in
         let value : w.0 ≡ v = covers_one e s w.0 v w.1 new.1 in
-        subst (λ (j : ℕ). At (written p s ++ w.0 ∷ []) j v) (sym place) (subst (λ (y : Sector). At (written p s ++ w.0 ∷ []) (length (written p s)) y) value (at_end (written p s) w.0))
+        subst (λ (j : ℕ). At (issued_contents p s ++ w.0 ∷ []) j v) (sym place) (subst (λ (y : Sector). At (issued_contents p s ++ w.0 ∷ []) (length (issued_contents p s)) y) value (at_end (issued_contents p s) w.0))
   ])
   | inr w ↦ subst (λ (xs : List Sector). At xs k v) (sym w.1) (elim h [ inl old ↦ nth_at p s k i v old | inr new ↦ absurd (w.0 v new.1) ])
 ]
 
-pub at_nth : (p : Past) (s k : ℕ) (v : Sector) → At (written p s) k v → (i : ℕ) × IsNth p s (k + 1) i v
+pub at_nth : (p : Past) (s k : ℕ) (v : Sector) → At (issued_contents p s) k v → (i : ℕ) × IsNth p s (k + 1) i v
 at_nth nothing s k v at = absurd cc
 at_nth (p ▸ e) s k v at = elim (written_step p e s) [
-  | inl w ↦ elim (at_pushed (written p s) w.0 k v (subst (λ (xs : List Sector). At xs k v) w.2 at)) [
+  | inl w ↦ elim (at_pushed (issued_contents p s) w.0 k v (subst (λ (xs : List Sector). At xs k v) w.2 at)) [
     | inl old ↦ (let h = at_nth p s k v old in (h.0, inl h.1))
     | inr new ↦ (size p, inr (refl, subst (λ (y : Sector). Covers e s y) new.1 w.1, omega (arith, new.0)))
   ]

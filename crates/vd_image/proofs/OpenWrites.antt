@@ -4,16 +4,16 @@ use Rattle.std.specs.Prelude.{if◌then◌else◌}
 use Rattle.std.specs.List.{filter, find}
 use Rattle.std.proofs.lemmas.Bool.{cases_lt}
 use Rattle.vd_law.specs.Entries.{same_call, Past, nothing, ◌▸◌}
-use Rattle.vd_law.specs.Contents.{sector_in, written, Open, opened, is_of, is_of_another, open_writes, open_write, number_of, last_done}
+use Rattle.vd_law.specs.Contents.{sector_in, issued_contents, Open, open_after_issue, is_of, is_of_another, open_writes, open_write, issue_number, last_done}
 use Rattle.vd_law.proofs.Opening.{same_call-is, same_call-refl, case, find-closed}
 use Rattle.vd_image.specs.Log.{Sector, CallId, Entry, Ask, Issue, Done, Broke, Seen, Reply, At, Covers, IsIssueOf, Ends}
-use Rattle.vd_image.specs.Log.{IsInFlight}
+use Rattle.vd_image.specs.Log.{IsWriteInFlight}
 use Rattle.vd_image.proofs.Logs.{at_push, at_end, at_below, at_pushed, ends_push, ends_pushed, ends_end}
 use Rattle.vd_image.proofs.Logs.{length_push}
 use Rattle.vd_image.proofs.NthWrites.{list_of, size, IsNth, covers_in, in_covers, nth_within}
 
 -- an open write of the longer history is one of the shorter, or its last entry is the issue
-pub flight_pushed : (p : Past) (e : Entry) (i : ℕ) (id : CallId) → IsInFlight (list_of p ++ e ∷ []) i id → (IsInFlight (list_of p) i id × (Done id ≡ e → ⊥) × (Broke id ≡ e → ⊥)) ⊎ ((i ≡ size p) × IsIssueOf e id)
+pub flight_pushed : (p : Past) (e : Entry) (i : ℕ) (id : CallId) → IsWriteInFlight (list_of p ++ e ∷ []) i id → (IsWriteInFlight (list_of p) i id × (Done id ≡ e → ⊥) × (Broke id ≡ e → ⊥)) ⊎ ((i ≡ size p) × IsIssueOf e id)
 flight_pushed p e i id h = elim (at_pushed (list_of p) e i h.event h.stands) [
   | inl old ↦ inl (
     record { event = h.event; stands = old; issues = h.issues; running = λ m after found. h.running m after (grown m found) },
@@ -39,32 +39,32 @@ open_closed p c id s n differ h = (h.0, find-closed c id (open_writes p s) ∙ a
 
 -- an issue that covers s puts its own write first
 pub open_first : (p : Past) (c id : CallId) (first : ℕ) (content : List Sector) (s : ℕ) (v : Sector) → sector_in first content s ≡ Some v → c ≡ id
-    → open_write (p ▸ Issue c first content) id s ≡ Some (record { call = c; number = length (written p s) + 1; content = v })
+    → open_write (p ▸ Issue c first content) id s ≡ Some (record { call = c; number = length (issued_contents p s) + 1; content = v })
 open_first p c id first content s v e same =
-    ap (λ (y : Option Sector). find (is_of id) (opened c (length (written p s) + 1) y ++ open_writes p s)) e
-    ∙ ap (λ (b : Bool). if b then Some (record { call = c; number = length (written p s) + 1; content = v }) else find (is_of id) (open_writes p s)) (ap (λ (d : CallId). same_call c d) (sym same) ∙ same_call-refl c)
+    ap (λ (y : Option Sector). find (is_of id) (open_after_issue c (length (issued_contents p s) + 1) y ++ open_writes p s)) e
+    ∙ ap (λ (b : Bool). if b then Some (record { call = c; number = length (issued_contents p s) + 1; content = v }) else find (is_of id) (open_writes p s)) (ap (λ (d : CallId). same_call c d) (sym same) ∙ same_call-refl c)
 
 pub open_issued : (p : Past) (c id : CallId) (first : ℕ) (content : List Sector) (s : ℕ) → (x : Option Sector) → sector_in first content s ≡ x
-    → (open_write (p ▸ Issue c first content) id s ≡ open_write p id s) ⊎ ((v : Sector) × (x ≡ Some v) × (c ≡ id) × (open_write (p ▸ Issue c first content) id s ≡ Some (record { call = c; number = length (written p s) + 1; content = v })))
-open_issued p c id first content s None e = inl (ap (λ (y : Option Sector). find (is_of id) (opened c (length (written p s) + 1) y ++ open_writes p s)) e)
+    → (open_write (p ▸ Issue c first content) id s ≡ open_write p id s) ⊎ ((v : Sector) × (x ≡ Some v) × (c ≡ id) × (open_write (p ▸ Issue c first content) id s ≡ Some (record { call = c; number = length (issued_contents p s) + 1; content = v })))
+open_issued p c id first content s None e = inl (ap (λ (y : Option Sector). find (is_of id) (open_after_issue c (length (issued_contents p s) + 1) y ++ open_writes p s)) e)
 open_issued p c id first content s (Some v) e = elim (case (same_call c id)) [
   | inl same ↦ inr (v, refl, same_call-is c id same, open_first p c id first content s v e (same_call-is c id same))
-  | inr differ ↦ inl (ap (λ (y : Option Sector). find (is_of id) (opened c (length (written p s) + 1) y ++ open_writes p s)) e
-      ∙ ap (λ (b : Bool). if b then Some (record { call = c; number = length (written p s) + 1; content = v }) else find (is_of id) (open_writes p s)) differ)
+  | inr differ ↦ inl (ap (λ (y : Option Sector). find (is_of id) (open_after_issue c (length (issued_contents p s) + 1) y ++ open_writes p s)) e
+      ∙ ap (λ (b : Bool). if b then Some (record { call = c; number = length (issued_contents p s) + 1; content = v }) else find (is_of id) (open_writes p s)) differ)
 ]
 
-pub flight_open : (p : Past) (s n i : ℕ) (v : Sector) (id : CallId) → IsNth p s n i v → IsInFlight (list_of p) i id → HasOpen p id s n
+pub flight_open : (p : Past) (s n i : ℕ) (v : Sector) (id : CallId) → IsNth p s n i v → IsWriteInFlight (list_of p) i id → HasOpen p id s n
 flight_open nothing s n i v id h flight = absurd h
 flight_open (p ▸ e) s n i v id (inl h) flight = elim (flight_pushed p e i id flight) [
   | inr new ↦ absurd (let k = nth_within p s n i v h in omega (arith, k.0, new.0))
   | inl old ↦ still e (flight_open p s n i v id h old.0) old.1 old.2 (nth_within p s n i v h).2
 ]
   where
-    still : (e : Entry) → HasOpen p id s n → (Done id ≡ e → ⊥) → (Broke id ≡ e → ⊥) → n ≤ length (written p s) → HasOpen (p ▸ e) id s n
+    still : (e : Entry) → HasOpen p id s n → (Done id ≡ e → ⊥) → (Broke id ≡ e → ⊥) → n ≤ length (issued_contents p s) → HasOpen (p ▸ e) id s n
     still (Ask c request) k no_done no_broke within = k
     still (Issue c first content) k no_done no_broke within = elim (open_issued p c id first content s (sector_in first content s) refl) [
       | inl same ↦ (k.0, same ∙ k.1, k.2)
-      | inr new ↦ (record { call = c; number = length (written p s) + 1; content = new.0 }, new.3, omega arith)
+      | inr new ↦ (record { call = c; number = length (issued_contents p s) + 1; content = new.0 }, new.3, omega arith)
     ]
     still (Done c) k no_done no_broke within = open_closed p c id s n (differs c id (λ same. no_done (ap Done same))) k
     still (Broke c) k no_done no_broke within = open_closed p c id s n (differs c id (λ same. no_broke (ap Broke same))) k
@@ -78,23 +78,23 @@ flight_open (p ▸ e) s n i v id (inr h) flight = elim (flight_pushed p e i id f
     first_open : (e : Entry) → Covers e s v → IsIssueOf e id → HasOpen (p ▸ e) id s n
     first_open (Ask c request) covers issue = absurd covers
     first_open (Issue c first content) covers issue =
-        (record { call = c; number = length (written p s) + 1; content = v }, open_first p c id first content s v (in_covers c first content s v covers) issue, omega (arith, h.2))
+        (record { call = c; number = length (issued_contents p s) + 1; content = v }, open_first p c id first content s v (in_covers c first content s v covers) issue, omega (arith, h.2))
     first_open (Done c) covers issue = absurd covers
     first_open (Broke c) covers issue = absurd covers
     first_open (Seen c first content) covers issue = absurd covers
     first_open (Reply c answer) covers issue = absurd covers
 
 -- and it is one of them
-pub open_flight : (p : Past) (s : ℕ) (id : CallId) (w : Open) → open_write p id s ≡ Some w → (i : ℕ) × (v : Sector) × IsNth p s w.number i v × IsInFlight (list_of p) i id
+pub open_flight : (p : Past) (s : ℕ) (id : CallId) (w : Open) → open_write p id s ≡ Some w → (i : ℕ) × (v : Sector) × IsNth p s w.number i v × IsWriteInFlight (list_of p) i id
 open_flight nothing s id w is = absurd cc
 open_flight (p ▸ e) s id w is = by_entry (open_flight p s id w) e is
   where
-    kept : (open_write p id s ≡ Some w → (i : ℕ) × (v : Sector) × IsNth p s w.number i v × IsInFlight (list_of p) i id) → (e : Entry) → (Done id ≡ e → ⊥) → (Broke id ≡ e → ⊥) → open_write p id s ≡ Some w → (i : ℕ) × (v : Sector) × IsNth (p ▸ e) s w.number i v × IsInFlight (list_of p ++ e ∷ []) i id
+    kept : (open_write p id s ≡ Some w → (i : ℕ) × (v : Sector) × IsNth p s w.number i v × IsWriteInFlight (list_of p) i id) → (e : Entry) → (Done id ≡ e → ⊥) → (Broke id ≡ e → ⊥) → open_write p id s ≡ Some w → (i : ℕ) × (v : Sector) × IsNth (p ▸ e) s w.number i v × IsWriteInFlight (list_of p ++ e ∷ []) i id
     kept again e no_done no_broke was =
         let h = again was in
         (h.0, h.1, inl h.2, record { event = h.3.event; stands = at_push (list_of p) e h.0 h.3.event h.3.stands; issues = h.3.issues; running = λ m after found. running h.0 h.3 m after found })
       where
-        running : (i : ℕ) → IsInFlight (list_of p) i id → (m : ℕ) → i < m → At (list_of p ++ e ∷ []) m (Done id) ⊎ At (list_of p ++ e ∷ []) m (Broke id) → ⊥
+        running : (i : ℕ) → IsWriteInFlight (list_of p) i id → (m : ℕ) → i < m → At (list_of p ++ e ∷ []) m (Done id) ⊎ At (list_of p ++ e ∷ []) m (Broke id) → ⊥
         running i f m after (inl a) = elim (at_pushed (list_of p) e m (Done id) a) [ inl k ↦ f.running m after (inl k) | inr k ↦ no_done (sym k.1) ]
         running i f m after (inr a) = elim (at_pushed (list_of p) e m (Broke id) a) [ inl k ↦ f.running m after (inr k) | inr k ↦ no_broke (sym k.1) ]
 
@@ -107,13 +107,13 @@ open_flight (p ▸ e) s id w is = by_entry (open_flight p s id w) e is
       )
     ]
 
-    by_entry : (open_write p id s ≡ Some w → (i : ℕ) × (v : Sector) × IsNth p s w.number i v × IsInFlight (list_of p) i id) → (e : Entry) → open_write (p ▸ e) id s ≡ Some w → (i : ℕ) × (v : Sector) × IsNth (p ▸ e) s w.number i v × IsInFlight (list_of p ++ e ∷ []) i id
+    by_entry : (open_write p id s ≡ Some w → (i : ℕ) × (v : Sector) × IsNth p s w.number i v × IsWriteInFlight (list_of p) i id) → (e : Entry) → open_write (p ▸ e) id s ≡ Some w → (i : ℕ) × (v : Sector) × IsNth (p ▸ e) s w.number i v × IsWriteInFlight (list_of p ++ e ∷ []) i id
     by_entry again (Ask c request) was = kept again (Ask c request) (λ same. absurd cc) (λ same. absurd cc) was
     by_entry again (Issue c first content) was = elim (open_issued p c id first content s (sector_in first content s) refl) [
       | inl same ↦ kept again (Issue c first content) (λ e. absurd cc) (λ e. absurd cc) (sym same ∙ was)
       | inr new ↦
-          let one : record { call = c; number = length (written p s) + 1; content = new.0 } ≡ w = (let a = sym new.3 ∙ was in cc) in
-          let number : length (written p s) + 1 ≡ w.number = ap (λ (x : Open). x.number) one in (
+          let one : record { call = c; number = length (issued_contents p s) + 1; content = new.0 } ≡ w = (let a = sym new.3 ∙ was in cc) in
+          let number : length (issued_contents p s) + 1 ≡ w.number = ap (λ (x : Open). x.number) one in (
             size p,
             new.0,
             inr (refl, covers_in first content s new.0 new.1, sym number),
@@ -139,7 +139,7 @@ done_below (p ▸ e) s n i d v (inl h) ends = elim (ends_pushed (list_of p) e i 
   | inr new ↦
       let open_it = flight_open p s n i v new.1.0.id h (record { event = new.1.0.event; stands = new.1.0.stands; issues = new.1.0.issues; running = new.1.0.open_still }) in
       subst (λ (x : Entry). n ≤ last_done (p ▸ x) s) (sym new.1.1)
-      (let number : number_of (open_write p new.1.0.id s) ≡ open_it.0.number = ap number_of open_it.1 in let l = open_it.2 in omega arith)
+      (let number : issue_number (open_write p new.1.0.id s) ≡ open_it.0.number = ap issue_number open_it.1 in let l = open_it.2 in omega arith)
 ]
   where
     grows : (e : Entry) → n ≤ last_done p s → n ≤ last_done (p ▸ e) s
@@ -167,7 +167,7 @@ done_is (p ▸ e) s = by_entry (done_is p s) e
     old : (last_done p s ≡ 0) ⊎ IsDoneNth p s (last_done p s) → (e : Entry) → (last_done p s ≡ 0) ⊎ IsDoneNth (p ▸ e) s (last_done p s)
     old before e = elim before [ inl none ↦ inl none | inr h ↦ inr (done_push p e s (last_done p s) h) ]
 
-    ended : (c : CallId) → (x : Option Open) → open_write p c s ≡ x → (number_of x ≡ 0) ⊎ IsDoneNth (p ▸ Done c) s (number_of x)
+    ended : (c : CallId) → (x : Option Open) → open_write p c s ≡ x → (issue_number x ≡ 0) ⊎ IsDoneNth (p ▸ Done c) s (issue_number x)
     ended c None is = inl refl
     ended c (Some w) is =
         let h = open_flight p s c w is in
@@ -182,7 +182,7 @@ done_is (p ▸ e) s = by_entry (done_is p s) e
     by_entry : (last_done p s ≡ 0) ⊎ IsDoneNth p s (last_done p s) → (e : Entry) → (last_done (p ▸ e) s ≡ 0) ⊎ IsDoneNth (p ▸ e) s (last_done (p ▸ e) s)
     by_entry before (Ask c request) = old before (Ask c request)
     by_entry before (Issue c first content) = old before (Issue c first content)
-    by_entry before (Done c) = greater c (last_done p s) (number_of (open_write p c s)) (old before (Done c)) (ended c (open_write p c s) refl)
+    by_entry before (Done c) = greater c (last_done p s) (issue_number (open_write p c s)) (old before (Done c)) (ended c (open_write p c s) refl)
     by_entry before (Broke c) = old before (Broke c)
     by_entry before (Seen c first content) = old before (Seen c first content)
     by_entry before (Reply c answer) = old before (Reply c answer)

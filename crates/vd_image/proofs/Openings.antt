@@ -1,7 +1,7 @@
 -- A store's content opens exactly where it is refused for nothing, and where the laws call it sound.
 use Rattle.std.proofs.Common.{ℕ, ◌≡◌, ◌<◌, ◌≤◌, ◌⊎◌, inl, inr, Option, Some, None, Result, Ok, Err, arith, refl, ap, sym, subst, ◌∙◌}
 use Rattle.std.proofs.lemmas.Bool.{cases_lt, cases_eq}
-use Rattle.vd_format.specs.Headers.{IsValid, unless_wrong, first_wrong, judged, zeros_in, fields_in}
+use Rattle.vd_format.specs.Headers.{IsValid, unless_wrong, first_wrong, judged_fields, zeros_in, fields_in}
 use Rattle.vd_format.proofs.Rules.{none_wrong, valid_from}
 use Rattle.vd_format.proofs.Headers.{Reads, No_image, Other_version, Judged, reads}
 use Rattle.vd_image.specs.Log.{Sector}
@@ -22,7 +22,7 @@ read_valid : (sector : Sector) (h : Header) (read : Result Header HeaderError) �
 read_valid sector h read (No_image magic none) told = absurd cc
 read_valid sector h read (Other_version magic version other) told = absurd cc
 read_valid sector h read (Judged magic version answer) told =
-    let right = wrong_none (fields_in sector.bytes) h (first_wrong (judged (fields_in sector.bytes) (zeros_in sector.bytes))) (sym answer ∙ told) in
+    let right = wrong_none (fields_in sector.bytes) h (first_wrong (judged_fields (fields_in sector.bytes) (zeros_in sector.bytes))) (sym answer ∙ told) in
     subst (λ (g : Header). IsValid g) right.1 (valid_from (fields_in sector.bytes) (zeros_in sector.bytes) version (none_wrong (fields_in sector.bytes) (zeros_in sector.bytes) right.0))
 
 pub header_valid : (sector : Sector) (h : Header) → header_of sector ≡ Ok h → IsValid h

@@ -1,8 +1,8 @@
 -- An image is consistent exactly where it is refused for nothing.
 use Rattle.std.proofs.Common.{ℕ, zero, suc, ◌≡◌, ◌<◌, ◌⊎◌, inl, inr, Option, Some, None, arith, refl, ap, sym, subst, ◌∙◌}
 use Rattle.std.proofs.lemmas.Bool.{cases_lt, cases_eq}
-use Rattle.vd_image.specs.Image.{Mapping, Format, Layout, Image, Maps, Gives, IsGoodMapping, IsGoodSlot, IsConsistent}
-use Rattle.vd_image.specs.Refusals.{Refusal, BadEntry, BadRecord, DoubleChunk, IsFirstNot, IsNew, Refuses, Entry_bad, Record_bad, Chunk_double}
+use Rattle.vd_image.specs.Image.{Mapping, Format, Layout, Image, Maps, GivesStorage, IsGoodMapping, IsGoodSlot, IsConsistent}
+use Rattle.vd_image.specs.Refusals.{Refusal, BadEntry, BadRecord, DoubleChunk, IsFirstNot, IsFirstWithStorage, Refuses, Entry_bad, Record_bad, Chunk_double}
 use Rattle.vd_image.proofs.Deciding.{maps_some, maps_one}
 
 -- a consistent image is refused for nothing
@@ -35,16 +35,16 @@ some_below P (suc top) decide = elim (decide top (omega arith)) [
 
 -- the two chunks have one storage
 abbrev IsTwin : Format → Layout → Image → ℕ → ℕ → ℕ → Type 0
-IsTwin f l image generation b a = (p : ℕ) × Gives f l image generation a p × Gives f l image generation b p
+IsTwin f l image generation b a = (p : ℕ) × GivesStorage f l image generation a p × GivesStorage f l image generation b p
 
 -- whether two chunks that have mappings have one storage
 twin : (f : Format) (l : Layout) (image : Image) (generation a b : ℕ) (m n : Mapping) → Maps f l image generation a m → Maps f l image generation b n → IsTwin f l image generation b a ⊎ (IsTwin f l image generation b a → ⊥)
 twin f l image generation a b m n first second = by_storage m.storage refl n.storage refl
   where
-    of_first : (p : ℕ) → Gives f l image generation a p → m.storage ≡ Some p
+    of_first : (p : ℕ) → GivesStorage f l image generation a p → m.storage ≡ Some p
     of_first p g = subst (λ (y : Mapping). y.storage ≡ Some p) (maps_one f l image generation a g.0 m g.1 first) g.2
 
-    of_second : (p : ℕ) → Gives f l image generation b p → n.storage ≡ Some p
+    of_second : (p : ℕ) → GivesStorage f l image generation b p → n.storage ≡ Some p
     of_second p g = subst (λ (y : Mapping). y.storage ≡ Some p) (maps_one f l image generation b g.0 n g.1 second) g.2
 
     by_storage : (x : Option ℕ) → m.storage ≡ x → (y : Option ℕ) → n.storage ≡ y → IsTwin f l image generation b a ⊎ (IsTwin f l image generation b a → ⊥)
@@ -56,7 +56,7 @@ twin f l image generation a b m n first second = by_storage m.storage refl n.sto
     ]
 
 -- a chunk that has storage exists
-gives_within : (f : Format) (l : Layout) (image : Image) (generation c p : ℕ) → ((k : ℕ) → k < l.slots → IsGoodSlot f l image generation k) → Gives f l image generation c p → c < l.chunks
+gives_within : (f : Format) (l : Layout) (image : Image) (generation c p : ℕ) → ((k : ℕ) → k < l.slots → IsGoodSlot f l image generation k) → GivesStorage f l image generation c p → c < l.chunks
 gives_within f l image generation c p good (m, inl last, is) =
     subst (λ (d : ℕ). d < l.chunks) last.names ((good last.slot last.counts.within last.counts.item last.counts.reads last.counts.current).facts last.place last.fact last.counts.stands).0
 gives_within f l image generation c p good (m, inr page, is) = page.1
@@ -70,7 +70,7 @@ consistent_or_refused f l image generation mappings slots = elim (first_not (IsG
   | inr bad ↦ inr (BadEntry bad.0, Entry_bad bad.0 bad.1)
   | inl good ↦ elim (first_not (IsGoodSlot f l image generation) l.slots slots) [
     | inr bad ↦ inr (BadRecord bad.0, Record_bad bad.0 good bad.1)
-    | inl good_slots ↦ elim (first_not (IsNew f l image generation) l.chunks (λ b within. is_new good good_slots b within)) [
+    | inl good_slots ↦ elim (first_not (IsFirstWithStorage f l image generation) l.chunks (λ b within. is_new good good_slots b within)) [
       | inl new ↦ inl (record { mappings = good; records = good_slots; one_to_one = λ c d p first second. one good_slots new c d p first second })
       | inr bad ↦ (let twin = found good good_slots bad.0 bad.1.within bad.1.fails in inr (DoubleChunk twin.0 bad.0, Chunk_double twin.0 bad.0 twin.1 good good_slots twin.2 twin.3 twin.4 bad.1))
     ]
@@ -85,20 +85,20 @@ consistent_or_refused f l image generation mappings slots = elim (first_not (IsG
         twin f l image generation a b first.0 second.0 first.1 second.1)
 
     is_new : ((c : ℕ) → c < l.chunks → IsGoodMapping f l image c) → ((k : ℕ) → k < l.slots → IsGoodSlot f l image generation k) → (b : ℕ) → b < l.chunks
-        → IsNew f l image generation b ⊎ (IsNew f l image generation b → ⊥)
+        → IsFirstWithStorage f l image generation b ⊎ (IsFirstWithStorage f l image generation b → ⊥)
     is_new good good_slots b within = elim (twins good good_slots b within) [
       | inl t ↦ inr (λ new. new t.0 t.2.0 t.1 t.2.1 t.2.2)
       | inr none ↦ inl (λ a p less first second. none a less (p, first, second))
     ]
 
-    found : ((c : ℕ) → c < l.chunks → IsGoodMapping f l image c) → ((k : ℕ) → k < l.slots → IsGoodSlot f l image generation k) → (b : ℕ) → b < l.chunks → (IsNew f l image generation b → ⊥)
-        → (a : ℕ) × (p : ℕ) × (a < b) × Gives f l image generation a p × Gives f l image generation b p
+    found : ((c : ℕ) → c < l.chunks → IsGoodMapping f l image c) → ((k : ℕ) → k < l.slots → IsGoodSlot f l image generation k) → (b : ℕ) → b < l.chunks → (IsFirstWithStorage f l image generation b → ⊥)
+        → (a : ℕ) × (p : ℕ) × (a < b) × GivesStorage f l image generation a p × GivesStorage f l image generation b p
     found good good_slots b within not = elim (twins good good_slots b within) [
       | inl t ↦ (t.0, t.2.0, t.1, t.2.1, t.2.2)
       | inr none ↦ absurd (not (λ a p less first second. none a less (p, first, second)))
     ]
 
-    one : ((k : ℕ) → k < l.slots → IsGoodSlot f l image generation k) → ((b : ℕ) → b < l.chunks → IsNew f l image generation b) → (c d p : ℕ) → Gives f l image generation c p → Gives f l image generation d p → c ≡ d
+    one : ((k : ℕ) → k < l.slots → IsGoodSlot f l image generation k) → ((b : ℕ) → b < l.chunks → IsFirstWithStorage f l image generation b) → (c d p : ℕ) → GivesStorage f l image generation c p → GivesStorage f l image generation d p → c ≡ d
     one good_slots new c d p first second = elim (cases_lt c d) [
       | inl less ↦ absurd (new d (gives_within f l image generation d p good_slots second) c p less first second)
       | inr more ↦ elim (cases_lt d c) [
@@ -116,14 +116,14 @@ first_one P top m n first second = elim (cases_lt m n) [
 ]
 
 -- of three chunks with one storage the second isn't new
-twins_one : (f : Format) (l : Layout) (image : Image) (generation a c b p q : ℕ) → a < c → c < b → IsFirstNot (IsNew f l image generation) l.chunks b
-    → Gives f l image generation a p → Gives f l image generation b p → Gives f l image generation c q → Gives f l image generation b q → ⊥
+twins_one : (f : Format) (l : Layout) (image : Image) (generation a c b p q : ℕ) → a < c → c < b → IsFirstNot (IsFirstWithStorage f l image generation) l.chunks b
+    → GivesStorage f l image generation a p → GivesStorage f l image generation b p → GivesStorage f l image generation c q → GivesStorage f l image generation b q → ⊥
 twins_one f l image generation a c b p q less before first gives_a gives_b gives_c also =
     let mapping = maps_one f l image generation b also.0 gives_b.0 also.1 gives_b.1 in
     let there : gives_b.0.storage ≡ Some q = subst (λ (w : Mapping). w.storage ≡ Some q) mapping also.2 in
     let given = gives_b.2 in
     let same : q ≡ p = cc in
-    first.before c before a p less gives_a (subst (λ (n : ℕ). Gives f l image generation c n) same gives_c)
+    first.before c before a p less gives_a (subst (λ (n : ℕ). GivesStorage f l image generation c n) same gives_c)
 
 pub refused_for_one : (f : Format) (l : Layout) (image : Image) (generation : ℕ) (r q : Refusal) → Refuses f l image generation r → Refuses f l image generation q → r ≡ q
 refused_for_one f l image generation r q (Entry_bad c first) (Entry_bad d second) = ap BadEntry (first_one (IsGoodMapping f l image) l.chunks c d first second)
@@ -138,10 +138,10 @@ refused_for_one f l image generation r q (Chunk_double a b p all good less gives
     ap (λ (x : ℕ). DoubleChunk x b) firsts ∙ ap (λ (y : ℕ). DoubleChunk c y) seconds
   where
     seconds : b ≡ d
-    seconds = first_one (IsNew f l image generation) l.chunks b d first second
+    seconds = first_one (IsFirstWithStorage f l image generation) l.chunks b d first second
 
-    also_b : Gives f l image generation b n
-    also_b = subst (λ (y : ℕ). Gives f l image generation y n) (sym seconds) also_d
+    also_b : GivesStorage f l image generation b n
+    also_b = subst (λ (y : ℕ). GivesStorage f l image generation y n) (sym seconds) also_d
 
     firsts : a ≡ c
     firsts = elim (cases_lt a c) [

@@ -8,10 +8,6 @@ use Rattle.vd_image.specs.Log.{Sector, Entry, At}
 abbrev pub sectors_or : Sector → List Sector → ℕ → Sector
 sectors_or other sectors s = slice_index_or sectors s other
 
--- the base: zeros past its end
-abbrev pub base_at : Sector → List Sector → ℕ → Sector
-base_at zeros base = sectors_or zeros base
-
 -- A crash may leave this image: it has as many sectors as the store, and in each sector by itself a content that the law
 -- allows after this log.
 pub record IsCrashImage (start : List Sector) (log : List Entry) (image : List Sector) : Type 0 where

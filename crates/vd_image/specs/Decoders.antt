@@ -8,7 +8,7 @@ pub use Rattle.vd_format.specs.declared.map.Shape2.{Shape2}
 unfoldable pub use Rattle.vd_format.specs.Headers.{header_of}
 pub use Rattle.vd_format.specs.Entries.{IsEntry, entry_at}
 unfoldable pub use Rattle.vd_format.specs.Entries.{has_kind}
-pub use Rattle.vd_format.specs.Records.{Record as Said}
+pub use Rattle.vd_format.specs.Records.{JournalRecord as Said}
 unfoldable pub use Rattle.vd_format.specs.Records.{record_of}
 use Rattle.vd_image.specs.Image.{Header, Mapping, Fact, Record, Format}
 use Rattle.vd_image.specs.Layouts.{blocks_of, chunks_of, page_mappings}

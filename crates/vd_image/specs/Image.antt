@@ -1,7 +1,8 @@
 -- What an image says: the entry of each chunk, and the disk that it stands for.
-use Rattle.std.specs.Prelude.{ℕ, ◌≡◌, ◌<◌, ◌≤◌, ◌⊎◌, Bool, true, false, Option, Some, Result, Ok, List, if◌then◌else◌, nat_lt}
+use Rattle.std.specs.Prelude.{ℕ, ◌≡◌, ◌<◌, ◌≤◌, ◌⊎◌, Bool, true, false, Option, Some, Result, Ok, List, if◌then◌else◌}
 pub use Rattle.vd_format.specs.declared.header.Header.{Header}
 pub use Rattle.vd_format.specs.declared.header.HeaderError.{HeaderError}
+use Rattle.vd_format.specs.Background.{background}
 use Rattle.vd_image.specs.Log.{Sector, At}
 
 -- The fields of a header that never change while a disk is in use. The others are `tracked` and the generation.
@@ -116,20 +117,16 @@ Maps f l image generation chunk m =
     ⊎ (IsUnnamed f l image generation chunk × (chunk < l.chunks) × (f.mapping_of (image (l.map_at chunk)) chunk ≡ Some m))
 
 -- the image gives the chunk this storage
-abbrev pub Gives : Format → Layout → Image → ℕ → ℕ → ℕ → Type 0
-Gives f l image generation chunk storage = (m : Mapping) × Maps f l image generation chunk m × (m.storage ≡ Some storage)
+abbrev pub GivesStorage : Format → Layout → Image → ℕ → ℕ → ℕ → Type 0
+GivesStorage f l image generation chunk storage = (m : Mapping) × Maps f l image generation chunk m × (m.storage ≡ Some storage)
 
 -- the block's sectors stand in this storage
 abbrev pub IsLocal : Format → Layout → Image → ℕ → ℕ → ℕ → Type 0
 IsLocal f l image generation block storage = (m : Mapping) × Maps f l image generation (l.chunk_of block) m × IsLocalBy m block storage
 
--- the base below `tracked`, zeros from there on
-abbrev pub background : (ℕ → Sector) → Sector → ℕ → ℕ → Sector
-background base zeros tracked s = if nat_lt s tracked then base s else zeros
-
 -- what a sector is whose block isn't local: the background where the chunk's kind is base, else zeros
-abbrev pub unmapped : (ℕ → Sector) → Sector → ℕ → Mapping → ℕ → Sector
-unmapped base zeros tracked m s = if m.zeros then zeros else background base zeros tracked s
+abbrev pub unmapped_sector : (ℕ → Sector) → Sector → ℕ → Mapping → ℕ → Sector
+unmapped_sector base zeros tracked m s = if m.zeros then zeros else background base zeros tracked s
 
 -- the mapping of the map at this chunk is in the grammar
 abbrev pub IsGoodMapping : Format → Layout → Image → ℕ → Type 0
@@ -144,7 +141,7 @@ IsGoodSlot f l image generation k = (r : Record) → f.record_of (image (l.slot_
 pub record IsConsistent (f : Format) (l : Layout) (image : Image) (generation : ℕ) : Type 0 where
   pub mappings : (c : ℕ) → c < l.chunks → IsGoodMapping f l image c
   pub records : (k : ℕ) → k < l.slots → IsGoodSlot f l image generation k
-  pub one_to_one : (c d p : ℕ) → Gives f l image generation c p → Gives f l image generation d p → c ≡ d
+  pub one_to_one : (c d p : ℕ) → GivesStorage f l image generation c p → GivesStorage f l image generation d p → c ≡ d
 
 -- no slot has a record, of either version, of a later generation
 abbrev pub HasNoLater : Format → Layout → Image → ℕ → Type 0
@@ -165,7 +162,7 @@ pub record DiskHas (f : Format) (l : Layout) (base : ℕ → Sector) (zeros : Se
   pub mapping : Mapping
   pub maps : Maps f l image header.generation (l.chunk_of (l.block_of s)) mapping
   pub has : ((p : ℕ) × IsLocalBy mapping (l.block_of s) p × (v ≡ image (l.place p s)))
-      ⊎ (((p : ℕ) → IsLocalBy mapping (l.block_of s) p → ⊥) × (v ≡ unmapped base zeros header.tracked mapping s))
+      ⊎ (((p : ℕ) → IsLocalBy mapping (l.block_of s) p → ⊥) × (v ≡ unmapped_sector base zeros header.tracked mapping s))
 
 -- the parts of the store lie apart
 pub record IsApart (l : Layout) : Type 0 where

@@ -30,7 +30,7 @@ layout_of h = record {
 }
 
 -- each part lies in a store of so many sectors
-pub record IsInside (l : Layout) (sectors : ℕ) : Type 0 where
+pub record FitsInStore (l : Layout) (sectors : ℕ) : Type 0 where
   pub header : l.header_at < sectors
   pub map : (c : ℕ) → c < l.chunks → l.map_at c < sectors
   pub slots : (k : ℕ) → k < l.slots → l.slot_at k < sectors

@@ -1,17 +1,15 @@
 -- A new image: its header, and zeros everywhere else.
-use Rattle.std.specs.Prelude.{◌==◌, replicate, if◌then◌else◌}
+use Rattle.std.specs.Prelude.{◌==◌, if◌then◌else◌}
+use Rattle.vd_format.specs.Background.{zero_sector}
 use Rattle.vd_format.specs.Headers.{spelling}
 use Rattle.vd_image.specs.Log.{Sector}
 use Rattle.vd_image.specs.Image.{Header, Image}
 
-abbrev pub zero_sector : Sector
-zero_sector = record { bytes = replicate 512 0 }
-
 abbrev pub header_sector : Header → Sector
 header_sector h = record { bytes = spelling h }
 
-abbrev pub made : Header → Image
-made h s = if s == 0 then header_sector h else zero_sector
+abbrev pub made_image : Header → Image
+made_image h s = if s == 0 then header_sector h else zero_sector
 
 -- a header of 16 blocks of 8 sectors in 4 chunks, over 3 storage chunks and 4 slots
 abbrev pub small_header : Header

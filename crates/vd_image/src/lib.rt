@@ -8,14 +8,15 @@ ghost use Rattle.std.specs.List.{Contains};
 ghost use Rattle.vd_law.specs.declared.entry.Sector.{Sector};
 ghost use Rattle.vd_law.specs.Entries.{Entry};
 ghost use Rattle.vd_law.specs.Contents.{may};
+ghost use Rattle.vd_format.specs.Background.{background, zero_sector};
 ghost use Rattle.vd_format.specs.Headers.{IsValid};
 ghost use Rattle.vd_format.specs.Records.{AreFacts};
 ghost use Rattle.vd_image.specs.Log.{Writes, May, IsImage};
-ghost use Rattle.vd_image.specs.Image.{Header, Format, Layout, Image, geometry_of, background, IsMapping, IsRecord, HasNoLater, IsSound, DiskHas, IsApart};
-ghost use Rattle.vd_image.specs.Layouts.{layout_of, IsInside};
+ghost use Rattle.vd_image.specs.Image.{Header, Format, Layout, Image, geometry_of, IsMapping, IsRecord, HasNoLater, IsSound, DiskHas, IsApart};
+ghost use Rattle.vd_image.specs.Layouts.{layout_of, FitsInStore};
 ghost use Rattle.vd_image.specs.Decoders.{Entry as MapEntry, Said, IsEntry, record_of, this_version, shape_of, mapping_in, record_in, format_of};
 ghost use Rattle.vd_image.specs.CrashImages.{sectors_or, IsCrashImage};
-ghost use Rattle.vd_image.specs.Made.{zero_sector, made, small_header};
+ghost use Rattle.vd_image.specs.Made.{made_image, small_header};
 ghost use Rattle.vd_image.specs.Openings.{OpeningRefusal, RefusesOpening, IsThisVersion, Opens, need_of};
 
 /// A crash may leave a content in a sector exactly where the law's list has it, and some image it may always leave.
@@ -56,14 +57,14 @@ pub fn grammar_is_that_of_the_bytes()
 /// The parts of a store with a valid header lie apart, and inside the sectors that it needs.
 pub fn parts_lie_apart()
     ensures apart { (h : Header) → IsValid h → IsApart (layout_of h) }
-    ensures inside { (h : Header) → IsValid h → IsInside (layout_of h) (need_of h) }
+    ensures inside { (h : Header) → IsValid h → FitsInStore (layout_of h) (need_of h) }
 {}
 
 /// A new image, of its header and zeros everywhere else, opens, and its disk is the base below `tracked` and zeros from there on.
 pub fn new_image_opens()
-    ensures opens { (h : Header) → IsValid h → h.version ≡ this_version → Opens (need_of h) (made h) h }
-    ensures no_later { (h : Header) → HasNoLater (format_of h) (layout_of h) (made h) h.generation }
-    ensures disk { (h : Header) (base : ℕ → Sector) (s : ℕ) (v : Sector) → IsValid h → DiskHas (format_of h) (layout_of h) base zero_sector (made h) s v → v ≡ background base zero_sector h.tracked s }
+    ensures opens { (h : Header) → IsValid h → h.version ≡ this_version → Opens (need_of h) (made_image h) h }
+    ensures no_later { (h : Header) → HasNoLater (format_of h) (layout_of h) (made_image h) h.generation }
+    ensures disk { (h : Header) (base : ℕ → Sector) (s : ℕ) (v : Sector) → IsValid h → DiskHas (format_of h) (layout_of h) base zero_sector (made_image h) s v → v ≡ background base zero_sector h.tracked s }
     ensures some { (h : Header) × IsValid h × (h.version ≡ this_version) }
 {}
 

@@ -3,7 +3,8 @@ use Rattle.std.proofs.Common.{◌≡◌, ℕ, ◌+◌, ◌≤◌, List, ◌++◌
 use Rattle.std.proofs.lemmas.List.{take-append-le, take_min}
 use Rattle.std.proofs.Math.Seq.{take-append-add}
 use Rattle.std.specs.Prelude.{IsErr}
-use Rattle.vd_io.specs.Streams.{Rose, WritesPart, Writes}
+use Rattle.vd_io.specs.Streams.{WritesPart, WritesText}
+use Rattle.vd_law.specs.Counts.{Rose}
 
 -- a front of a text is a front of what begins with it
 pub part-longer : (a b before after : List ℕ) → WritesPart a before after → WritesPart (a ++ b) before after
@@ -18,7 +19,7 @@ part-after a b before between after whole part =
 
 -- a text and then another are the two in one
 pub writes-after : {E : Type 0} (a : List ℕ) {b : List ℕ} {result : Result (Unit {0}) E} {before between after : List ℕ} →
-    between ≡ before ++ a → Writes b result between after → Writes (a ++ b) result before after
+    between ≡ before ++ a → WritesText b result between after → WritesText (a ++ b) result before after
 writes-after a {b = b} {result = Ok u} {before = before} whole more = record {
   ok = more.ok ∙ ap (λ (t : List ℕ). t ++ b) whole ∙ append_assoc before a b;
   err = tt;
@@ -30,7 +31,7 @@ writes-after a {b = b} {result = Err e} {before = before} {between = between} {a
 
 -- where a write of a text failed, one of a longer text fails with it
 pub writes-failed : {E : Type 0} {a : List ℕ} (b : List ℕ) {result : Result (Unit {0}) E} {e : E} {before after : List ℕ} →
-    IsErr result → Writes a (Err e) before after → Writes (a ++ b) result before after
+    IsErr result → WritesText a (Err e) before after → WritesText (a ++ b) result before after
 writes-failed b {result = Ok u} failed part = cc
 writes-failed {a = a} b {result = Err f} {before = before} {after = after} failed part = record {
   ok = tt;
@@ -42,4 +43,4 @@ pub rose-earlier : (first before now : ℕ) → first ≤ before → Rose before
 rose-earlier first before now calm rose = omega arith
 
 pub rose-later : (before now last : ℕ) → Rose before now → now ≤ last → Rose before last
-rose-later before now last rose calm = omega arith
+rose-later before now last rose no_fewer_faults = omega arith

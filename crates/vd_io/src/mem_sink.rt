@@ -2,7 +2,8 @@
 
 ghost use Rattle.std.specs.Prelude.{◌≡◌, ◌+◌, ◌<◌, ◌≤◌, ◌↔◌, ◌⊎◌, [], length, OnErr, IsErr, MatchResult};
 ghost use Rattle.std.specs.List.{Contains};
-ghost use Rattle.vd_io.specs.Streams.{Rose, one_more, Writes};
+ghost use Rattle.vd_io.specs.Streams.{WritesText};
+ghost use Rattle.vd_law.specs.Counts.{Rose, next_count};
 
 use crate::Failed;
 use crate::sink::Sink;
@@ -62,13 +63,13 @@ impl Sink for MemSink {
     ghost faults = { λ s. s.faults };
 
     fn write(&mut self, bytes: &[u8]) -> Result<(), Failed>
-        ensures writes { Writes bytes.now result self.old.written self.new.written }
+        ensures writes { WritesText bytes.now result self.old.written self.new.written }
         ensures nothing { OnErr result (self.new.written ≡ self.old.written) }
         ensures cause { OnErr result (Rose self.old.faults self.new.faults) }
-        ensures calm { self.old.faults ≤ self.new.faults }
+        ensures no_fewer_faults { self.old.faults ≤ self.new.faults }
         ensures fails { IsErr result ↔ (Contains self.old.fail self.new.calls ⊎ (self.old.size < length self.old.written + length bytes.now)) }
-        ensures calls { self.new.calls ≡ one_more self.old.calls }
-        ensures faults { MatchResult result (λ u. self.new.faults ≡ self.old.faults) (λ e. self.new.faults ≡ one_more self.old.faults) }
+        ensures calls { self.new.calls ≡ next_count self.old.calls }
+        ensures faults { MatchResult result (λ u. self.new.faults ≡ self.old.faults) (λ e. self.new.faults ≡ next_count self.old.faults) }
         ensures fail { self.new.fail ≡ self.old.fail }
         ensures size { self.new.size ≡ self.old.size }
     {

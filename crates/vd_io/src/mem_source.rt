@@ -2,7 +2,8 @@
 
 ghost use Rattle.std.specs.Prelude.{◌≡◌, ◌≤◌, ◌↔◌, length, min, IfOk, OnErr, IsErr, MatchResult};
 ghost use Rattle.std.specs.List.{Contains};
-ghost use Rattle.vd_io.specs.Streams.{Rose, one_more, Reads};
+ghost use Rattle.vd_io.specs.Streams.{Reads};
+ghost use Rattle.vd_law.specs.Counts.{Rose, next_count};
 
 use crate::Failed;
 use crate::source::Source;
@@ -59,10 +60,10 @@ impl Source for MemSource {
         ensures bytes { Reads result self.old.rest self.new.rest room.old room.new }
         ensures most { IfOk result (λ n. n ≡ min (length room.old) (length self.old.rest)) }
         ensures cause { OnErr result (Rose self.old.faults self.new.faults) }
-        ensures calm { self.old.faults ≤ self.new.faults }
+        ensures no_fewer_faults { self.old.faults ≤ self.new.faults }
         ensures fails { IsErr result ↔ Contains self.old.fail self.new.calls }
-        ensures calls { self.new.calls ≡ one_more self.old.calls }
-        ensures faults { MatchResult result (λ n. self.new.faults ≡ self.old.faults) (λ e. self.new.faults ≡ one_more self.old.faults) }
+        ensures calls { self.new.calls ≡ next_count self.old.calls }
+        ensures faults { MatchResult result (λ n. self.new.faults ≡ self.old.faults) (λ e. self.new.faults ≡ next_count self.old.faults) }
         ensures fail { self.new.fail ≡ self.old.fail }
     {
         self.calls = self.calls.saturating_add(1);

@@ -1,7 +1,8 @@
 //! Where bytes go.
 
 ghost use Rattle.std.specs.Prelude.{◌≡◌, ℕ, ◌≤◌, List, OnErr};
-ghost use Rattle.vd_io.specs.Streams.{Rose, Writes};
+ghost use Rattle.vd_io.specs.Streams.{WritesText};
+ghost use Rattle.vd_law.specs.Counts.{Rose};
 
 use crate::Failed;
 
@@ -19,8 +20,8 @@ pub trait Sink {
     /// Writes all of the bytes. After Failed a front of them was written.
     fn write(&mut self, bytes: &[u8]) -> Result<(), Failed>
         ensures told_before { tells self.new → tells self.old }
-        ensures writes { tells self.new → Writes bytes.now result (written self.old) (written self.new) }
-        ensures calm { faults self.old ≤ faults self.new }
+        ensures writes { tells self.new → WritesText bytes.now result (written self.old) (written self.new) }
+        ensures no_fewer_faults { faults self.old ≤ faults self.new }
         ensures cause { OnErr result (Rose (faults self.old) (faults self.new)) };
 
     fn faults(&self) -> u64

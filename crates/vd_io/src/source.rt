@@ -1,7 +1,8 @@
 //! Where bytes come from.
 
 ghost use Rattle.std.specs.Prelude.{◌≡◌, ℕ, ◌≤◌, List, length, IfOk, OnErr};
-ghost use Rattle.vd_io.specs.Streams.{Rose, Reads};
+ghost use Rattle.vd_io.specs.Streams.{Reads};
+ghost use Rattle.vd_law.specs.Counts.{Rose};
 
 use crate::Failed;
 
@@ -21,7 +22,7 @@ pub trait Source {
         ensures within { IfOk result (λ n. n ≤ length room.new) }
         ensures told_before { tells self.new → tells self.old }
         ensures bytes { tells self.new → Reads result (rest self.old) (rest self.new) room.old room.new }
-        ensures calm { faults self.old ≤ faults self.new }
+        ensures no_fewer_faults { faults self.old ≤ faults self.new }
         ensures cause { OnErr result (Rose (faults self.old) (faults self.new)) };
 
     fn faults(&self) -> u64

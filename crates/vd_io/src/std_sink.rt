@@ -2,8 +2,9 @@
 
 ghost use Rattle.std.specs.Prelude.{◌≡◌, ◌<◌, ◌≤◌, ℕ, IfOk, OnErr, OnOk, length, take};
 ghost use Rattle.std.specs.Io.KnownBytes.{Appends, Keeps, WriteAppends};
-ghost use Rattle.vd_io.specs.Streams.{Rose, Writes};
-ghost use Rattle.vd_io.specs.Told.{AlwaysKnown, Counts, IsKnown, Lacks, bytes_of};
+ghost use Rattle.vd_io.specs.Streams.{WritesText};
+ghost use Rattle.vd_io.specs.Told.{AlwaysKnown, CountsFault, HasKnownBytes, Lacks, bytes_of};
+ghost use Rattle.vd_law.specs.Counts.{Rose};
 
 use crate::Failed;
 use crate::sink::Sink;
@@ -72,8 +73,8 @@ impl<W> StdSink<W> {
     fn counted(&mut self, answer: Result<(), Failed>) -> Result<(), Failed>
         ensures answer { result ≡ answer }
         ensures inner { self.new.inner ≡ self.old.inner }
-        ensures calm { self.old.faults ≤ self.new.faults }
-        ensures counts { Counts result self.old.faults self.new.faults }
+        ensures no_fewer_faults { self.old.faults ≤ self.new.faults }
+        ensures counts { CountsFault result self.old.faults self.new.faults }
     {
         if let Err(Failed) = answer {
             self.faults = self.faults.saturating_add(1);
@@ -86,9 +87,9 @@ impl<W: Write> StdSink<W> {
     /// Hands on what the writer still keeps, as one with a buffer does. After Failed some of it may not be written.
     pub fn flush(&mut self) -> Result<(), Failed>
         ensures bytes { Keeps (W.contents self.old.inner) (W.contents self.new.inner) }
-        ensures calm { self.old.faults ≤ self.new.faults }
+        ensures no_fewer_faults { self.old.faults ≤ self.new.faults }
         ensures cause { OnErr result (Rose self.old.faults self.new.faults) }
-        ensures counts { Counts result self.old.faults self.new.faults }
+        ensures counts { CountsFault result self.old.faults self.new.faults }
     {
         let answer = self.inner.flush().map_err(|_| Failed);
         self.counted(answer)
@@ -103,12 +104,12 @@ impl<W: Write> Sink for StdSink<W> {
     ghost faults = { λ s. s.faults };
 
     fn write(&mut self, bytes: &[u8]) -> Result<(), Failed>
-        ensures known { IsKnown W.contents self.old → IsKnown W.contents self.new }
-        ensures writes { IsKnown W.contents self.old → Writes bytes.now result (bytes_of W.contents self.old) (bytes_of W.contents self.new) }
+        ensures known { HasKnownBytes W.contents self.old → HasKnownBytes W.contents self.new }
+        ensures writes { HasKnownBytes W.contents self.old → WritesText bytes.now result (bytes_of W.contents self.old) (bytes_of W.contents self.new) }
         ensures unfinished { OnErr result (Lacks W.contents bytes.now self.old self.new) }
-        ensures calm { self.old.faults ≤ self.new.faults }
+        ensures no_fewer_faults { self.old.faults ≤ self.new.faults }
         ensures cause { OnErr result (Rose self.old.faults self.new.faults) }
-        ensures counts { Counts result self.old.faults self.new.faults }
+        ensures counts { CountsFault result self.old.faults self.new.faults }
     {
         let answer = write_through(&mut self.inner, bytes);
         self.counted(answer)

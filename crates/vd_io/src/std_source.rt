@@ -2,8 +2,9 @@
 
 ghost use Rattle.std.specs.Prelude.{◌≡◌, ◌≤◌, IfOk, OnErr, drop, length};
 ghost use Rattle.std.specs.Io.KnownBytes.{ReadConsumes};
-ghost use Rattle.vd_io.specs.Streams.{Reads, Rose};
-ghost use Rattle.vd_io.specs.Told.{AlwaysKnown, Counts, IsKnown, bytes_of};
+ghost use Rattle.vd_io.specs.Streams.{Reads};
+ghost use Rattle.vd_io.specs.Told.{AlwaysKnown, CountsFault, HasKnownBytes, bytes_of};
+ghost use Rattle.vd_law.specs.Counts.{Rose};
 
 use crate::Failed;
 use crate::source::Source;
@@ -79,11 +80,11 @@ impl<R: Read> Source for StdSource<R> {
 
     fn read(&mut self, room: &mut [u8]) -> Result<usize, Failed>
         ensures within { IfOk result (λ n. n ≤ length room.new) }
-        ensures known { IsKnown R.remaining self.old → IsKnown R.remaining self.new }
-        ensures bytes { IsKnown R.remaining self.old → Reads result (bytes_of R.remaining self.old) (bytes_of R.remaining self.new) room.old room.new }
-        ensures calm { self.old.faults ≤ self.new.faults }
+        ensures known { HasKnownBytes R.remaining self.old → HasKnownBytes R.remaining self.new }
+        ensures bytes { HasKnownBytes R.remaining self.old → Reads result (bytes_of R.remaining self.old) (bytes_of R.remaining self.new) room.old room.new }
+        ensures no_fewer_faults { self.old.faults ≤ self.new.faults }
         ensures cause { OnErr result (Rose self.old.faults self.new.faults) }
-        ensures counts { Counts result self.old.faults self.new.faults }
+        ensures counts { CountsFault result self.old.faults self.new.faults }
     {
         match read_piece(&mut self.inner, room) {
             Ok(count) => Ok(count),

@@ -1,15 +1,12 @@
--- What a history is made of may go to another thread, and threads may share it.
+-- What stands in a history may go to another thread, and threads may share it.
 use denote.Ref.{NamedLft}
 use denote.Param.Send.{IsSend, IsSync, sendable}
-use Rattle.std.proofs.Crossing as std
 use Rattle.vd_law.specs.contracts.entry.Sector as Sector
 use Rattle.vd_law.specs.contracts.entry.CallId as CallId
 use Rattle.vd_law.specs.contracts.entry.Answer as Answer
 use Rattle.vd_law.specs.contracts.entry.CopyAnswer as CopyAnswer
 use Rattle.vd_law.specs.contracts.entry.Event as Event
 use Rattle.vd_law.specs.contracts.entry.Room as Room
-use Rattle.vd_law.specs.contracts.log.Log as Log
-use Rattle.vd_law.specs.contracts.history.History as History
 
 pub sector_send : IsSend Sector.the_row
 sector_send = search sendable depth 20
@@ -47,17 +44,5 @@ room_send = search sendable depth 20
 pub room_sync : IsSync Room.the_row
 room_sync = search sendable depth 20
 
-pub log_send : IsSend Log.the_row
-log_send = search (sendable, std.crosses) depth 60 fits 20000
-
-pub log_sync : IsSync Log.the_row
-log_sync = search (sendable, std.crosses) depth 60 fits 20000
-
-pub history_send : IsSend History.the_row
-history_send = search (sendable, std.crosses, log_send) depth 60 fits 20000
-
-pub history_sync : IsSync History.the_row
-history_sync = search (sendable, std.crosses, log_sync) depth 60 fits 20000
-
--- for `search`, beside `sendable` and std's
-pub ruleset crosses = (sector_send, sector_sync, call_send, call_sync, answer_send, answer_sync, copy_answer_send, copy_answer_sync, event_send, event_sync, room_send, room_sync, log_send, log_sync, history_send, history_sync)
+-- for `search`, beside `sendable`
+pub ruleset crosses = (sector_send, sector_sync, call_send, call_sync, answer_send, answer_sync, copy_answer_send, copy_answer_sync, event_send, event_sync, room_send, room_sync)

@@ -6,31 +6,31 @@ use Rattle.vd_law.specs.declared.entry.Sector.{Sector}
 use Rattle.vd_law.specs.Contents.{sector_in}
 use Rattle.vd_device.specs.declared.ticket.Ticket.{Ticket}
 use Rattle.vd_device.specs.declared.settled.Settled.{Settled}
-use Rattle.vd_device.specs.Tickets.{Puts, Takes, IsInFlight, reads, reads_of}
+use Rattle.vd_device.specs.Tickets.{Puts, Takes, IsInFlight, sectors_read, reads_of}
 use Rattle.vd_device.specs.Calls.{Gives}
-use Rattle.vd_mem.specs.BaseMemory.{BaseMemory, IsRead, FliesBase}
+use Rattle.vd_mem.specs.BaseState.{MemBaseState, IsReadWithin, FliesBase}
 use Rattle.vd_mem.proofs.Flights.{all-put, all-take, put-length}
 use Rattle.vd_mem.proofs.Sectors.{range-held}
 use Rattle.vd_mem.proofs.Ending.{answered}
 
 -- the base after it, as far as flight is concerned
-pub base-puts : (b b' : BaseMemory) (t : Ticket) → IsRead (length b.content) t → b'.content ≡ b.content → b'.flying ≡ b.flying + 1 → Puts t (FliesBase b) (FliesBase b')
-base-puts b b' t read same count others all among flies = record {
-  many = omega (arith, count, flies.many, put-length t others all among);
-  reads = subst (λ (c : List Sector). AllByRecursion (IsRead (length c)) all) (sym same) (all-put (IsRead (length b.content)) t others all among flies.reads read);
+pub base-puts : (b b' : MemBaseState) (t : Ticket) → IsReadWithin (length b.content) t → b'.content ≡ b.content → b'.flying ≡ b.flying + 1 → Puts t (FliesBase b) (FliesBase b')
+base-puts b b' t read same count others all among flight = record {
+  many = omega (arith, count, flight.many, put-length t others all among);
+  reads = subst (λ (c : List Sector). AllByRecursion (IsReadWithin (length c)) all) (sym same) (all-put (IsReadWithin (length b.content)) t others all among flight.reads read);
 }
 
-pub base-takes : (b b' : BaseMemory) (t : Ticket) → b'.content ≡ b.content → b'.flying ≡ b.flying - 1 → Takes t (FliesBase b) (FliesBase b')
-base-takes b b' t same count others all among flies = record {
-  many = omega (arith, count, flies.many, put-length t others all among);
-  reads = subst (λ (c : List Sector). AllByRecursion (IsRead (length c)) others) (sym same) (all-take (IsRead (length b.content)) t others all among flies.reads).1;
+pub base-takes : (b b' : MemBaseState) (t : Ticket) → b'.content ≡ b.content → b'.flying ≡ b.flying - 1 → Takes t (FliesBase b) (FliesBase b')
+base-takes b b' t same count others all among flight = record {
+  many = omega (arith, count, flight.many, put-length t others all among);
+  reads = subst (λ (c : List Sector). AllByRecursion (IsReadWithin (length c)) others) (sym same) (all-take (IsReadWithin (length b.content)) t others all among flight.reads).1;
 }
 
 -- a ticket in flight is a read of sectors that are there
-pub base-mine : (b : BaseMemory) (t : Ticket) → IsInFlight (FliesBase b) t → IsRead (length b.content) t
-base-mine b t mine = (all-take (IsRead (length b.content)) t mine.0 mine.1 mine.2 mine.3.reads).0
+pub base-mine : (b : MemBaseState) (t : Ticket) → IsInFlight (FliesBase b) t → IsReadWithin (length b.content) t
+base-mine b t mine = (all-take (IsReadWithin (length b.content)) t mine.0 mine.1 mine.2 mine.3.reads).0
 
-pub base-reads : (b : BaseMemory) (t : Ticket) → IsInFlight (FliesBase b) t → reads t ≡ t.count
+pub base-reads : (b : MemBaseState) (t : Ticket) → IsInFlight (FliesBase b) t → sectors_read t ≡ t.count
 base-reads b t mine = ap (λ k. reads_of k t.count) (base-mine b t mine).0
 
 pub base-gives : (done : Bool) (answer : Settled) (n : ℕ) (t : Ticket) (out content : List Sector) → answer ≡ answered done n → (done ≡ true → out ≡ slice_range content t.first (t.first + t.count)) → Gives answer t out content

@@ -6,11 +6,11 @@ use Rattle.std.specs.List.{Contains}
 use Rattle.std.proofs.lemmas.List.Elements.{All-nil, Contains-push}
 use Rattle.vd_law.specs.declared.entry.Sector.{Sector}
 use Rattle.vd_device.specs.Disks.{IsOneOf}
-use Rattle.vd_mem.specs.Memory.{Memory}
-use Rattle.vd_mem.specs.Sound.{IsSound}
+use Rattle.vd_mem.specs.StoreState.{MemStoreState}
+use Rattle.vd_mem.specs.Sound.{IsSoundMemStore}
 
 -- nothing has happened yet
-pub sound-first : (m : Memory) → m.held ≡ m.start → m.log.entries ≡ [] → m.last ≡ 0 → m.flying ≡ 0 → IsSound m
+pub sound-first : (m : MemStoreState) → m.held ≡ m.start → m.log.entries ≡ [] → m.last ≡ 0 → m.flying ≡ 0 → IsSoundMemStore m
 sound-first m same none first grounded = record {
   size = ap length same;
   short = omega (arith, ap length none);

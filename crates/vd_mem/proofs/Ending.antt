@@ -16,14 +16,14 @@ use Rattle.vd_device.specs.Tickets.{HasAmong, Takes, ticket_id}
 use Rattle.vd_device.specs.Calls.{next_number, done_entry, failed_entry, settle_entries, Gives, Settles, IsCaused, IsUndone}
 use Rattle.vd_device.specs.Disks.{Disk, IsHonest, AreWrites, GrowsBy, HasStopped}
 use Rattle.vd_device.specs.Orders.{IsInOrder}
-use Rattle.vd_mem.specs.declared.rule.Keep.{Keep}
-use Rattle.vd_mem.specs.declared.rule.Keep.TheVariants.{Old, New}
-use Rattle.vd_mem.specs.Tapes.{added, content_at, events_of}
-use Rattle.vd_mem.specs.Memory.{Memory, Runs, disk_of, can_add, over_at, carried_out, last_entry, last_held, is_done, left_by, ended_by}
+use Rattle.vd_faults.specs.declared.rule.Keep.{Keep}
+use Rattle.vd_faults.specs.declared.rule.Keep.TheVariants.{Old, New}
+use Rattle.vd_faults.specs.Tapes.{added, content_at, events_of}
+use Rattle.vd_mem.specs.StoreState.{MemStoreState, StillRuns, disk_of, can_add, over_at, carried_out, last_entry, last_held, is_done, left_by, ended_by}
 use Rattle.vd_mem.specs.Ends.{CanCarryOut}
-use Rattle.vd_mem.specs.Flying.{IsWriting, StandsAs, IsCall, AreCalls, IsWithin, Flies}
-use Rattle.vd_mem.specs.Sound.{IsSound}
-use Rattle.vd_mem.proofs.Choosing.{choose, takes-runs, stopped-over}
+use Rattle.vd_mem.specs.Flying.{HasOpenWrite, IsLoggedAs, IsCall, AreCalls, IsTicketWithin, Flies}
+use Rattle.vd_mem.specs.Sound.{IsSoundMemStore}
+use Rattle.vd_faults.proofs.Choosing.{choose, takes-runs, stopped-over}
 use Rattle.vd_mem.proofs.Taking.{Took}
 use Rattle.vd_mem.proofs.Flights.{all-take, put-length}
 use Rattle.vd_mem.proofs.Sectors.{range-held}
@@ -80,14 +80,14 @@ module _ (d : Disk) (held : List Sector) (t : Ticket) (others all : List Ticket)
 
 -- What is held then.
 
-carried : (start : List Sector) (log : List Entry) (t : Ticket) (w : IsWriting start log t) → content_at log t.mark ≡ w.content
+carried : (start : List Sector) (log : List Entry) (t : Ticket) (w : HasOpenWrite start log t) → content_at log t.mark ≡ w.content
 carried start log t w = ap (λ (o : Option Entry). option_map_or content_of o []) w.issue
 
 module _ (d : Disk) (t : Ticket) (others all : List Ticket) (among : HasAmong t others all) (last : ℕ) (calls : AreCalls last d all) (fits : t.first + t.count ≤ length d.held) (honest : IsHonest d) where
-  put-grows : (w : IsWriting d.start d.log t) → (e : Entry) → GrowsBy (e ∷ []) d (grown d e (over_at t.first w.content d.held)) → GrowsBy (e ∷ []) d (grown d e (carried_out Write t d.log d.held))
+  put-grows : (w : HasOpenWrite d.start d.log t) → (e : Entry) → GrowsBy (e ∷ []) d (grown d e (over_at t.first w.content d.held)) → GrowsBy (e ∷ []) d (grown d e (carried_out Write t d.log d.held))
   put-grows w e g = subst (λ (c : List Sector). GrowsBy (e ∷ []) d (grown d e (over_at t.first c d.held))) (sym (carried d.start d.log t w)) g
 
-  done-ends : (k : Kind) → StandsAs k d.start d.log t → GrowsBy (done_entry k t (slice_range d.held t.first (t.first + t.count)) ∷ []) d (grown d (done_entry k t (slice_range d.held t.first (t.first + t.count))) (carried_out k t d.log d.held))
+  done-ends : (k : Kind) → IsLoggedAs k d.start d.log t → GrowsBy (done_entry k t (slice_range d.held t.first (t.first + t.count)) ∷ []) d (grown d (done_entry k t (slice_range d.held t.first (t.first + t.count))) (carried_out k t d.log d.held))
   done-ends Read w = seen-grows d (ticket_id t) t.first t.count honest
   done-ends Write w = put-grows w (Write_done (ticket_id t)) (done-grows d t w.content w.size fits w.only_open honest others all among calls.distinct calls.writes)
   done-ends Flush w = kept-grows d (Reply (ticket_id t) Fine) (reply-more (ticket_id t) Fine) honest
@@ -97,7 +97,7 @@ module _ (d : Disk) (t : Ticket) (others all : List Ticket) (among : HasAmong t 
   old-ends Write = kept-grows d (failed_entry Write t) (broke-more (ticket_id t)) honest
   old-ends Flush = kept-grows d (failed_entry Flush t) (reply-more (ticket_id t) (StoreFault t.number 0)) honest
 
-  new-ends : (k : Kind) → StandsAs k d.start d.log t → GrowsBy (failed_entry k t ∷ []) d (grown d (failed_entry k t) (carried_out k t d.log d.held))
+  new-ends : (k : Kind) → IsLoggedAs k d.start d.log t → GrowsBy (failed_entry k t ∷ []) d (grown d (failed_entry k t) (carried_out k t d.log d.held))
   new-ends Read w = old-ends Read
   new-ends Write w = put-grows w (Broke (ticket_id t)) (broke-written-grows d t w.content w.size fits w.only_open honest)
   new-ends Flush w = old-ends Flush
@@ -110,95 +110,95 @@ module _ (d : Disk) (t : Ticket) (others all : List Ticket) (among : HasAmong t 
   last-grows (Some Old) = old-ends t.kind
   last-grows (Some New) = new-ends t.kind here.stands
 
-  can-carry : (k : Kind) → StandsAs k d.start d.log t → CanCarryOut k t d.log d.held
+  can-carry : (k : Kind) → IsLoggedAs k d.start d.log t → CanCarryOut k t d.log d.held
   can-carry Read w = tt
   can-carry Write w = (here.placed, omega (arith, ap length (carried d.start d.log t w), w.size, fits))
   can-carry Flush w = tt
 
 -- The store then.
-module _ (m : Memory) (t : Ticket) (failure : Option Keep) (sound : IsSound m) where
+module _ (m : MemStoreState) (t : Ticket) (failure : Option Keep) (sound : IsSoundMemStore m) where
   abbrev e : Entry
   e = last_entry failure t m.held
 
-  abbrev rest : Memory
+  abbrev rest : MemStoreState
   rest = left_by t (is_done failure (can_add m e)) m
 
-  abbrev in_log : Memory
+  abbrev in_log : MemStoreState
   in_log = record rest { log = added e m.log; held = last_held failure t m.log.entries m.held }
 
-  abbrev stopped : Memory
+  abbrev stopped : MemStoreState
   stopped = record rest { over = next_number m.over }
 
   inside : (others all : List Ticket) → HasAmong t others all → Flies m all → t.first + t.count ≤ length m.held
-  inside others all among flies = let range = (all-take (IsWithin (length m.start)) t others all among flies.within).0 in omega (arith, range.0, sound.size)
+  inside others all among flight = let range = (all-take (IsTicketWithin (length m.start)) t others all among flight.within).0 in omega (arith, range.0, sound.size)
 
-  grows-so : (others all : List Ticket) → HasAmong t others all → Flies m all → Runs m → GrowsBy (e ∷ []) (disk_of m) (disk_of in_log)
-  grows-so others all among flies runs =
-      last-grows (disk_of m) t others all among m.last (flies.calls runs) (inside others all among flies) (sound.told runs).honest failure
+  grows-so : (others all : List Ticket) → HasAmong t others all → Flies m all → StillRuns m → GrowsBy (e ∷ []) (disk_of m) (disk_of in_log)
+  grows-so others all among flight runs =
+      last-grows (disk_of m) t others all among m.last (flight.calls runs) (inside others all among flight) (sound.told runs).honest failure
 
-  pub end-placed : (others all : List Ticket) → HasAmong t others all → Flies m all → Runs m → CanCarryOut t.kind t m.log.entries m.held
-  end-placed others all among flies runs =
-      let calls = flies.calls runs in
-      can-carry (disk_of m) t others all among m.last calls (inside others all among flies) (sound.told runs).honest t.kind
+  pub end-placed : (others all : List Ticket) → HasAmong t others all → Flies m all → StillRuns m → CanCarryOut t.kind t m.log.entries m.held
+  end-placed others all among flight runs =
+      let calls = flight.calls runs in
+      can-carry (disk_of m) t others all among m.last calls (inside others all among flight) (sound.told runs).honest t.kind
       (all-take (IsCall m.last m.start m.log.entries) t others all among calls.each).0.stands
 
   pub end-within : (others all : List Ticket) → HasAmong t others all → Flies m all → t.first + t.count ≤ length m.held
-  end-within others all among flies = inside others all among flies
+  end-within others all among flight = inside others all among flight
 
   pub end-few : (others all : List Ticket) → HasAmong t others all → Flies m all → t.count ≤ 2048
-  end-few others all among flies = (all-take (IsWithin (length m.start)) t others all among flies.within).0.1
+  end-few others all among flight = (all-take (IsTicketWithin (length m.start)) t others all among flight.within).0.1
 
   pub end-takes : Takes t (Flies m) (Flies (ended_by failure t m))
-  end-takes others all among flies =
-      let count : m.flying - 1 ≡ length others = omega (arith, flies.many, put-length t others all among) in
-      let range = (all-take (IsWithin (length m.start)) t others all among flies.within).1 in
-      choose (λ (m' : Memory). Flies m' others) (can_add m e) in_log stopped
+  end-takes others all among flight =
+      let count : m.flying - 1 ≡ length others = omega (arith, flight.many, put-length t others all among) in
+      let range = (all-take (IsTicketWithin (length m.start)) t others all among flight.within).1 in
+      choose (λ (m' : MemStoreState). Flies m' others) (can_add m e) in_log stopped
       (λ can. record {
         many = count;
         within = range;
-        calls = λ runs. let before = flies.calls runs in
+        calls = λ runs. let before = flight.calls runs in
             calls-take m.last (disk_of m) e in_log.held t others all (last-call failure t m.held) (last-off failure t m.held)
             (last-writes (disk_of m) in_log.held t others all among before.writes failure m.held) among before;
       })
       (λ full. record { many = count; within = range; calls = λ runs. stopped-over m.over runs })
 
   -- where it still runs, the last entry was added
-  pub end-grows : (others all : List Ticket) → HasAmong t others all → Flies m all → Runs (ended_by failure t m) → (can_add m e ≡ true) × GrowsBy (e ∷ []) (disk_of m) (disk_of (ended_by failure t m)) × ((ended_by failure t m).held ≡ in_log.held)
-  end-grows others all among flies =
-      choose (λ (m' : Memory). Runs m' → (can_add m e ≡ true) × GrowsBy (e ∷ []) (disk_of m) (disk_of m') × (m'.held ≡ in_log.held)) (can_add m e) in_log stopped
-      (λ can runs. (can, grows-so others all among flies runs, refl))
+  pub end-grows : (others all : List Ticket) → HasAmong t others all → Flies m all → StillRuns (ended_by failure t m) → (can_add m e ≡ true) × GrowsBy (e ∷ []) (disk_of m) (disk_of (ended_by failure t m)) × ((ended_by failure t m).held ≡ in_log.held)
+  end-grows others all among flight =
+      choose (λ (m' : MemStoreState). StillRuns m' → (can_add m e ≡ true) × GrowsBy (e ∷ []) (disk_of m) (disk_of m') × (m'.held ≡ in_log.held)) (can_add m e) in_log stopped
+      (λ can runs. (can, grows-so others all among flight runs, refl))
       (λ full runs. stopped-over m.over runs)
 
-  pub end-sound : (others all : List Ticket) → HasAmong t others all → Flies m all → length (ended_by failure t m).log.entries < 2 ^ 63 → IsSound (ended_by failure t m)
-  end-sound others all among flies short = record {
-    size = choose (λ (m' : Memory). length m'.held ≡ length m'.start) (can_add m e) in_log stopped
-        (λ can. (grows-so others all among flies (takes-runs m.log m.fuse m.over e can)).size ∙ sound.size)
+  pub end-sound : (others all : List Ticket) → HasAmong t others all → Flies m all → length (ended_by failure t m).log.entries < 2 ^ 63 → IsSoundMemStore (ended_by failure t m)
+  end-sound others all among flight short = record {
+    size = choose (λ (m' : MemStoreState). length m'.held ≡ length m'.start) (can_add m e) in_log stopped
+        (λ can. (grows-so others all among flight (takes-runs m.log m.fuse m.over e can)).size ∙ sound.size)
         (λ full. sound.size);
     short = short;
     told = λ runs. record {
-      numbers = choose (λ (m' : Memory). Runs m' → m'.last ≤ length m'.log.entries) (can_add m e) in_log stopped
+      numbers = choose (λ (m' : MemStoreState). StillRuns m' → m'.last ≤ length m'.log.entries) (can_add m e) in_log stopped
           (λ can now. omega (arith, (sound.told now).numbers, length-append m.log.entries (e ∷ [])))
           (λ full now. stopped-over m.over now) runs;
-      honest = (end-grows others all among flies runs).1.honest;
-      order = choose (λ (m' : Memory). Runs m' → IsInOrder (disk_of m')) (can_add m e) in_log stopped
+      honest = (end-grows others all among flight runs).1.honest;
+      order = choose (λ (m' : MemStoreState). StillRuns m' → IsInOrder (disk_of m')) (can_add m e) in_log stopped
           (λ can now. order-push (disk_of m) e in_log.held (sound.told now).order (last-follows failure (disk_of m) t (sound.told now).honest))
           (λ full now. stopped-over m.over now) runs;
     };
-    flight = (others, end-takes others all among flies);
+    flight = (others, end-takes others all among flight);
   }
 
   -- these are the ticket's last entry where it was added
   pub end-took : (others all : List Ticket) → HasAmong t others all → Flies m all → (es : List Entry) → (can_add m e ≡ true → es ≡ e ∷ []) → Took es m (ended_by failure t m)
-  end-took others all among flies es last =
-      choose (λ (m' : Memory). Took es m m') (can_add m e) in_log stopped
+  end-took others all among flight es last =
+      choose (λ (m' : MemStoreState). Took es m m') (can_add m e) in_log stopped
       (λ can. let runs = takes-runs m.log m.fuse m.over e can in
-      inl (record { before = runs; after = runs; grows = subst (λ (x : List Entry). GrowsBy x (disk_of m) (disk_of in_log)) (sym (last can)) (grows-so others all among flies runs) }))
+      inl (record { before = runs; after = runs; grows = subst (λ (x : List Entry). GrowsBy x (disk_of m) (disk_of in_log)) (sym (last can)) (grows-so others all among flight runs) }))
       (λ full. inr (record { start = refl; log = refl; over = refl }))
 
   -- where the store has stopped, the last entry was not added
   pub end-full : HasStopped (events_of (ended_by failure t m).log (ended_by failure t m).over) (disk_of (ended_by failure t m)) → can_add m e ≡ false
   end-full =
-      choose (λ (m' : Memory). HasStopped (events_of m'.log m'.over) (disk_of m') → can_add m e ≡ false) (can_add m e) in_log stopped
+      choose (λ (m' : MemStoreState). HasStopped (events_of m'.log m'.over) (disk_of m') → can_add m e ≡ false) (can_add m e) in_log stopped
       (λ can above. let runs = takes-runs m.log m.fuse m.over e can in absurd (omega arith))
       (λ full above. full)
 

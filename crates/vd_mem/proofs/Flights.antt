@@ -5,7 +5,7 @@ use Rattle.std.specs.List.{AllByRecursion, Contains}
 use Rattle.std.proofs.lemmas.List.Elements.{All-from_recursion, All-contains, Contains-append_left, Contains-append_right, Contains-append_cases, Contains-push, Contains-push_cases}
 use Rattle.vd_device.specs.declared.ticket.Ticket.{Ticket}
 use Rattle.vd_device.specs.Tickets.{HasAmong}
-use Rattle.vd_mem.specs.Flying.{AreDistinct}
+use Rattle.vd_mem.specs.Flying.{HaveDistinctNumbers}
 
 pub all-more : (P Q : Ticket → Type 0) → ((t : Ticket) → P t → Q t) → (ts : List Ticket) → AllByRecursion P ts → AllByRecursion Q ts
 all-more P Q f [] all = tt
@@ -77,28 +77,28 @@ IsOther t u = u.number ≢ t.number
 other-turned : (t u : Ticket) → IsOther t u → IsOther u t
 other-turned t u other same = other (sym same)
 
-distinct-insert : (before after : List Ticket) (t : Ticket) → AreDistinct (before ++ after) → AllByRecursion (IsOther t) (before ++ after) → AreDistinct (before ++ t ∷ after)
+distinct-insert : (before after : List Ticket) (t : Ticket) → HaveDistinctNumbers (before ++ after) → AllByRecursion (IsOther t) (before ++ after) → HaveDistinctNumbers (before ++ t ∷ after)
 distinct-insert [] after t distinct others = (others, distinct)
 distinct-insert (u ∷ before) after t distinct others =
     (insert (IsOther u) before after t distinct.0 (other-turned t u others.0), distinct-insert before after t distinct.1 others.1)
 
-distinct-remove : (before after : List Ticket) (t : Ticket) → AreDistinct (before ++ t ∷ after) → AreDistinct (before ++ after) × AllByRecursion (IsOther t) (before ++ after)
+distinct-remove : (before after : List Ticket) (t : Ticket) → HaveDistinctNumbers (before ++ t ∷ after) → HaveDistinctNumbers (before ++ after) × AllByRecursion (IsOther t) (before ++ after)
 distinct-remove [] after t distinct = (distinct.1, distinct.0)
 distinct-remove (u ∷ before) after t distinct =
     let head = remove (IsOther u) before after t distinct.0 in let rest = distinct-remove before after t distinct.1 in
     ((head.1, rest.0), (other-turned u t head.0, rest.1))
 
-pub distinct-put : (t : Ticket) (others all : List Ticket) → HasAmong t others all → AreDistinct others → AllByRecursion (IsOther t) others → AreDistinct all
+pub distinct-put : (t : Ticket) (others all : List Ticket) → HasAmong t others all → HaveDistinctNumbers others → AllByRecursion (IsOther t) others → HaveDistinctNumbers all
 distinct-put t others all among distinct other =
-    subst AreDistinct (sym among.with_it) (distinct-insert among.before among.after t (subst AreDistinct among.without distinct) (subst (AllByRecursion (IsOther t)) among.without other))
+    subst HaveDistinctNumbers (sym among.with_it) (distinct-insert among.before among.after t (subst HaveDistinctNumbers among.without distinct) (subst (AllByRecursion (IsOther t)) among.without other))
 
-pub distinct-take : (t : Ticket) (others all : List Ticket) → HasAmong t others all → AreDistinct all → AreDistinct others × AllByRecursion (IsOther t) others
+pub distinct-take : (t : Ticket) (others all : List Ticket) → HasAmong t others all → HaveDistinctNumbers all → HaveDistinctNumbers others × AllByRecursion (IsOther t) others
 distinct-take t others all among distinct =
-    let parts = distinct-remove among.before among.after t (subst AreDistinct among.with_it distinct) in
-    (subst AreDistinct (sym among.without) parts.0, subst (AllByRecursion (IsOther t)) (sym among.without) parts.1)
+    let parts = distinct-remove among.before among.after t (subst HaveDistinctNumbers among.with_it distinct) in
+    (subst HaveDistinctNumbers (sym among.without) parts.0, subst (AllByRecursion (IsOther t)) (sym among.without) parts.1)
 
 -- the one with the ticket's number is that ticket
-pub same-number : (t : Ticket) (others all : List Ticket) → HasAmong t others all → AreDistinct all → (u : Ticket) → Contains all u → u.number ≡ t.number → t ≡ u
+pub same-number : (t : Ticket) (others all : List Ticket) → HasAmong t others all → HaveDistinctNumbers all → (u : Ticket) → Contains all u → u.number ≡ t.number → t ≡ u
 same-number t others all among distinct u there same =
     elim (contains-take t others all among u there) [
       | inl it ↦ it

@@ -6,19 +6,20 @@ use Rattle.std.proofs.lemmas.List.Elements.{All-nil, All-cons, All-head, All-tai
 use Rattle.vd_law.specs.declared.entry.Sector.{Sector}
 use Rattle.vd_law.specs.declared.entry.CallId.{CallId}
 use Rattle.vd_law.specs.Entries.{Entry, call_of, same_call, Past, ◌▸◌, past}
-use Rattle.vd_law.specs.Contents.{sector_in, written, Open, opened, is_of, is_of_another, open_writes}
+use Rattle.vd_law.specs.Contents.{sector_in, issued_contents, Open, open_after_issue, is_of, is_of_another, open_writes}
 use Rattle.vd_law.proofs.Appending.{after-push}
 use Rattle.vd_law.proofs.Opening.{same_call-refl}
 use Rattle.vd_device.specs.declared.ticket.Ticket.{Ticket}
 use Rattle.vd_device.specs.declared.ticket.Kind.{Kind}
 use Rattle.vd_device.specs.declared.ticket.Kind.TheVariants.{Read, Write, Flush}
-use Rattle.vd_device.specs.Tickets.{HasAmong, IsClear, AreApart, ticket_id}
-use Rattle.vd_device.specs.Calls.{issued}
+use Rattle.vd_device.specs.Tickets.{HasAmong, IsClear, AreRangesApart, ticket_id}
+use Rattle.vd_device.specs.Calls.{issue_entry}
 use Rattle.vd_device.specs.Disks.{Disk, IsOneOf, AreWrites}
-use Rattle.vd_mem.specs.Flying.{StandsAs, IsCall, AreDistinct, AreCalls}
+use Rattle.vd_mem.specs.Flying.{IsLoggedAs, IsCall, HaveDistinctNumbers, AreCalls}
 use Rattle.vd_mem.proofs.Flights.{all-more, all-both, all-put, all-take, all-at, contains-put, contains-it, contains-take, distinct-put, distinct-take, same-number, IsOther}
-use Rattle.vd_mem.proofs.Sectors.{cases-sector, sector-range, sector-none}
+use Rattle.vd_mem.proofs.Sectors.{sector-range, sector-none}
 use Rattle.vd_mem.proofs.Opens.{IsOff, other-call, other-ticket, stands-kept}
+use Rattle.vd_faults.proofs.Getting.{cases-sector}
 
 -- the disk with one more entry, and other contents
 abbrev pub grown : Disk → Entry → List Sector → Disk
@@ -50,16 +51,16 @@ writes-asked d e held t others all calm among writes = λ s.
     subst (All (IsOneOf all s)) (sym (after-push (λ (p : Past). open_writes p s) d.log e ∙ calm (past d.log) s))
     (All-weaker (IsOneOf others s) (IsOneOf all s) (one-put t others all among s) (open_writes (past d.log) s) (writes s))
 
-opened-of : (t : Ticket) (all : List Ticket) (s n : ℕ) (o : Option Sector) → t.kind ≡ Write → Contains all t → ((v : Sector) → o ≡ Some v → (t.first ≤ s) × (s < t.first + t.count)) → All (IsOneOf all s) (opened (ticket_id t) n o)
+opened-of : (t : Ticket) (all : List Ticket) (s n : ℕ) (o : Option Sector) → t.kind ≡ Write → Contains all t → ((v : Sector) → o ≡ Some v → (t.first ≤ s) × (s < t.first + t.count)) → All (IsOneOf all s) (open_after_issue (ticket_id t) n o)
 opened-of t all s n None write among range = All-nil (IsOneOf all s)
 opened-of t all s n (Some v) write among range =
     let w : Open = record { call = ticket_id t; number = n; content = v } in let inside = range v refl in
     All-cons (IsOneOf all s) w [] (record { ticket = t; among = among; kind = write; call = refl; from = inside.0; to = inside.1 }) (All-nil (IsOneOf all s))
 
-pub writes-issued : (d : Disk) (content held : List Sector) (t : Ticket) (others all : List Ticket) → t.kind ≡ Write → length content ≡ t.count → HasAmong t others all → AreWrites others d → AreWrites all (grown d (issued t content) held)
+pub writes-issued : (d : Disk) (content held : List Sector) (t : Ticket) (others all : List Ticket) → t.kind ≡ Write → length content ≡ t.count → HasAmong t others all → AreWrites others d → AreWrites all (grown d (issue_entry t content) held)
 writes-issued d content held t others all write size among writes = λ s.
-    let new = opened (ticket_id t) (length (written (past d.log) s) + 1) (sector_in t.first content s) in
-    subst (All (IsOneOf all s)) (sym (after-push (λ (p : Past). open_writes p s) d.log (issued t content)))
+    let new = open_after_issue (ticket_id t) (length (issued_contents (past d.log) s) + 1) (sector_in t.first content s) in
+    subst (All (IsOneOf all s)) (sym (after-push (λ (p : Past). open_writes p s) d.log (issue_entry t content)))
     (All-append (IsOneOf all s) new (open_writes (past d.log) s)
     (opened-of t all s _ (sector_in t.first content s) write (contains-it t others all among) (λ v at. let range = sector-range t.first content s v at in (range.0, omega (arith, range.1, size))))
     (All-weaker (IsOneOf others s) (IsOneOf all s) (one-put t others all among s) (open_writes (past d.log) s) (writes s)))
@@ -90,7 +91,7 @@ writes-ended d e held t others all ends among writes = λ s.
 
 -- Where a range is free no write is open.
 
-apart-free : (first count s : ℕ) (t : Ticket) → AreApart t.first t.count first count → first ≤ s → s < first + count → t.first ≤ s → s < t.first + t.count → ⊥
+apart-free : (first count s : ℕ) (t : Ticket) → AreRangesApart t.first t.count first count → first ≤ s → s < first + count → t.first ≤ s → s < t.first + t.count → ⊥
 apart-free first count s t (inl below) from to t_from t_to = omega (arith, below, from, t_to)
 apart-free first count s t (inr above) from to t_from t_to = omega (arith, above, to, t_from)
 
@@ -119,7 +120,7 @@ find-none t s (w ∷ ws) all =
     other_open : (t : Ticket) (w : Open) → (w.call ≡ ticket_id t → ⊥) → same_call w.call (ticket_id t) ≡ false
     other_open t w apart = other-call w.call (ticket_id t) apart
 
-pub off-none : (d : Disk) (t : Ticket) (others all : List Ticket) (s : ℕ) → HasAmong t others all → AreDistinct all → AreWrites all d → (s < t.first) ⊎ (t.first + t.count ≤ s) → find (is_of (ticket_id t)) (open_writes (past d.log) s) ≡ None
+pub off-none : (d : Disk) (t : Ticket) (others all : List Ticket) (s : ℕ) → HasAmong t others all → HaveDistinctNumbers all → AreWrites all d → (s < t.first) ⊎ (t.first + t.count ≤ s) → find (is_of (ticket_id t)) (open_writes (past d.log) s) ≡ None
 off-none d t others all s among distinct writes off =
     find-none t s (open_writes (past d.log) s)
     (All-weaker (IsOneOf all s) (λ (w : Open). w.call ≡ ticket_id t → ⊥) (λ w of call.
@@ -153,7 +154,7 @@ pub writing-open : (last : ℕ) (d : Disk) (u : Ticket) → IsCall last d.start 
 writing-open last d u call write s from to closed =
     at-write u.kind call.stands write
   where
-    at-write : (k : Kind) → StandsAs k d.start d.log u → k ≡ Write → ⊥
+    at-write : (k : Kind) → IsLoggedAs k d.start d.log u → k ≡ Write → ⊥
     at-write Read stands is = cc
     at-write Write stands is =
         elim (cases-sector (sector_in u.first stands.content s)) [

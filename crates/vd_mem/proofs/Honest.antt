@@ -7,16 +7,17 @@ use Rattle.std.proofs.lemmas.List.Elements.{Contains-append_left, Contains-push}
 use Rattle.vd_law.specs.declared.entry.Sector.{Sector}
 use Rattle.vd_law.specs.declared.entry.CallId.{CallId}
 use Rattle.vd_law.specs.Entries.{Entry, Ask, Issue, Done, Broke, Seen, Reply, Past, ◌▸◌, past}
-use Rattle.vd_law.specs.Contents.{sector_in, Open, is_of, is_of_another, open_writes, settled, looked_at, could_after}
+use Rattle.vd_law.specs.Contents.{sector_in, Open, is_of, is_of_another, open_writes, contents_after_done, contents_after_seen, could_after}
 use Rattle.vd_law.proofs.Appending.{could-push}
 use Rattle.vd_law.proofs.Opening.{same_call-refl}
 use Rattle.vd_device.specs.declared.ticket.Ticket.{Ticket}
 use Rattle.vd_device.specs.Tickets.{HasAmong, ticket_id}
-use Rattle.vd_device.specs.Disks.{Disk, IsHonest, IsCalmAt, GrowsBy, AreWrites}
-use Rattle.vd_mem.specs.Memory.{over_at}
-use Rattle.vd_mem.specs.Flying.{IsOnlyOpen, AreDistinct}
-use Rattle.vd_mem.proofs.Sectors.{cases-sector, sector-none, over-at, over-off, over-length, range-held}
+use Rattle.vd_device.specs.Disks.{Disk, IsHonest, IsUnwrittenAt, GrowsBy, AreWrites}
+use Rattle.vd_mem.specs.StoreState.{over_at}
+use Rattle.vd_mem.specs.Flying.{IsOnlyOpen, HaveDistinctNumbers}
+use Rattle.vd_mem.proofs.Sectors.{sector-none, over-at, over-off, over-length, range-held}
 use Rattle.vd_mem.proofs.Flying.{grown, off-none}
+use Rattle.vd_faults.proofs.Getting.{cases-sector}
 
 some-same : (x y : Sector) → Some x ≡ Some y → x ≡ y
 some-same x y same = cc
@@ -53,7 +54,7 @@ pub reply-more : (id : CallId) (answer : _) → NoLess (Reply id answer)
 reply-more id answer start p s v there = there
 
 -- a Seen of what is held
-seen-there : (o : Option Sector) (others : Bool) (contents : List Sector) (v : Sector) → ((w : Sector) → o ≡ Some w → w ≡ v) → Contains contents v → Contains (looked_at o others contents) v
+seen-there : (o : Option Sector) (others : Bool) (contents : List Sector) (v : Sector) → ((w : Sector) → o ≡ Some w → w ≡ v) → Contains contents v → Contains (contents_after_seen o others contents) v
 seen-there None others contents v shows there = there
 seen-there (Some w) true contents v shows there = there
 seen-there (Some w) false contents v shows there = subst (λ (x : Sector). Contains (x ∷ []) v) (sym (shows w refl)) (Contains-push [] v)
@@ -82,7 +83,7 @@ module _ (d : Disk) (t : Ticket) (content : List Sector) (size : length content 
   room : t.first + length content ≤ length d.held
   room = omega (arith, size, fits)
 
-  calm-kept : (s : ℕ) → IsCalmAt d s → slice_get written s ≡ slice_get d.held s
+  calm-kept : (s : ℕ) → IsUnwrittenAt d s → slice_get written s ≡ slice_get d.held s
   calm-kept s calm =
       elim (cases-sector (sector_in t.first content s)) [
         | inl none ↦ over-off t.first content d.held s room none
@@ -111,20 +112,20 @@ module _ (d : Disk) (t : Ticket) (content : List Sector) (size : length content 
   pub broke-written-grows : GrowsBy (Broke (ticket_id t) ∷ []) d (grown d (Broke (ticket_id t)) written)
   broke-written-grows = written-grows (Broke (ticket_id t)) (λ s v none there. there) (λ s v at o. o.among)
 
-  found : (s : ℕ) (v : Sector) → IsOnlyOpen d.start (past d.log) (ticket_id t) s v → settled (find (is_of (ticket_id t)) (open_writes (past d.log) s)) (could_after d.start (past d.log) s) ≡ v ∷ []
+  found : (s : ℕ) (v : Sector) → IsOnlyOpen d.start (past d.log) (ticket_id t) s v → contents_after_done (find (is_of (ticket_id t)) (open_writes (past d.log) s)) (could_after d.start (past d.log) s) ≡ v ∷ []
   found s v o =
-      ap (λ (ws : List Open). settled (find (is_of (ticket_id t)) ws) (could_after d.start (past d.log) s)) o.alone
-      ∙ ap (λ (b : Bool). settled (if b then Some (own_write s v) else None) (could_after d.start (past d.log) s)) (same_call-refl (ticket_id t))
+      ap (λ (ws : List Open). contents_after_done (find (is_of (ticket_id t)) ws) (could_after d.start (past d.log) s)) o.alone
+      ∙ ap (λ (b : Bool). contents_after_done (if b then Some (own_write s v) else None) (could_after d.start (past d.log) s)) (same_call-refl (ticket_id t))
     where
       own_write : ℕ → Sector → Open
-      own_write s v = record { call = ticket_id t; number = length (Rattle.vd_law.specs.Contents.written (past d.log) s); content = v }
+      own_write s v = record { call = ticket_id t; number = length (Rattle.vd_law.specs.Contents.issued_contents (past d.log) s); content = v }
 
   -- it is done
-  pub done-grows : (others all : List Ticket) → HasAmong t others all → AreDistinct all → AreWrites all d → GrowsBy (Done (ticket_id t) ∷ []) d (grown d (Done (ticket_id t)) written)
+  pub done-grows : (others all : List Ticket) → HasAmong t others all → HaveDistinctNumbers all → AreWrites all d → GrowsBy (Done (ticket_id t) ∷ []) d (grown d (Done (ticket_id t)) written)
   done-grows others all among distinct writes =
       written-grows (Done (ticket_id t))
       (λ s v none there. subst (λ (k : List Sector). Contains k v)
-      (sym (ap (λ (o : Option Open). settled o (could_after d.start (past d.log) s)) (off-none d t others all s among distinct writes (outside s none)))) there)
+      (sym (ap (λ (o : Option Open). contents_after_done o (could_after d.start (past d.log) s)) (off-none d t others all s among distinct writes (outside s none)))) there)
       (λ s v at o. subst (λ (k : List Sector). Contains k v) (sym (found s v o)) (Contains-push [] v))
     where
       outside : (s : ℕ) → sector_in t.first content s ≡ None → (s < t.first) ⊎ (t.first + t.count ≤ s)

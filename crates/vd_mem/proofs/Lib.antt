@@ -4,7 +4,6 @@ pub mod Opens
 pub mod Flying
 pub mod Honest
 pub mod Orders
-pub mod Choosing
 pub mod Taking
 pub mod Submits
 pub mod Ending
@@ -12,7 +11,4 @@ pub mod Views
 pub mod Bases
 pub mod Tracing
 pub mod Beginning
-pub mod Counting
-pub mod Laying
-pub mod Choice
 pub mod Fuses

@@ -9,7 +9,7 @@ use Rattle.vd_law.specs.declared.entry.Sector.{Sector}
 use Rattle.vd_law.specs.declared.entry.CallId.{CallId}
 use Rattle.vd_law.specs.Entries.{Entry, Ask, Issue, Done, Broke, Seen, Reply, call_of, same_call, Past, ◌▸◌, past}
 use Rattle.vd_law.specs.Calls.{progress, before_ask}
-use Rattle.vd_law.specs.Contents.{sector_in, written, Open, opened, is_of, is_of_another, open_writes, settled, looked_at, could_after}
+use Rattle.vd_law.specs.Contents.{sector_in, issued_contents, Open, open_after_issue, is_of, is_of_another, open_writes, contents_after_done, contents_after_seen, could_after}
 use Rattle.vd_law.proofs.Appending.{past-push}
 use Rattle.vd_law.proofs.Opening.{same_call-refl, same_call-is, case}
 use Rattle.vd_law.proofs.OpenLaws.{progress-other}
@@ -17,8 +17,9 @@ use Rattle.vd_device.specs.declared.ticket.Ticket.{Ticket}
 use Rattle.vd_device.specs.declared.ticket.Kind.{Kind}
 use Rattle.vd_device.specs.declared.ticket.Kind.TheVariants.{Read, Write, Flush}
 use Rattle.vd_device.specs.Tickets.{ticket_id}
-use Rattle.vd_mem.specs.Flying.{IsOnlyOpen, StandsAs}
-use Rattle.vd_mem.proofs.Sectors.{get-first, sector-range}
+use Rattle.vd_mem.specs.Flying.{IsOnlyOpen, IsLoggedAs}
+use Rattle.vd_mem.proofs.Sectors.{sector-range}
+use Rattle.vd_faults.proofs.Getting.{get-first}
 
 pub other-call : (a b : CallId) → (a ≡ b → ⊥) → same_call a b ≡ false
 other-call a b apart = elim (case (same_call a b)) [ inl same ↦ absurd (apart (same_call-is a b same)) | inr other ↦ other ]
@@ -42,7 +43,7 @@ IsOff (Reply id answer) s = Unit {0}
 abbrev one : CallId → ℕ → Sector → Open
 one id n v = record { call = id; number = n; content = v }
 
-looked-kept : (o : Option Sector) (b : Bool) (contents : List Sector) → b ≡ true → looked_at o b contents ≡ contents
+looked-kept : (o : Option Sector) (b : Bool) (contents : List Sector) → b ≡ true → contents_after_seen o b contents ≡ contents
 looked-kept None b contents others = refl
 looked-kept (Some v) b contents others = ap (λ (b : Bool). if b then contents else v ∷ []) others
 
@@ -50,16 +51,16 @@ looked-kept (Some v) b contents others = ap (λ (b : Bool). if b then contents e
 pub open-kept : (start : List Sector) (p : Past) (e : Entry) (id : CallId) (s : ℕ) (v : Sector) → same_call (call_of e) id ≡ false → IsOff e s → IsOnlyOpen start p id s v → IsOnlyOpen start (p ▸ e) id s v
 open-kept start p (Ask c request) id s v other off o = record { alone = o.alone; among = o.among }
 open-kept start p (Issue c first content) id s v other off o =
-    let parts = subst (λ (x : Option Sector). (opened c (length (written p s) + 1) x ++ open_writes p s ≡ one id (length (written p s ++ option_to_list x)) v ∷ []) × Contains (could_after start p s ++ option_to_list x) v) (sym off)
-    (o.alone ∙ ap (λ (w : List Sector). one id (length w) v ∷ []) (sym (append-nil (written p s))), Contains-append_left (could_after start p s) [] v o.among) in
+    let parts = subst (λ (x : Option Sector). (open_after_issue c (length (issued_contents p s) + 1) x ++ open_writes p s ≡ one id (length (issued_contents p s ++ option_to_list x)) v ∷ []) × Contains (could_after start p s ++ option_to_list x) v) (sym off)
+    (o.alone ∙ ap (λ (w : List Sector). one id (length w) v ∷ []) (sym (append-nil (issued_contents p s))), Contains-append_left (could_after start p s) [] v o.among) in
     record { alone = parts.0; among = parts.1 }
 open-kept start p (Done c) id s v other off o =
-    let apart = turned c id other in let w = one id (length (written p s)) v in
-    let parts = subst (λ (ws : List Open). (filter (is_of_another c) ws ≡ w ∷ []) × Contains (settled (find (is_of c) ws) (could_after start p s)) v) (sym o.alone)
-    (ap (λ (b : Bool). if not b then w ∷ [] else []) apart, subst (λ (b : Bool). Contains (settled (if b then Some w else None) (could_after start p s)) v) (sym apart) o.among) in
+    let apart = turned c id other in let w = one id (length (issued_contents p s)) v in
+    let parts = subst (λ (ws : List Open). (filter (is_of_another c) ws ≡ w ∷ []) × Contains (contents_after_done (find (is_of c) ws) (could_after start p s)) v) (sym o.alone)
+    (ap (λ (b : Bool). if not b then w ∷ [] else []) apart, subst (λ (b : Bool). Contains (contents_after_done (if b then Some w else None) (could_after start p s)) v) (sym apart) o.among) in
     record { alone = parts.0; among = parts.1 }
 open-kept start p (Broke c) id s v other off o =
-    let apart = turned c id other in let w = one id (length (written p s)) v in
+    let apart = turned c id other in let w = one id (length (issued_contents p s)) v in
     record {
       alone = ap (filter (is_of_another c)) o.alone ∙ ap (λ (b : Bool). if not b then w ∷ [] else []) apart;
       among = o.among;
@@ -82,7 +83,7 @@ ask-kept p (Seen c first content) id other = refl
 ask-kept p (Reply c answer) id other = refl
 
 pub stands-kept : (k : Kind) (start : List Sector) (log : List Entry) (e : Entry) (t : Ticket) → same_call (call_of e) (ticket_id t) ≡ false → t.mark < length log
-    → (k ≡ Write → (s : ℕ) → t.first ≤ s → s < t.first + t.count → IsOff e s) → StandsAs k start log t → StandsAs k start (log ++ e ∷ []) t
+    → (k ≡ Write → (s : ℕ) → t.first ≤ s → s < t.first + t.count → IsOff e s) → IsLoggedAs k start log t → IsLoggedAs k start (log ++ e ∷ []) t
 stands-kept Read start log e t other placed off stands = tt
 stands-kept Write start log e t other placed off stands = record {
   content = stands.content;

@@ -11,8 +11,8 @@ use Rattle.vd_device.specs.declared.ticket.Kind.TheVariants.{Read, Write, Flush}
 use Rattle.vd_device.specs.Calls.{done_entry, failed_entry}
 use Rattle.vd_device.specs.Disks.{Disk, IsHonest}
 use Rattle.vd_device.specs.Orders.{BeginsAlone, WritesInside, IsInOrder}
-use Rattle.vd_mem.specs.declared.rule.Keep.{Keep}
-use Rattle.vd_mem.specs.Memory.{last_entry}
+use Rattle.vd_faults.specs.declared.rule.Keep.{Keep}
+use Rattle.vd_mem.specs.StoreState.{last_entry}
 use Rattle.vd_mem.proofs.Sectors.{range-held}
 use Rattle.vd_mem.proofs.Flying.{grown}
 

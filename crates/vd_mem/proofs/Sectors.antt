@@ -1,5 +1,5 @@
 -- Sectors with a content written over them.
-use Rattle.std.proofs.Common.{◌≡◌, ℕ, zero, suc, ◌+◌, ◌-◌, ◌<◌, ◌≤◌, ◌⊎◌, inl, inr, Bool, List, [], ◌∷◌, ◌++◌, Option, Some, None, length, take, drop, refl, ap, sym, ◌∙◌, arith, length-append, length-drop}
+use Rattle.std.proofs.Common.{◌≡◌, ℕ, ◌+◌, ◌-◌, ◌<◌, ◌≤◌, ◌⊎◌, inl, inr, Bool, List, ◌++◌, Some, None, length, take, drop, ap, sym, ◌∙◌, arith, length-append, length-drop}
 use Rattle.std.specs.Prelude.{slice_get, slice_range, if◌then◌else◌}
 use Rattle.std.proofs.lemmas.Bool.Decides.{leb_tells}
 use Rattle.std.proofs.lemmas.List.{length-take}
@@ -7,39 +7,8 @@ use Rattle.std.proofs.lemmas.Option.{slice_get_cases}
 use Rattle.vd_law.specs.declared.entry.Sector.{Sector}
 use Rattle.vd_law.specs.Contents.{sector_in}
 use Rattle.vd_law.proofs.Sectors.{sector_in-place, slice_get-inside}
-use Rattle.vd_mem.specs.Memory.{over_at}
-
-pub get-take : (xs : List Sector) (n k : ℕ) → k < n → slice_get (take n xs) k ≡ slice_get xs k
-get-take [] zero k h = refl
-get-take [] (suc n) k h = refl
-get-take (x ∷ xs) zero k h = absurd (omega arith)
-get-take (x ∷ xs) (suc n) zero h = refl
-get-take (x ∷ xs) (suc n) (suc k) h = get-take xs n k (omega arith)
-
-pub get-drop : (xs : List Sector) (n k : ℕ) → slice_get (drop n xs) k ≡ slice_get xs (k + n)
-get-drop [] zero k = refl
-get-drop [] (suc n) k = refl
-get-drop (x ∷ xs) zero k = let e : k + 0 ≡ k = omega arith in rw e refl
-get-drop (x ∷ xs) (suc n) k = let e : k + suc n ≡ suc (k + n) = omega arith in rw e (get-drop xs n k)
-
-pub get-first : {X : Type 0} (xs ys : List X) (k : ℕ) → k < length xs → slice_get (xs ++ ys) k ≡ slice_get xs k
-get-first [] ys k h = absurd (omega arith)
-get-first (x ∷ xs) ys zero h = refl
-get-first (x ∷ xs) ys (suc k) h = get-first xs ys k (omega arith)
-
-pub get-second : {X : Type 0} (xs ys : List X) (k : ℕ) → length xs ≤ k → slice_get (xs ++ ys) k ≡ slice_get ys (k - length xs)
-get-second [] ys k h = let e : k - 0 ≡ k = omega arith in rw e refl
-get-second (x ∷ xs) ys zero h = absurd (omega arith)
-get-second (x ∷ xs) ys (suc k) h = let e : suc k - suc (length xs) ≡ k - length xs = omega arith in rw e (get-second xs ys k (omega arith))
-
--- the place behind a list
-pub get-push : {X : Type 0} (xs : List X) (x : X) → slice_get (xs ++ x ∷ []) (length xs) ≡ Some x
-get-push [] x = refl
-get-push (y ∷ xs) x = get-push xs x
-
-pub cases-sector : (o : Option Sector) → (o ≡ None) ⊎ ((v : Sector) × (o ≡ Some v))
-cases-sector None = inl refl
-cases-sector (Some v) = inr (v, refl)
+use Rattle.vd_mem.specs.StoreState.{over_at}
+use Rattle.vd_faults.proofs.Getting.{get-take, get-drop, get-first, get-second}
 
 -- a content has a sector exactly in its range
 pub sector-range : (first : ℕ) (content : List Sector) (s : ℕ) (v : Sector) → sector_in first content s ≡ Some v → (first ≤ s) × (s < first + length content)

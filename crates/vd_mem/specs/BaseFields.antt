@@ -1,8 +1,8 @@
 -- What the fields of a base in memory stand for.
 use Rattle.vd_mem.specs.declared.mem_base.MemBase.TheInside.{Inside}
-use Rattle.vd_mem.specs.BaseMemory.{BaseMemory}
+use Rattle.vd_mem.specs.BaseState.{MemBaseState}
 
-abbrev pub base_of : Inside → BaseMemory
+abbrev pub base_of : Inside → MemBaseState
 base_of b = record {
   content = b.content.items;
   rules = b.tickets.rules;

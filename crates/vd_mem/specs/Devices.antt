@@ -3,18 +3,18 @@ use Rattle.std.specs.Prelude.{length}
 use Rattle.vd_device.specs.declared.store.Store as store
 use Rattle.vd_device.specs.declared.base.Base as base
 use Rattle.vd_mem.specs.declared.fuse.Fuse.{Fuse}
-use Rattle.vd_mem.specs.Tapes.{events_of}
-use Rattle.vd_mem.specs.Memory.{Memory, Runs, disk_of}
+use Rattle.vd_faults.specs.Tapes.{events_of}
+use Rattle.vd_mem.specs.StoreState.{MemStoreState, StillRuns, disk_of}
 use Rattle.vd_mem.specs.Flying.{Flies}
-use Rattle.vd_mem.specs.BaseMemory.{BaseMemory, FliesBase}
+use Rattle.vd_mem.specs.BaseState.{MemBaseState, FliesBase}
 
 -- It tells its log always, and what its sectors hold until it stops.
-abbrev pub mem_store : store.Ghosts Memory
+abbrev pub mem_store : store.Ghosts MemStoreState
 mem_store = record {
-  tells = Runs;
+  tells = StillRuns;
   records = λ m. Unit {0};
   disk = disk_of;
-  flies = Flies;
+  flight = Flies;
   sectors = λ m. length m.start;
   depth = λ m. 128;
   faults = λ m. m.faults;
@@ -26,10 +26,10 @@ mem_store = record {
 -- what the store within tells
 abbrev pub fused : store.Ghosts Fuse
 fused = record {
-  tells = λ f. Runs f.inner;
+  tells = λ f. StillRuns f.inner;
   records = λ f. Unit {0};
   disk = λ f. disk_of f.inner;
-  flies = λ f. Flies f.inner;
+  flight = λ f. Flies f.inner;
   sectors = λ f. length f.inner.start;
   depth = λ f. 128;
   faults = λ f. f.inner.faults;
@@ -39,11 +39,11 @@ fused = record {
 }
 
 -- It tells what its sectors hold.
-abbrev pub mem_base : base.Ghosts BaseMemory
+abbrev pub mem_base : base.Ghosts MemBaseState
 mem_base = record {
   tells = λ b. Unit {0};
   content = λ b. b.content;
-  flies = FliesBase;
+  flight = FliesBase;
   sectors = λ b. length b.content;
   depth = λ b. 128;
   faults = λ b. b.faults;

@@ -5,7 +5,7 @@ use Rattle.vd_law.specs.Entries.{Entry}
 use Rattle.vd_device.specs.declared.ticket.Ticket.{Ticket}
 use Rattle.vd_device.specs.declared.ticket.Kind.{Kind}
 use Rattle.vd_device.specs.declared.ticket.Kind.TheVariants.{Read, Write, Flush}
-use Rattle.vd_mem.specs.Tapes.{content_at}
+use Rattle.vd_faults.specs.Tapes.{content_at}
 
 -- its Issue stands at its mark, and the content fits into the sectors
 abbrev pub CanCarryOut : Kind → Ticket → (log : List Entry) (held : List Sector) → Type 0

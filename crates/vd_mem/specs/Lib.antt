@@ -1,15 +1,8 @@
-pub mod Rules
-pub mod Tapes
-pub mod TapeFields
-pub mod Memory
+pub mod StoreState
 pub mod Flying
 pub mod Sound
-pub mod Traced
-pub mod Versions
-pub mod Steps
 pub mod StoreFields
 pub mod Ends
-pub mod BaseMemory
+pub mod BaseState
 pub mod BaseFields
-pub mod Choices
 pub mod Devices

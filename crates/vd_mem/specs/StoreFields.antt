@@ -1,11 +1,11 @@
 -- What the fields of a store in memory stand for, and what holds of them.
 use Rattle.std.specs.Prelude.{◌≡◌, length}
 use Rattle.vd_mem.specs.declared.mem_store.MemStore.TheInside.{Inside}
-use Rattle.vd_mem.specs.Memory.{Memory}
-use Rattle.vd_mem.specs.Sound.{IsSound}
-use Rattle.vd_mem.specs.Traced.{IsTraced}
+use Rattle.vd_mem.specs.StoreState.{MemStoreState}
+use Rattle.vd_mem.specs.Sound.{IsSoundMemStore}
+use Rattle.vd_faults.specs.Traced.{IsTracedTape}
 
-abbrev pub memory_of : Inside → Memory
+abbrev pub memory_of : Inside → MemStoreState
 memory_of m = record {
   start = m.start.items;
   held = m.held.items;
@@ -21,7 +21,7 @@ memory_of m = record {
 }
 
 pub record IsStore (m : Inside) : Type 0 where
-  pub sound : IsSound (memory_of m)
-  pub traced : IsTraced (length m.start.items) m.tape
+  pub sound : IsSoundMemStore (memory_of m)
+  pub traced : IsTracedTape (length m.start.items) m.tape
   -- the room for a crash was reserved
   pub scratch : length m.versions.items ≡ length m.start.items

@@ -1,111 +1,16 @@
-//! Crash images: in each sector one of the contents that a crash may leave there.
+//! What a crash leaves of a store in memory.
 
-ghost use Rattle.std.specs.Prelude.{◌≡◌, ℕ, ◌+◌, ◌≤◌, ◌<◌, ◌^◌, List, [], length, Some, None, slice_get, slice_set, if◌then◌else◌};
+ghost use Rattle.std.specs.Prelude.{◌≡◌, ℕ, [], length, Some, slice_get};
 ghost use Rattle.std.specs.List.{Contains};
 ghost use Rattle.vd_law.specs.declared.entry.Sector.{Sector as AnySector};
-ghost use Rattle.vd_law.specs.Entries.{past};
-ghost use Rattle.vd_law.specs.Contents.{sector_in, written, versions, may};
+ghost use Rattle.vd_law.specs.Contents.{may};
 ghost use Rattle.vd_device.specs.Disks.{IsClean};
-ghost use Rattle.vd_mem.specs.declared.versions.Versions as declared;
-ghost use Rattle.vd_mem.specs.Choices.{asked, answer_at, contents_at, IsChosen};
-ghost use Rattle.vd_mem.specs.Memory.{disk_of, fresh};
-ghost use Rattle.vd_mem.specs.Versions.{changed_if, one_more, counts_in, count_of, after_choice, laid, Lays};
-ghost use Rattle.vd_mem.specs.Traced.{IsTraced};
+ghost use Rattle.vd_faults.specs.Choices.{asked, contents_at, IsChosen};
+ghost use Rattle.vd_mem.specs.StoreState.{disk_of, fresh};
 
-use crate::chooser::Chooser;
 use crate::mem_store::MemStore;
-use crate::tape::Tape;
-use crate::versions::{Step, Versions, count, step_of};
+use vd_faults::{Chooser, leave_image};
 use vd_law::entry::Sector;
-
-/// The version that the chooser leaves in a sector; its writes are counted again from here.
-fn choice<C: Chooser>(versions: Versions, s: u64, chooser: &mut C) -> Versions
-    requires firm { versions.chosen ≤ versions.written }
-    requires short { versions.written < 2 ^ 63 }
-    ensures chosen { result ≡ after_choice versions (C.choice chooser.old s (count_of versions)).0 }
-    ensures chooser { chooser.new ≡ (C.choice chooser.old s (count_of versions)).1 }
-{
-    let later = versions.written - versions.chosen;
-    let number = chooser.choose(s, later + 1).min(later);
-    Versions {
-        written: 0,
-        chosen: versions.chosen + number,
-    }
-}
-
-/// Asks the chooser for each sector, in rising order.
-fn choose_all<C: Chooser>(all: &mut Vec<Versions>, chooser: &mut C)
-    requires firm { (s : ℕ) (v : declared.Versions) → slice_get all.old.items s ≡ Some v → (v.chosen ≤ v.written) × (v.written < 2 ^ 63) }
-    ensures size { length all.new.items ≡ length all.old.items }
-    ensures chooser { chooser.new ≡ asked C.choice chooser.old (counts_in all.old.items) (length all.old.items) }
-    ensures each { (s : ℕ) (v : declared.Versions) → slice_get all.old.items s ≡ Some v →
-        slice_get all.new.items s ≡ Some (after_choice v (answer_at C.choice chooser.old (counts_in all.old.items) s)) }
-{
-    for s in 0..all.len() {
-        all[s] = choice(all[s], s as u64, chooser);
-    }
-}
-
-/// Puts the k-th sector of a content into the image, if it is the chosen one.
-fn put(image: &mut Vec<Sector>, at: usize, content: &[Sector], k: usize, chosen: bool)
-    requires place { at < length image.old.items }
-    requires sector { k < length content.now }
-    ensures { (c : AnySector) → slice_get content.now k ≡ Some c → image.new.items ≡ (if chosen then slice_set image.old.items at c else image.old.items) }
-{
-    if chosen {
-        image[at] = content[k];
-    }
-}
-
-/// Counts one more write of these sectors, and puts it into the image where it is the chosen one.
-fn lay_content(image: &mut Vec<Sector>, all: &mut Vec<Versions>, first: u64, content: &[Sector])
-    requires versions { first + length content.now ≤ length all.old.items }
-    requires sectors { first + length content.now ≤ length image.old.items }
-    ensures size { length all.new.items ≡ length all.old.items }
-    ensures image_size { length image.new.items ≡ length image.old.items }
-    ensures versions { (s : ℕ) → slice_get all.new.items s ≡ changed_if one_more (sector_in first content.now s) (slice_get all.old.items s) }
-    ensures image { (s : ℕ) → slice_get image.new.items s ≡ laid (slice_get all.old.items s) (sector_in first content.now s) (slice_get image.old.items s) }
-{
-    let from = first as usize;
-    for k in 0..content.len() {
-        let versions = all[from + k].with_write();
-        all[from + k] = versions;
-        let chosen = versions.written == versions.chosen;
-        put(image, from + k, content, k, chosen);
-    }
-}
-
-/// Goes on with the event at this place.
-fn lay_event(image: &mut Vec<Sector>, all: &mut Vec<Versions>, tape: &Tape, i: u64)
-    requires place { i < length tape.now.log.entries }
-    requires short { length tape.now.log.entries < 2 ^ 64 }
-    requires traced { IsTraced (length all.old.items) tape.now }
-    requires same { length image.old.items ≡ length all.old.items }
-    ensures size { length all.new.items ≡ length all.old.items }
-    ensures image_size { length image.new.items ≡ length image.old.items }
-    ensures lays { (start : List AnySector) (target : ℕ → ℕ) → Lays start target tape.now.log.entries i all.old.items image.old.items all.new.items image.new.items }
-{
-    match step_of(tape.log().event(i)) {
-        Step::Begins { first, content } => lay_content(image, all, first, content),
-        Step::IsDone => {}
-        Step::Other => {}
-    }
-}
-
-/// Makes the image of the content at the start.
-fn lay_all(image: &mut Vec<Sector>, all: &mut Vec<Versions>, tape: &Tape)
-    requires traced { IsTraced (length all.old.items) tape.now }
-    requires same { length image.old.items ≡ length all.old.items }
-    ensures size { length all.new.items ≡ length all.old.items }
-    ensures image_size { length image.new.items ≡ length image.old.items }
-    ensures image { (target : ℕ → ℕ) → ((s : ℕ) (v : declared.Versions) → slice_get all.old.items s ≡ Some v → v ≡ record { written = 0; chosen = target s }) →
-        (s : ℕ) → s < length image.old.items → target s ≤ length (written (past tape.now.log.entries) s) →
-        slice_get image.new.items s ≡ slice_get (versions image.old.items (past tape.now.log.entries) s) (target s) }
-{
-    for i in 0..tape.len() {
-        lay_event(image, all, tape, i);
-    }
-}
 
 /// Makes the sectors the same as others, of which there are as many.
 fn copy(to: &mut Vec<Sector>, from: &Vec<Sector>)
@@ -134,9 +39,7 @@ impl MemStore {
             mut tickets,
             mut versions,
         } = self;
-        count(&mut versions, &tape);
-        choose_all(&mut versions, chooser);
-        lay_all(&mut start, &mut versions, &tape);
+        leave_image(&mut start, &mut versions, &tape, chooser);
         copy(&mut held, &start);
         tape.clear();
         tickets.clear();

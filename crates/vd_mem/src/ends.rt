@@ -4,16 +4,15 @@ ghost use Rattle.std.specs.Prelude.{◌≡◌, ◌+◌, ◌≤◌, ◌<◌, ◌^
 ghost use Rattle.vd_law.specs.Entries.{entry_of};
 ghost use Rattle.vd_law.specs.Logs.{IsShort};
 ghost use Rattle.vd_device.specs.declared.ticket.Kind.TheVariants.{Read, Write, Flush};
-ghost use Rattle.vd_device.specs.Tickets.{reads};
+ghost use Rattle.vd_device.specs.Tickets.{sectors_read};
 ghost use Rattle.vd_device.specs.Calls.{failed_entry as failure, settled_of};
 ghost use Rattle.vd_device.specs.declared.settled.Settled.TheVariants.{Done as IsDone, Failed as HasFailed};
-ghost use Rattle.vd_mem.specs.Tapes.{takes, taped, content_at};
-ghost use Rattle.vd_mem.specs.Memory.{carried_out, last_entry, last_held, is_done};
+ghost use Rattle.vd_faults.specs.Tapes.{takes, taped, content_at};
+ghost use Rattle.vd_mem.specs.StoreState.{carried_out, last_entry, last_held, is_done};
 ghost use Rattle.vd_mem.specs.Ends.{CanCarryOut};
 
-use crate::rule::Keep;
-use crate::tape::Tape;
 use vd_device::{Kind, Settled, Ticket, Waited};
+use vd_faults::{Keep, Tape};
 use vd_law::entry::{Answer, CallId, Event, Sector};
 
 /// The call of the ticket with this number, in a store's log.
@@ -59,7 +58,7 @@ fn carry_out(held: &mut Vec<Sector>, tape: &Tape, ticket: &Ticket)
 fn complete(held: &mut Vec<Sector>, tape: &mut Tape, ticket: &Ticket, out: &mut [Sector]) -> bool
     requires within { ticket.now.first + ticket.now.count ≤ length held.old.items }
     requires few { ticket.now.count ≤ 2048 }
-    requires room { length out.old ≡ reads ticket.now }
+    requires room { length out.old ≡ sectors_read ticket.now }
     requires placed { tape.old.over ≡ 0 → CanCarryOut ticket.now.kind ticket.now tape.old.log.entries held.old.items }
     ensures done { result ≡ takes tape.old.log tape.old.fuse tape.old.over (last_entry None ticket.now held.old.items) }
     ensures tape { tape.new ≡ taped (last_entry None ticket.now held.old.items) ticket.now.mark tape.old }
@@ -120,7 +119,7 @@ pub fn end(
 ) -> bool
     requires within { ticket.now.first + ticket.now.count ≤ length held.old.items }
     requires few { ticket.now.count ≤ 2048 }
-    requires room { length out.old ≡ reads ticket.now }
+    requires room { length out.old ≡ sectors_read ticket.now }
     requires placed { tape.old.over ≡ 0 → CanCarryOut ticket.now.kind ticket.now tape.old.log.entries held.old.items }
     ensures done { result ≡ is_done fault (takes tape.old.log tape.old.fuse tape.old.over (last_entry fault ticket.now held.old.items)) }
     ensures tape { tape.new ≡ taped (last_entry fault ticket.now held.old.items) ticket.now.mark tape.old }

@@ -2,13 +2,13 @@
 
 ghost use Rattle.std.specs.Prelude.{◌≡◌, Some, None, ◌<◌, [], ◌∷◌, length};
 ghost use Rattle.vd_device.specs.declared.ticket.Kind.TheVariants.{Read, Write, Flush};
-ghost use Rattle.vd_device.specs.Tickets.{IsRange, HasPlace, IsFree, IsInFlight, Puts, IsTicket, reads};
+ghost use Rattle.vd_device.specs.Tickets.{IsRange, HasPlace, IsFree, IsInFlight, Puts, IsTicket, sectors_read};
 ghost use Rattle.vd_device.specs.Disks.{HasStopped};
-ghost use Rattle.vd_device.specs.Calls.{Gives, Settles, IsCaused, IsUndone, asked_read, asked_flush, issued, settled_of, settle_entries};
-ghost use Rattle.vd_device.specs.Frames.{IsNext};
+ghost use Rattle.vd_device.specs.Calls.{Gives, Settles, IsCaused, IsUndone, ask_read_entry, ask_flush_entry, issue_entry, settled_of, settle_entries};
+ghost use Rattle.vd_device.specs.Frames.{IsNextTicket};
 ghost use Rattle.vd_device.specs.Stores.{StoreCountsStand, StoreTakes};
-ghost use Rattle.vd_mem.specs.Tapes.{events_of};
-ghost use Rattle.vd_mem.specs.Memory.{Runs, disk_of, submitted, waited, wait_answer, polled_once, settle_answer, is_late};
+ghost use Rattle.vd_faults.specs.Tapes.{events_of};
+ghost use Rattle.vd_mem.specs.StoreState.{StillRuns, disk_of, submitted, waited, wait_answer, polled_once, settle_answer, is_late};
 ghost use Rattle.vd_mem.specs.Flying.{Flies};
 ghost use Rattle.vd_mem.specs.Devices.{fused};
 
@@ -42,17 +42,17 @@ impl Fuse {
 
 impl Store for Fuse {
     ghost use Rattle.std.specs.Prelude.{length};
-    ghost use Rattle.vd_mem.specs.Tapes.{events_of};
-    ghost use Rattle.vd_mem.specs.Memory.{Runs, disk_of};
+    ghost use Rattle.vd_faults.specs.Tapes.{events_of};
+    ghost use Rattle.vd_mem.specs.StoreState.{StillRuns, disk_of};
     ghost use Rattle.vd_mem.specs.Flying.{Flies};
 
-    ghost tells = { λ f. Runs f.inner };
+    ghost tells = { λ f. StillRuns f.inner };
 
     ghost records = { λ f. Unit {0} };
 
     ghost disk = { λ f. disk_of f.inner };
 
-    ghost flies = { λ f. Flies f.inner };
+    ghost flight = { λ f. Flies f.inner };
 
     ghost sectors = { λ f. length f.inner.start };
 
@@ -94,12 +94,12 @@ impl Store for Fuse {
         requires range { IsRange (length self.old.inner.start) first (length content.now) }
         requires free { IsFree (Flies self.old.inner) 128 first (length content.now) }
         ensures ticket { IsTicket result Write first (length content.now) }
-        ensures next { IsNext fused.last result self.old self.new }
-        ensures rises { Runs self.new.inner → self.old.inner.last < result.number }
+        ensures next { IsNextTicket fused.last result self.old self.new }
+        ensures rises { StillRuns self.new.inner → self.old.inner.last < result.number }
         ensures flight { Puts result (Flies self.old.inner) (Flies self.new.inner) }
         ensures counts { StoreCountsStand fused self.old self.new }
-        ensures takes { StoreTakes fused (issued result content.now ∷ []) self.old self.new }
-        ensures after { self.new.inner ≡ submitted (issued result content.now) self.old.inner }
+        ensures takes { StoreTakes fused (issue_entry result content.now ∷ []) self.old self.new }
+        ensures after { self.new.inner ≡ submitted (issue_entry result content.now) self.old.inner }
     {
         self.inner.submit_write(first, content)
     }
@@ -108,12 +108,12 @@ impl Store for Fuse {
         requires range { IsRange (length self.old.inner.start) first count }
         requires free { IsFree (Flies self.old.inner) 128 first count }
         ensures ticket { IsTicket result Read first count }
-        ensures next { IsNext fused.last result self.old self.new }
-        ensures rises { Runs self.new.inner → self.old.inner.last < result.number }
+        ensures next { IsNextTicket fused.last result self.old self.new }
+        ensures rises { StillRuns self.new.inner → self.old.inner.last < result.number }
         ensures flight { Puts result (Flies self.old.inner) (Flies self.new.inner) }
         ensures counts { StoreCountsStand fused self.old self.new }
-        ensures takes { StoreTakes fused (asked_read result ∷ []) self.old self.new }
-        ensures after { self.new.inner ≡ submitted (asked_read result) self.old.inner }
+        ensures takes { StoreTakes fused (ask_read_entry result ∷ []) self.old self.new }
+        ensures after { self.new.inner ≡ submitted (ask_read_entry result) self.old.inner }
     {
         self.inner.submit_read(first, count)
     }
@@ -121,25 +121,25 @@ impl Store for Fuse {
     fn submit_flush(&mut self) -> Ticket
         requires place { HasPlace (Flies self.old.inner) 128 }
         ensures kind { result.kind ≡ Flush }
-        ensures next { IsNext fused.last result self.old self.new }
-        ensures rises { Runs self.new.inner → self.old.inner.last < result.number }
+        ensures next { IsNextTicket fused.last result self.old self.new }
+        ensures rises { StillRuns self.new.inner → self.old.inner.last < result.number }
         ensures flight { Puts result (Flies self.old.inner) (Flies self.new.inner) }
         ensures counts { StoreCountsStand fused self.old self.new }
-        ensures takes { StoreTakes fused (asked_flush result ∷ []) self.old self.new }
-        ensures after { self.new.inner ≡ submitted (asked_flush result) self.old.inner }
+        ensures takes { StoreTakes fused (ask_flush_entry result ∷ []) self.old self.new }
+        ensures after { self.new.inner ≡ submitted (ask_flush_entry result) self.old.inner }
     {
         self.inner.submit_flush()
     }
 
     fn settle(&mut self, ticket: Ticket, out: &mut [Sector]) -> Settled
         requires mine { IsInFlight (Flies self.old.inner) ticket }
-        requires room { length out.old ≡ reads ticket }
+        requires room { length out.old ≡ sectors_read ticket }
         ensures settles { Settles result ticket out.old out.new (Flies self.old.inner) (Flies self.new.inner) }
         ensures cause { IsCaused result self.old.inner.faults self.new.inner.faults self.old.inner.late self.new.inner.late }
         ensures last { self.new.inner.last ≡ self.old.inner.last }
         ensures counts { StoreCountsStand fused self.old self.new }
         ensures takes { StoreTakes fused (settle_entries result ticket out.new) self.old self.new }
-        ensures gives { Runs self.new.inner → Gives result ticket out.new self.new.inner.held }
+        ensures gives { StillRuns self.new.inner → Gives result ticket out.new self.new.inner.held }
         ensures undone { HasStopped (events_of self.new.inner.log self.new.inner.over) (disk_of self.new.inner) → IsUndone result }
         ensures answer { result ≡ settle_answer self.old.inner ticket }
         ensures after { self.new.inner ≡ polled_once ticket self.old.inner }
@@ -149,13 +149,13 @@ impl Store for Fuse {
 
     fn wait(&mut self, ticket: Ticket, out: &mut [Sector]) -> Waited
         requires mine { IsInFlight (Flies self.old.inner) ticket }
-        requires room { length out.old ≡ reads ticket }
+        requires room { length out.old ≡ sectors_read ticket }
         ensures settles { Settles (settled_of result) ticket out.old out.new (Flies self.old.inner) (Flies self.new.inner) }
         ensures cause { IsCaused (settled_of result) self.old.inner.faults self.new.inner.faults self.old.inner.late self.new.inner.late }
         ensures last { self.new.inner.last ≡ self.old.inner.last }
         ensures counts { StoreCountsStand fused self.old self.new }
         ensures takes { StoreTakes fused (settle_entries (settled_of result) ticket out.new) self.old self.new }
-        ensures gives { Runs self.new.inner → Gives (settled_of result) ticket out.new self.new.inner.held }
+        ensures gives { StillRuns self.new.inner → Gives (settled_of result) ticket out.new self.new.inner.held }
         ensures undone { HasStopped (events_of self.new.inner.log self.new.inner.over) (disk_of self.new.inner) → IsUndone (settled_of result) }
         ensures answer { settled_of result ≡ wait_answer self.old.inner ticket }
         ensures after { self.new.inner ≡ waited ticket self.old.inner }

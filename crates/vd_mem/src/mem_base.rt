@@ -3,18 +3,18 @@
 ghost use Rattle.std.specs.Prelude.{◌≡◌, ◌+◌, ◌-◌, ◌<◌, ◌≤◌, true, false, length, slice_range};
 ghost use Rattle.std.specs.List.{list_any};
 ghost use Rattle.vd_device.specs.declared.ticket.Kind.TheVariants.{Read};
-ghost use Rattle.vd_device.specs.Tickets.{IsRange, IsFree, IsInFlight, Puts, IsTicket, reads};
+ghost use Rattle.vd_device.specs.Tickets.{IsRange, IsFree, IsInFlight, Puts, IsTicket, sectors_read};
 ghost use Rattle.vd_device.specs.Calls.{Settles, Gives, IsCaused, settled_of};
-ghost use Rattle.vd_device.specs.Frames.{ContentStands, CountsStand, IsNext};
-ghost use Rattle.vd_mem.specs.Rules.{is_hit};
-ghost use Rattle.vd_mem.specs.BaseMemory.{FliesBase, mark_of, read_submitted, read_fails, read_waited, read_answer, read_late, read_polled, poll_answer};
+ghost use Rattle.vd_device.specs.Frames.{ContentStands, CountsStand, IsNextTicket};
+ghost use Rattle.vd_faults.specs.Rules.{is_hit};
+ghost use Rattle.vd_mem.specs.BaseState.{FliesBase, mark_of, read_submitted, read_fails, read_waited, read_answer, read_late, read_polled, poll_answer};
 ghost use Rattle.vd_mem.specs.Devices.{mem_base};
 
 use crate::ends::{answer, settled};
-use crate::rule::Rule;
 use crate::tickets::{DEPTH, Tickets};
 use std::marker::Model;
 use vd_device::{Base, Kind, Settled, Ticket, Waited};
+use vd_faults::Rule;
 use vd_law::entry::Sector;
 
 /// A base in memory that tells everything and fails by a list of rules. Of a rule on writes what is kept says nothing here.
@@ -25,9 +25,9 @@ pub struct MemBase {
 }
 
 impl Model for MemBase {
-    ghost use Rattle.vd_mem.specs.BaseMemory.{BaseMemory};
+    ghost use Rattle.vd_mem.specs.BaseState.{MemBaseState};
 
-    ghost Value = { BaseMemory };
+    ghost Value = { MemBaseState };
 
     ghost use Rattle.vd_mem.specs.BaseFields.{base_of};
 
@@ -83,13 +83,13 @@ impl MemBase {
 
 impl Base for MemBase {
     ghost use Rattle.std.specs.Prelude.{length};
-    ghost use Rattle.vd_mem.specs.BaseMemory.{FliesBase};
+    ghost use Rattle.vd_mem.specs.BaseState.{FliesBase};
 
     ghost tells = { λ b. Unit {0} };
 
     ghost content = { λ b. b.content };
 
-    ghost flies = { FliesBase };
+    ghost flight = { FliesBase };
 
     ghost sectors = { λ b. length b.content };
 
@@ -125,7 +125,7 @@ impl Base for MemBase {
         requires range { IsRange (length self.old.content) first count }
         requires free { IsFree (FliesBase self.old) 128 first count }
         ensures ticket { IsTicket result Read first count }
-        ensures next { IsNext mem_base.last result self.old self.new }
+        ensures next { IsNextTicket mem_base.last result self.old self.new }
         ensures flight { Puts result (FliesBase self.old) (FliesBase self.new) }
         ensures counts { CountsStand mem_base.sectors mem_base.depth mem_base.faults mem_base.late self.old self.new }
         ensures telling { ContentStands mem_base.tells mem_base.content self.old self.new }
@@ -140,7 +140,7 @@ impl Base for MemBase {
 
     fn settle(&mut self, ticket: Ticket, out: &mut [Sector]) -> Settled
         requires mine { IsInFlight (FliesBase self.old) ticket }
-        requires room { length out.old ≡ reads ticket }
+        requires room { length out.old ≡ sectors_read ticket }
         ensures settles { Settles result ticket out.old out.new (FliesBase self.old) (FliesBase self.new) }
         ensures cause { IsCaused result self.old.faults self.new.faults self.old.late self.new.late }
         ensures last { self.new.last ≡ self.old.last }
@@ -160,7 +160,7 @@ impl Base for MemBase {
 
     fn wait(&mut self, ticket: Ticket, out: &mut [Sector]) -> Waited
         requires mine { IsInFlight (FliesBase self.old) ticket }
-        requires room { length out.old ≡ reads ticket }
+        requires room { length out.old ≡ sectors_read ticket }
         ensures settles { Settles (settled_of result) ticket out.old out.new (FliesBase self.old) (FliesBase self.new) }
         ensures cause { IsCaused (settled_of result) self.old.faults self.new.faults self.old.late self.new.late }
         ensures last { self.new.last ≡ self.old.last }

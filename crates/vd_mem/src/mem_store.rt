@@ -2,16 +2,14 @@
 
 ghost use Rattle.std.specs.Prelude.{◌≡◌, ◌<◌, ◌≤◌, length, IfOk};
 ghost use Rattle.vd_device.specs.Disks.{IsClean};
-ghost use Rattle.vd_mem.specs.Memory.{disk_of, fresh};
+ghost use Rattle.vd_mem.specs.StoreState.{disk_of, fresh};
 
-use crate::rule::Rule;
-use crate::tape::Tape;
 use crate::tickets::Tickets;
-use crate::versions::Versions;
 use std::alloc::Global;
 use std::marker::Model;
+use vd_faults::{Rule, Tape, Versions};
 use vd_law::entry::{NoMemory, Room, Sector};
-use vd_law::log::Log;
+use vd_log::log::Log;
 
 /// A store in memory that tells everything and fails by a list of rules. A call whose event its log has no room for stops it.
 #[derive(Drop)]
@@ -24,9 +22,9 @@ pub struct MemStore {
 }
 
 impl Model for MemStore {
-    ghost use Rattle.vd_mem.specs.Memory.{Memory};
+    ghost use Rattle.vd_mem.specs.StoreState.{MemStoreState};
 
-    ghost Value = { Memory };
+    ghost Value = { MemStoreState };
 
     ghost use Rattle.vd_mem.specs.StoreFields.{memory_of, IsStore};
 

@@ -2,13 +2,13 @@
 
 ghost use Rattle.std.specs.Prelude.{◌≡◌, ◌<◌, [], ◌∷◌, length};
 ghost use Rattle.vd_device.specs.declared.ticket.Kind.TheVariants.{Read, Write, Flush};
-ghost use Rattle.vd_device.specs.Tickets.{IsRange, HasPlace, IsFree, IsInFlight, Puts, IsTicket, reads};
+ghost use Rattle.vd_device.specs.Tickets.{IsRange, HasPlace, IsFree, IsInFlight, Puts, IsTicket, sectors_read};
 ghost use Rattle.vd_device.specs.Disks.{HasStopped};
-ghost use Rattle.vd_device.specs.Calls.{Gives, Settles, IsCaused, IsUndone, asked_read, asked_flush, issued, settled_of, settle_entries};
-ghost use Rattle.vd_device.specs.Frames.{IsNext};
+ghost use Rattle.vd_device.specs.Calls.{Gives, Settles, IsCaused, IsUndone, ask_read_entry, ask_flush_entry, issue_entry, settled_of, settle_entries};
+ghost use Rattle.vd_device.specs.Frames.{IsNextTicket};
 ghost use Rattle.vd_device.specs.Stores.{StoreCountsStand, StoreTakes};
-ghost use Rattle.vd_mem.specs.Tapes.{events_of};
-ghost use Rattle.vd_mem.specs.Memory.{Runs, disk_of, submitted, waited, wait_answer, polled_once, settle_answer, is_late};
+ghost use Rattle.vd_faults.specs.Tapes.{events_of};
+ghost use Rattle.vd_mem.specs.StoreState.{StillRuns, disk_of, submitted, waited, wait_answer, polled_once, settle_answer, is_late};
 ghost use Rattle.vd_mem.specs.Flying.{Flies};
 ghost use Rattle.vd_mem.specs.Devices.{mem_store};
 
@@ -31,17 +31,17 @@ impl MemStore {
 
 impl Store for MemStore {
     ghost use Rattle.std.specs.Prelude.{length};
-    ghost use Rattle.vd_mem.specs.Tapes.{events_of};
-    ghost use Rattle.vd_mem.specs.Memory.{Runs, disk_of};
+    ghost use Rattle.vd_faults.specs.Tapes.{events_of};
+    ghost use Rattle.vd_mem.specs.StoreState.{StillRuns, disk_of};
     ghost use Rattle.vd_mem.specs.Flying.{Flies};
 
-    ghost tells = { Runs };
+    ghost tells = { StillRuns };
 
     ghost records = { λ m. Unit {0} };
 
     ghost disk = { disk_of };
 
-    ghost flies = { Flies };
+    ghost flight = { Flies };
 
     ghost sectors = { λ m. length m.start };
 
@@ -83,13 +83,13 @@ impl Store for MemStore {
         requires range { IsRange (length self.old.start) first (length content.now) }
         requires free { IsFree (Flies self.old) 128 first (length content.now) }
         ensures ticket { IsTicket result Write first (length content.now) }
-        ensures next { IsNext mem_store.last result self.old self.new }
-        ensures rises { Runs self.new → self.old.last < result.number }
+        ensures next { IsNextTicket mem_store.last result self.old self.new }
+        ensures rises { StillRuns self.new → self.old.last < result.number }
         ensures flight { Puts result (Flies self.old) (Flies self.new) }
         ensures counts { StoreCountsStand mem_store self.old self.new }
-        ensures takes { StoreTakes mem_store (issued result content.now ∷ []) self.old self.new }
+        ensures takes { StoreTakes mem_store (issue_entry result content.now ∷ []) self.old self.new }
         // the store's new state, whole
-        ensures after { self.new ≡ submitted (issued result content.now) self.old }
+        ensures after { self.new ≡ submitted (issue_entry result content.now) self.old }
     {
         let number = self.tickets.submit();
         let id = call_of(number);
@@ -102,12 +102,12 @@ impl Store for MemStore {
         requires range { IsRange (length self.old.start) first count }
         requires free { IsFree (Flies self.old) 128 first count }
         ensures ticket { IsTicket result Read first count }
-        ensures next { IsNext mem_store.last result self.old self.new }
-        ensures rises { Runs self.new → self.old.last < result.number }
+        ensures next { IsNextTicket mem_store.last result self.old self.new }
+        ensures rises { StillRuns self.new → self.old.last < result.number }
         ensures flight { Puts result (Flies self.old) (Flies self.new) }
         ensures counts { StoreCountsStand mem_store self.old self.new }
-        ensures takes { StoreTakes mem_store (asked_read result ∷ []) self.old self.new }
-        ensures after { self.new ≡ submitted (asked_read result) self.old }
+        ensures takes { StoreTakes mem_store (ask_read_entry result ∷ []) self.old self.new }
+        ensures after { self.new ≡ submitted (ask_read_entry result) self.old }
     {
         let number = self.tickets.submit();
         let id = call_of(number);
@@ -120,12 +120,12 @@ impl Store for MemStore {
     fn submit_flush(&mut self) -> Ticket
         requires place { HasPlace (Flies self.old) 128 }
         ensures kind { result.kind ≡ Flush }
-        ensures next { IsNext mem_store.last result self.old self.new }
-        ensures rises { Runs self.new → self.old.last < result.number }
+        ensures next { IsNextTicket mem_store.last result self.old self.new }
+        ensures rises { StillRuns self.new → self.old.last < result.number }
         ensures flight { Puts result (Flies self.old) (Flies self.new) }
         ensures counts { StoreCountsStand mem_store self.old self.new }
-        ensures takes { StoreTakes mem_store (asked_flush result ∷ []) self.old self.new }
-        ensures after { self.new ≡ submitted (asked_flush result) self.old }
+        ensures takes { StoreTakes mem_store (ask_flush_entry result ∷ []) self.old self.new }
+        ensures after { self.new ≡ submitted (ask_flush_entry result) self.old }
     {
         let number = self.tickets.submit();
         let id = call_of(number);
@@ -137,13 +137,13 @@ impl Store for MemStore {
 
     fn settle(&mut self, ticket: Ticket, out: &mut [Sector]) -> Settled
         requires mine { IsInFlight (Flies self.old) ticket }
-        requires room { length out.old ≡ reads ticket }
+        requires room { length out.old ≡ sectors_read ticket }
         ensures settles { Settles result ticket out.old out.new (Flies self.old) (Flies self.new) }
         ensures cause { IsCaused result self.old.faults self.new.faults self.old.late self.new.late }
         ensures last { self.new.last ≡ self.old.last }
         ensures counts { StoreCountsStand mem_store self.old self.new }
         ensures takes { StoreTakes mem_store (settle_entries result ticket out.new) self.old self.new }
-        ensures gives { Runs self.new → Gives result ticket out.new self.new.held }
+        ensures gives { StillRuns self.new → Gives result ticket out.new self.new.held }
         ensures undone { HasStopped (events_of self.new.log self.new.over) (disk_of self.new) → IsUndone result }
         // which answer, and the store's new state, whole
         ensures answer { result ≡ settle_answer self.old ticket }
@@ -158,13 +158,13 @@ impl Store for MemStore {
 
     fn wait(&mut self, ticket: Ticket, out: &mut [Sector]) -> Waited
         requires mine { IsInFlight (Flies self.old) ticket }
-        requires room { length out.old ≡ reads ticket }
+        requires room { length out.old ≡ sectors_read ticket }
         ensures settles { Settles (settled_of result) ticket out.old out.new (Flies self.old) (Flies self.new) }
         ensures cause { IsCaused (settled_of result) self.old.faults self.new.faults self.old.late self.new.late }
         ensures last { self.new.last ≡ self.old.last }
         ensures counts { StoreCountsStand mem_store self.old self.new }
         ensures takes { StoreTakes mem_store (settle_entries (settled_of result) ticket out.new) self.old self.new }
-        ensures gives { Runs self.new → Gives (settled_of result) ticket out.new self.new.held }
+        ensures gives { StillRuns self.new → Gives (settled_of result) ticket out.new self.new.held }
         ensures undone { HasStopped (events_of self.new.log self.new.over) (disk_of self.new) → IsUndone (settled_of result) }
         // which answer, and the store's new state, whole
         ensures answer { settled_of result ≡ wait_answer self.old ticket }

@@ -8,11 +8,12 @@ ghost use Rattle.vd_device.specs.declared.ticket.Kind.TheVariants.{Read};
 ghost use Rattle.vd_device.specs.Tickets.{IsTicket};
 ghost use Rattle.vd_mem.specs.Flying.{Flies};
 
-use crate::{ByList, Chooser, Fuse, Keep, Kept, Lost, MemBase, MemStore, Mixed, Rule};
+use crate::{Fuse, MemBase, MemStore};
 use std::alloc::Global;
 use std::process::Abort;
 use std::test::Fail;
 use vd_device::{Base, Settled, Store, Ticket, flush_now, read_base, read_now, write_now};
+use vd_faults::{ByList, Chooser, Keep, Kept, Lost, Mixed, Rule};
 use vd_law::entry::{Room, Sector};
 
 fn place(letter: u8) -> u64 {

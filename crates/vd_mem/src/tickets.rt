@@ -3,11 +3,10 @@
 ghost use Rattle.std.specs.Prelude.{◌≡◌, ◌+◌, ◌-◌, ◌^◌, ◌<◌, ◌≤◌, [], map, if◌then◌else◌};
 ghost use Rattle.std.specs.List.{filter};
 ghost use Rattle.vd_device.specs.Calls.{next_number};
-ghost use Rattle.vd_mem.specs.Rules.{polled, outlives};
+ghost use Rattle.vd_faults.specs.Rules.{polled, outlives};
 
-use crate::rule::Rule;
-use crate::rules::Rules;
 use vd_device::Ticket;
+use vd_faults::{Rule, Rules};
 
 /// How many tickets may be in flight on a device in memory.
 pub const DEPTH: u64 = 128;

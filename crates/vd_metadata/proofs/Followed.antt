@@ -2,8 +2,8 @@
 use Rattle.std.proofs.Common.{◌≡◌, ◌≢◌, ◌⊎◌, inl, inr, ℕ, List, sym, ap, ◌∙◌, Option, Some, None, slice_get, slice_set}
 use Rattle.std.specs.Prelude.{◌↔◌}
 use Rattle.vd_bits.proofs.SetLaws.{set_other}
-use Rattle.vd_meta.specs.declared.stage.Stage.TheVariants.{Rest, Broken}
-use Rattle.vd_meta.specs.Keeping.{Keeping}
+use Rattle.vd_keeper.specs.declared.stage.Stage.TheVariants.{Rest, Broken}
+use Rattle.vd_keeper.specs.Keeping.{KeeperState}
 use Rattle.vd_passes.specs.declared.pass.Pass.{Pass}
 use Rattle.vd_passes.specs.declared.pass.Phase.TheVariants.{Asked, Flushing, Ready}
 use Rattle.vd_metadata.specs.Attending.{IsAtStage}
@@ -13,11 +13,11 @@ use Rattle.vd_metadata.proofs.Members.{at-set, set-here, same-member}
 abbrev pub AreFlushing : List Pass → Option ℕ → Type 0
 AreFlushing passes flusher = (i : ℕ) (p : Pass) → slice_get passes i ≡ Some p → (p.phase ≡ Flushing) ↔ (flusher ≡ Some i)
 
-abbrev pub IsWorking : List Pass → Option ℕ → Keeping → Type 0
+abbrev pub IsWorking : List Pass → Option ℕ → KeeperState → Type 0
 IsWorking passes flusher k = (i : ℕ) → flusher ≡ Some i → (p : Pass) × (slice_get passes i ≡ Some p) × IsAtStage k.stage k p
 
 -- and the keeper is at its stage
-pub record IsFollowed (passes : List Pass) (flusher : Option ℕ) (k : Keeping) : Type 0 where
+pub record IsFollowed (passes : List Pass) (flusher : Option ℕ) (k : KeeperState) : Type 0 where
   pub flushing : AreFlushing passes flusher
   pub resting : flusher ≡ None → (k.stage ≡ Rest) ⊎ (k.stage ≡ Broken)
   pub working : IsWorking passes flusher k
@@ -44,7 +44,7 @@ about-other flusher i j about ne is = elim about [
   | inr some ↦ absurd (ne (same-number i j (sym some ∙ is)))
 ]
 
-module _ (passes : List Pass) (i : ℕ) (old new : Pass) (flusher : Option ℕ) (k : Keeping) (there : slice_get passes i ≡ Some old) (was : AreFlushing passes flusher) where
+module _ (passes : List Pass) (i : ℕ) (old new : Pass) (flusher : Option ℕ) (k : KeeperState) (there : slice_get passes i ≡ Some old) (was : AreFlushing passes flusher) where
   -- the pass flushes now, or still
   pub goes-on : IsAbout flusher i → new.phase ≡ Flushing → IsAtStage k.stage k new → IsFollowed (slice_set passes i new) (Some i) k
   goes-on about flushing at = record {

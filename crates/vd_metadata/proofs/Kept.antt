@@ -1,20 +1,20 @@
 -- A keeper that has put.
 use Rattle.std.proofs.Common.{◌≡◌, ◌⊎◌, inl, inr, ℕ, ◌+◌, ◌-◌, ◌<◌, ◌≤◌, true, false, length, drop, sym, ap, ◌∙◌, arith, length-take, length-drop, length-set}
 use Rattle.std.specs.Prelude.{min}
-use Rattle.vd_table.specs.Tables.{Given}
-use Rattle.vd_meta.specs.declared.stage.Stage.TheVariants.{Rest, Puts, Broken}
-use Rattle.vd_meta.specs.declared.stage.Put.{Put}
-use Rattle.vd_meta.specs.Keeping.{Keeping}
-use Rattle.vd_meta.specs.Entries.{chunks_with, next_chunks}
-use Rattle.vd_meta.specs.Flushes.{IsKeeping, records_for}
-use Rattle.vd_meta.specs.Moves.{IsDue, Puts_next, Next_record, Next_page, Next_header}
+use Rattle.vd_table.specs.Tables.{TableState}
+use Rattle.vd_keeper.specs.declared.stage.Stage.TheVariants.{Rest, Puts, Broken}
+use Rattle.vd_keeper.specs.declared.stage.Put.{Put}
+use Rattle.vd_keeper.specs.Keeping.{KeeperState}
+use Rattle.vd_keeper.specs.Entries.{chunks_with, next_chunks}
+use Rattle.vd_keeper.specs.Flushes.{IsKeeping, records_for}
+use Rattle.vd_keeper.specs.Moves.{HasPutDue, IsNextPut, Next_record, Next_page, Next_header}
 use Rattle.vd_metadata.proofs.Places.{puts-possible}
 
 fewer : (left : ℕ) → 0 < left → records_for (left - min 24 left) + 1 ≤ records_for left
 fewer left some = omega arith
 
 -- after a record a record fewer is to be put
-pub record-less : (k : Keeping) → k.logged < length (chunks_with k.header k.snapshot)
+pub record-less : (k : KeeperState) → k.logged < length (chunks_with k.header k.snapshot)
     → records_for (length (chunks_with k.header k.snapshot) - (k.logged + length (next_chunks k))) + 1 ≤ records_for (length (chunks_with k.header k.snapshot) - k.logged)
 record-less k more =
     let n : ℕ = length (chunks_with k.header k.snapshot) in
@@ -27,10 +27,10 @@ record-less k more =
 puts-no-rest : (Puts ≡ Rest) ⊎ (Puts ≡ Broken) → ⊥
 puts-no-rest e = elim e [ inl rest ↦ absurd cc | inr broken ↦ absurd cc ]
 
-no-rest : (k : Keeping) → k.stage ≡ Puts → (k.stage ≡ Rest) ⊎ (k.stage ≡ Broken) → ⊥
+no-rest : (k : KeeperState) → k.stage ≡ Puts → (k.stage ≡ Rest) ⊎ (k.stage ≡ Broken) → ⊥
 no-rest k stage e = puts-no-rest (elim e [ inl rest ↦ inl (sym stage ∙ rest) | inr broken ↦ inr (sym stage ∙ broken) ])
 
-pub put-kept : (table : Given) (k k' : Keeping) (put : Put) → IsKeeping k → k.stage ≡ Puts → IsDue k → Puts_next table k put k' → IsKeeping k'
+pub put-kept : (table : TableState) (k k' : KeeperState) (put : Put) → IsKeeping k → k.stage ≡ Puts → HasPutDue k → IsNextPut table k put k' → IsKeeping k'
 put-kept table k k' put kept stage due (Next_record sector way bytes) =
     let possible = puts-possible k kept stage in
     let less = record-less k (due.records way) in

@@ -1,16 +1,16 @@
 -- Where a put lies in the store.
 use Rattle.std.proofs.Common.{◌≡◌, ℕ, ◌+◌, ◌-◌, ◌*◌, ◌/◌, ◌<◌, ◌≤◌, length, sym, ◌∙◌, arith}
 use Rattle.vd_format.specs.Layouts.{chunks_of, sectors_of, map_start, slots_start, storage_start}
-use Rattle.vd_table.specs.Tables.{Given}
-use Rattle.vd_meta.specs.declared.stage.Stage.TheVariants.{Rest, Puts, Broken}
-use Rattle.vd_meta.specs.declared.stage.Put.{Put}
-use Rattle.vd_meta.specs.Keeping.{Keeping}
-use Rattle.vd_meta.specs.Entries.{chunks_with}
-use Rattle.vd_meta.specs.Flushes.{IsKeeping, IsPossible, records_for}
-use Rattle.vd_meta.specs.Moves.{IsDue, Puts_next, Next_record, Next_page, Next_header}
-use Rattle.vd_meta.proofs.Flushed.{is-possible}
-use Rattle.vd_meta.proofs.Moving.{lowest-inside}
-use Rattle.vd_metadata.specs.Flushing.{put_at}
+use Rattle.vd_table.specs.Tables.{TableState}
+use Rattle.vd_keeper.specs.declared.stage.Stage.TheVariants.{Rest, Puts, Broken}
+use Rattle.vd_keeper.specs.declared.stage.Put.{Put}
+use Rattle.vd_keeper.specs.Keeping.{KeeperState}
+use Rattle.vd_keeper.specs.Entries.{chunks_with}
+use Rattle.vd_keeper.specs.Flushes.{IsKeeping, IsPossible, records_for}
+use Rattle.vd_keeper.specs.Moves.{HasPutDue, IsNextPut, Next_record, Next_page, Next_header}
+use Rattle.vd_keeper.proofs.Flushed.{is-possible}
+use Rattle.vd_keeper.proofs.Moving.{lowest-inside}
+use Rattle.vd_metadata.specs.Flushing.{place_of_put}
 
 puts-rest : Puts ≡ Rest → ⊥
 puts-rest e = absurd cc
@@ -18,7 +18,7 @@ puts-rest e = absurd cc
 puts-broken : Puts ≡ Broken → ⊥
 puts-broken e = absurd cc
 
-pub puts-possible : (k : Keeping) → IsKeeping k → k.stage ≡ Puts → IsPossible k
+pub puts-possible : (k : KeeperState) → IsKeeping k → k.stage ≡ Puts → IsPossible k
 puts-possible k kept stage = is-possible k kept (λ r. puts-rest (sym stage ∙ r)) (λ b. puts-broken (sym stage ∙ b))
 
 -- the map has a sector for each page
@@ -29,7 +29,7 @@ slot-inside : (start slots next left : ℕ) → next + records_for left ≤ slot
 slot-inside start slots next left fits some = omega arith
 
 -- a put is of one sector below the storage
-pub put-inside : (table : Given) (k k' : Keeping) (put : Put) → IsKeeping k → k.stage ≡ Puts → IsDue k → Puts_next table k put k' → put_at k.header put < storage_start k.header
+pub put-inside : (table : TableState) (k k' : KeeperState) (put : Put) → IsKeeping k → k.stage ≡ Puts → HasPutDue k → IsNextPut table k put k' → place_of_put k.header put < storage_start k.header
 put-inside table k k' put kept stage due (Next_record sector way bytes) =
     let more = due.records way in
     slot-inside (slots_start k.header) k.header.slots k.next (length (chunks_with k.header k.snapshot) - k.logged) ((puts-possible k kept stage).slots way) (omega (arith, more))

@@ -6,21 +6,21 @@ ghost use Rattle.vd_device.specs.Stores.{KeepsStore};
 ghost use Rattle.vd_device.specs.Tickets.{HasPlace, IsFree};
 ghost use Rattle.vd_format.specs.Headers.{IsValid};
 ghost use Rattle.vd_format.specs.Layouts.{storage_start};
-ghost use Rattle.vd_meta.specs.declared.stage.Stage.TheVariants.{Rest, Puts, Seals, Broken};
-ghost use Rattle.vd_meta.specs.declared.stage.Route.TheVariants.{Recycle};
-ghost use Rattle.vd_meta.specs.Entries.{HasStorage};
-ghost use Rattle.vd_meta.specs.Moves.{IsDue, is_settling};
+ghost use Rattle.vd_keeper.specs.declared.stage.Stage.TheVariants.{Rest, Puts, Seals, Broken};
+ghost use Rattle.vd_keeper.specs.declared.stage.Route.TheVariants.{Recycle};
+ghost use Rattle.vd_keeper.specs.Entries.{HasStorage};
+ghost use Rattle.vd_keeper.specs.Moves.{HasPutDue, is_settling};
 ghost use Rattle.vd_passes.specs.declared.shape.Shape.{Shape};
 ghost use Rattle.vd_passes.specs.declared.pass.Phase.TheVariants.{Asked, Flushing};
 ghost use Rattle.vd_passes.specs.Steps.{IsAt};
-ghost use Rattle.vd_passes.specs.Causes.{OfStore, IsNumbered};
-ghost use Rattle.vd_metadata.specs.Flushing.{put_at, put_sector, meta_state, BeginsFlush, IsWornOut, PutsNext, SyncsPuts, SettlesMeta, SealsFlush, IsWaitingMeta, outcome_of};
+ghost use Rattle.vd_passes.specs.Causes.{OfStore, HasNextTicket};
+ghost use Rattle.vd_metadata.specs.Flushing.{place_of_put, put_sector, meta_state, BeginsFlush, IsWornOut, PutsNext, SyncsPuts, SettlesMeta, SealsFlush, IsWaitingMeta, outcome_of};
 
 use crate::outcome::Outcome;
 use vd_device::{Settled, Store};
 use vd_header::{Header, layout_of};
+use vd_keeper::{Keeper, Put, Route};
 use vd_law::entry::Sector;
-use vd_meta::{Keeper, Put, Route};
 use vd_passes::pass::{Fault, Pass};
 use vd_table::table::Table;
 
@@ -36,10 +36,10 @@ pub fn begin<S: Store>(
     requires asked { IsAt passes.old.items pass (λ p. (p.phase ≡ Asked) × (p.flush ≡ true) × (p.ticket ≡ None)) }
     requires rest { (keeper.old.stage ≡ Rest) ⊎ (keeper.old.stage ≡ Broken) }
     requires tracked { (t : ℕ) → route ≡ Recycle t → t ≤ keeper.old.header.tracked }
-    requires place { HasPlace (S.flies store.old) (S.depth store.old) }
+    requires place { HasPlace (S.flight store.old) (S.depth store.old) }
     ensures begun { result ≡ true → (shape : Shape) → BeginsFlush S.Store route shape pass (meta_state keeper.old passes.old.items)
         (meta_state keeper.new passes.new.items) store.old store.new }
-    ensures number { result ≡ true → IsAt passes.new.items pass (IsNumbered OfStore (S.last store.old) (S.last store.new)) }
+    ensures number { result ≡ true → IsAt passes.new.items pass (HasNextTicket OfStore (S.last store.old) (S.last store.new)) }
     ensures worn { result ≡ false → IsWornOut route pass keeper.old passes.old.items passes.new.items }
     ensures unchanged { result ≡ false → (store.new ≡ store.old) × (keeper.new ≡ keeper.old) }
     ensures keeps { result ≡ true → KeepsStore S.Store store.old store.new }
@@ -65,12 +65,12 @@ pub fn put<S: Store>(
     requires under_way { IsAt passes.old.items pass (λ p. (p.phase ≡ Flushing) × (p.flush ≡ true) × (p.ticket ≡ None)) }
     requires stage { keeper.old.stage ≡ Puts }
     requires storage { HasStorage table.now keeper.old }
-    requires due { IsDue keeper.old }
+    requires due { HasPutDue keeper.old }
     requires inside { storage_start keeper.old.header ≤ S.sectors store.old }
-    requires free { (first : ℕ) → first + 1 ≤ storage_start keeper.old.header → IsFree (S.flies store.old) (S.depth store.old) first 1 }
+    requires free { (first : ℕ) → first + 1 ≤ storage_start keeper.old.header → IsFree (S.flight store.old) (S.depth store.old) first 1 }
     ensures puts { (shape : Shape) → shape.storage_at ≡ storage_start keeper.old.header → PutsNext S.Store table.now shape pass
         (meta_state keeper.old passes.old.items) (meta_state keeper.new passes.new.items) store.old store.new }
-    ensures number { IsAt passes.new.items pass (IsNumbered OfStore (S.last store.old) (S.last store.new)) }
+    ensures number { IsAt passes.new.items pass (HasNextTicket OfStore (S.last store.old) (S.last store.new)) }
     ensures keeps { KeepsStore S.Store store.old store.new }
 {
     let header = keeper.header();
@@ -83,8 +83,8 @@ pub fn put<S: Store>(
 /// The sector of the store that is written, and its content.
 fn placed(header: &Header, put: Put) -> (u64, Sector)
     requires valid { IsValid header.now }
-    requires inside { put_at header.now put < storage_start header.now }
-    ensures at { result.0 ≡ put_at header.now put }
+    requires inside { place_of_put header.now put < storage_start header.now }
+    ensures at { result.0 ≡ place_of_put header.now put }
     ensures sector { result.1 ≡ put_sector put }
 {
     let layout = layout_of(header);
@@ -98,9 +98,9 @@ fn placed(header: &Header, put: Put) -> (u64, Sector)
 /// Submits the flush of what was put.
 pub fn sync<S: Store>(store: &mut S, passes: &mut Vec<Pass>, pass: usize)
     requires under_way { IsAt passes.old.items pass (λ p. (p.phase ≡ Flushing) × (p.flush ≡ true) × (p.ticket ≡ None)) }
-    requires place { HasPlace (S.flies store.old) (S.depth store.old) }
+    requires place { HasPlace (S.flight store.old) (S.depth store.old) }
     ensures syncs { (shape : Shape) → SyncsPuts S.Store shape pass passes.old.items passes.new.items store.old store.new }
-    ensures number { IsAt passes.new.items pass (IsNumbered OfStore (S.last store.old) (S.last store.new)) }
+    ensures number { IsAt passes.new.items pass (HasNextTicket OfStore (S.last store.old) (S.last store.new)) }
     ensures keeps { KeepsStore S.Store store.old store.new }
 {
     // Sectors of the map are durable before the header that counts on them, and records and the header before the seal.
@@ -116,7 +116,7 @@ pub fn settle<S: Store>(
     passes: &mut Vec<Pass>,
     pass: usize,
 ) -> Outcome
-    requires waiting { IsAt passes.old.items pass (λ p. (p.phase ≡ Flushing) × IsWaitingMeta (S.flies store.old) p) }
+    requires waiting { IsAt passes.old.items pass (λ p. (p.phase ≡ Flushing) × IsWaitingMeta (S.flight store.old) p) }
     requires stage { is_settling keeper.old.stage ≡ true }
     ensures settled { (answer : AnySettled) × (result ≡ outcome_of answer) × SettlesMeta S.Store answer pass
         (meta_state keeper.old passes.old.items) (meta_state keeper.new passes.new.items) store.old store.new }

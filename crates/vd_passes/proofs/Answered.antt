@@ -11,12 +11,11 @@ use Rattle.vd_law.specs.declared.entry.Sector.{Sector}
 use Rattle.vd_law.specs.declared.entry.Answer.{Answer}
 use Rattle.vd_law.specs.declared.entry.Answer.TheVariants.{Full}
 use Rattle.vd_law.specs.Entries.{Asked, Entry, Ask, Issue, Done, Broke, Seen, Reply, call_of, same_call, Past, nothing, ◌▸◌, past}
-use Rattle.vd_law.specs.Calls.{Progress, unasked, progress, last_call}
+use Rattle.vd_law.specs.Calls.{Progress, no_progress, progress, last_call}
 use Rattle.vd_law.specs.Rules.{Each, IsInTurn, IsUnderWay, IsRegular}
 use Rattle.vd_law.proofs.Opening.{same_call-is, case}
 use Rattle.vd_law.proofs.OpenLaws.{progress-other}
 use Rattle.vd_law.proofs.CallLaws.{fresh-call}
-use Rattle.vd_reading.specs.Background.{zero_sector}
 use Rattle.vd_device.specs.declared.ticket.Ticket.{Ticket}
 use Rattle.vd_passes.specs.declared.shape.Shape.{Shape}
 use Rattle.vd_passes.specs.declared.pass.Pass.{Pass}
@@ -26,13 +25,14 @@ use Rattle.vd_device.specs.declared.settled.Settled.TheVariants as settled
 use Rattle.vd_device.specs.Disks.{Disk}
 use Rattle.vd_passes.specs.declared.pass.Fault.{Fault}
 use Rattle.vd_passes.specs.declared.pass.Fault.TheVariants as fault
-use Rattle.vd_passes.specs.Passes.{call_of as own, spent, after_ask, after_reply, after_issue, after_piece, after_fault}
+use Rattle.vd_passes.specs.Passes.{call_id as own, after_spending, after_ask, after_reply, after_issue, after_piece, after_fault}
 use Rattle.vd_passes.specs.Steps.{Asks, AsksFull, Replies, Issues, EndsWrite, WriteSettled, Sees, EndsRead, LookSettled, BaseLookSettled}
 use Rattle.vd_passes.specs.Standings.{standing}
 use Rattle.vd_passes.specs.Coherent.{IsCoherent}
 use Rattle.vd_passes.specs.Causes.{AreOfPasses}
 use Rattle.vd_passes.proofs.Lists.{length-set'}
 use Rattle.vd_passes.proofs.Tracks.{same-false}
+use Rattle.vd_format.specs.Background.{zero_sector}
 
 abbrev IsAsked : Past → CallId → Type 0
 IsAsked p id = IsSome (progress p id).asked
@@ -40,11 +40,11 @@ IsAsked p id = IsSome (progress p id).asked
 abbrev HasReply : Past → CallId → Type 0
 HasReply p id = (progress p id).answered ≡ true
 
-not-asked : (p : Past) (id : CallId) → progress p id ≡ unasked → IsAsked p id → ⊥
-not-asked p id none asked = let impossible : IsSome unasked.asked = subst (λ (c : Progress). IsSome c.asked) none asked in let told : false ≡ true = impossible in cc
+not-asked : (p : Past) (id : CallId) → progress p id ≡ no_progress → IsAsked p id → ⊥
+not-asked p id none asked = let impossible : IsSome no_progress.asked = subst (λ (c : Progress). IsSome c.asked) none asked in let told : false ≡ true = impossible in cc
 
 -- a call that is under way is none of those that have no entry
-other-asked : (p : Past) (c id : CallId) → IsUnderWay (progress p c) → progress p id ≡ unasked → same_call c id ≡ false
+other-asked : (p : Past) (c id : CallId) → IsUnderWay (progress p c) → progress p id ≡ no_progress → same_call c id ≡ false
 other-asked p c id under_way none = elim (case (same_call c id)) [
   | inl same ↦ absurd (not-asked p id none (subst (λ (d : CallId). IsAsked p d) (same_call-is c id same) under_way.asked))
   | inr other ↦ other
@@ -57,7 +57,7 @@ apart-pass : (c id : CallId) → (c.pass ≡ id.pass → ⊥) → same_call c id
 apart-pass c id ne = same-false c id (λ same_pass same_number. ne same_pass)
 
 -- No call has the number 0.
-zero-call : (size : ℕ) (p : Past) → Each (IsInTurn size) p → (id : CallId) → id.call ≡ 0 → progress p id ≡ unasked
+zero-call : (size : ℕ) (p : Past) → Each (IsInTurn size) p → (id : CallId) → id.call ≡ 0 → progress p id ≡ no_progress
 zero-call size nothing each id zero = refl
 zero-call size (p ▸ Ask c request) each id zero =
     progress-other p (Ask c request) id (apart-call c id (λ same. let number = each.1.0.number in absurd (omega (arith, same, number, zero)))) ∙ zero-call size p each.0 id zero
@@ -157,8 +157,8 @@ pub standing-past : {passes : List Pass} {history : List Entry} → AreOfPasses 
 unfolding standing
 standing-past {passes} {history} are i past_it = none-of (length passes) (past history) (each-entry (OfFirst (length passes)) history nothing tt are.each) i past_it
 
-module _ {shape : Shape} {fresh : List Bool} {places : ℕ → Option ℕ} {passes : List Pass} {history : List Entry} {sectors depth base_sectors base_depth : ℕ} {flies base_flies : List Ticket → Type 0}
-    (co : IsCoherent shape fresh places passes history sectors depth base_sectors base_depth flies base_flies) (idle : (i : ℕ) (p : Pass) → slice_get passes i ≡ Some p → p.phase ≡ Idle) where
+module _ {shape : Shape} {fresh : List Bool} {places : ℕ → Option ℕ} {passes : List Pass} {history : List Entry} {sectors depth base_sectors base_depth : ℕ} {flight base_flight : List Ticket → Type 0}
+    (co : IsCoherent shape fresh places passes history sectors depth base_sectors base_depth flight base_flight) (idle : (i : ℕ) (p : Pass) → slice_get passes i ≡ Some p → p.phase ≡ Idle) where
   -- the last call of each pass has its Reply
   pub idle-answered : (i : ℕ) → i < length passes → 0 < (standing history i).call → (standing history i).progress.answered ≡ true
   idle-answered i within some = elim (slice_get_cases passes i).1 [
@@ -214,27 +214,27 @@ pub replies-of-passes : {answer : Answer} {i : ℕ} {passes passes' : List Pass}
 replies-of-passes {answer} {i} {passes} {passes'} step =
     more-of-passes (Reply (own i step.pass) answer) (slice_get_within passes i step.pass step.there) (many-set passes passes' i (after_reply step.pass) step.after) step.event
 
-pub issues-of-passes : {shape : Shape} {fresh : List Bool} {content : List Sector} {i : ℕ} {passes passes' : List Pass} {history history' : List Entry} {flies flies' : List Ticket → Type 0} {tells tells' : Type 0} {disk disk' : Disk} {last last' : ℕ}
-    → Issues shape fresh content i passes passes' history history' flies flies' tells tells' disk disk' last last' → AreOfPasses passes history → AreOfPasses passes' history'
+pub issues-of-passes : {shape : Shape} {fresh : List Bool} {content : List Sector} {i : ℕ} {passes passes' : List Pass} {history history' : List Entry} {flight flight' : List Ticket → Type 0} {tells tells' : Type 0} {disk disk' : Disk} {last last' : ℕ}
+    → Issues shape fresh content i passes passes' history history' flight flight' tells tells' disk disk' last last' → AreOfPasses passes history → AreOfPasses passes' history'
 issues-of-passes {content = content} {i = i} {passes = passes} {passes' = passes'} step =
     let p = step.pass in
     more-of-passes (Issue (own i p) (p.first + p.done) (slice_range content p.done (p.done + p.piece))) (slice_get_within passes i p step.there) (many-set passes passes' i (after_issue p step.ticket step.buffer) step.after) step.event
 
 ends-write : (answer : Settled) (p : Pass) (ticket : Ticket) (i : ℕ) (fresh fresh' : List Bool) (passes passes' : List Pass) (history history' : List Entry) → i < length passes
     → EndsWrite answer p ticket i fresh fresh' passes passes' history history' → AreOfPasses passes history → AreOfPasses passes' history'
-ends-write settled.Done p ticket i fresh fresh' passes passes' history history' within ends are = more-of-passes (Done (own i p)) within (many-set passes passes' i (spent 1 0 (after_piece p)) ends.1) ends.2 are
+ends-write settled.Done p ticket i fresh fresh' passes passes' history history' within ends are = more-of-passes (Done (own i p)) within (many-set passes passes' i (after_spending 1 0 (after_piece p)) ends.1) ends.2 are
 ends-write (settled.NotYet same) p ticket i fresh fresh' passes passes' history history' within ends are = rw (ends.1, ends.2) are
 ends-write (settled.Failed number) p ticket i fresh fresh' passes passes' history history' within ends are =
-    more-of-passes (Broke (own i p)) within (many-set passes passes' i (spent 1 0 (after_fault (fault.Store ticket.number) p)) ends.1) ends.2 are
+    more-of-passes (Broke (own i p)) within (many-set passes passes' i (after_spending 1 0 (after_fault (fault.Store ticket.number) p)) ends.1) ends.2 are
 
-pub write_settled-of-passes : {answer : Settled} {i : ℕ} {fresh fresh' : List Bool} {passes passes' : List Pass} {history history' : List Entry} {flies flies' : List Ticket → Type 0} {tells tells' : Type 0} {disk disk' : Disk} {last last' : ℕ}
-    → WriteSettled answer i fresh fresh' passes passes' history history' flies flies' tells tells' disk disk' last last' → AreOfPasses passes history → AreOfPasses passes' history'
+pub write_settled-of-passes : {answer : Settled} {i : ℕ} {fresh fresh' : List Bool} {passes passes' : List Pass} {history history' : List Entry} {flight flight' : List Ticket → Type 0} {tells tells' : Type 0} {disk disk' : Disk} {last last' : ℕ}
+    → WriteSettled answer i fresh fresh' passes passes' history history' flight flight' tells tells' disk disk' last last' → AreOfPasses passes history → AreOfPasses passes' history'
 write_settled-of-passes {answer} {i} {fresh} {fresh'} {passes} {passes'} {history} {history'} step =
     ends-write answer step.pass step.ticket i fresh fresh' passes passes' history history' (slice_get_within passes i step.pass step.there) step.effect
 
 pub sees-of-passes : {content : List Sector} {i : ℕ} {passes passes' : List Pass} {history history' : List Entry} {out out' : List Sector} → Sees content i passes passes' history history' out out' → AreOfPasses passes history → AreOfPasses passes' history'
 sees-of-passes {content} {i} {passes} {passes'} step =
-    let p = step.pass in more-of-passes (Seen (own i p) (p.first + p.done) content) (slice_get_within passes i p step.there) (many-set passes passes' i (spent 1 p.piece (after_piece p)) step.after) step.event
+    let p = step.pass in more-of-passes (Seen (own i p) (p.first + p.done) content) (slice_get_within passes i p step.there) (many-set passes passes' i (after_spending 1 p.piece (after_piece p)) step.after) step.event
 
 ends-read : (answer : Settled) (p : Pass) (why : Fault) (content : List Sector) (i : ℕ) (passes passes' : List Pass) (history history' : List Entry) (out out' : List Sector)
     → EndsRead answer p why content i passes passes' history history' out out' → AreOfPasses passes history → AreOfPasses passes' history'
@@ -242,13 +242,13 @@ ends-read settled.Done p why content i passes passes' history history' out out' 
 ends-read (settled.NotYet same) p why content i passes passes' history history' out out' ends are = rw (ends.0, ends.1) are
 ends-read (settled.Failed number) p why content i passes passes' history history' out out' ends are = rw ends.1 (set-of-passes i (after_fault why p) ends.0 are)
 
-pub look_settled-of-passes : {answer : Settled} {i : ℕ} {passes passes' : List Pass} {history history' : List Entry} {flies flies' : List Ticket → Type 0} {tells tells' : Type 0} {disk disk' : Disk} {last last' : ℕ} {out out' : List Sector}
-    → LookSettled answer i passes passes' history history' flies flies' tells tells' disk disk' last last' out out' → AreOfPasses passes history → AreOfPasses passes' history'
+pub look_settled-of-passes : {answer : Settled} {i : ℕ} {passes passes' : List Pass} {history history' : List Entry} {flight flight' : List Ticket → Type 0} {tells tells' : Type 0} {disk disk' : Disk} {last last' : ℕ} {out out' : List Sector}
+    → LookSettled answer i passes passes' history history' flight flight' tells tells' disk disk' last last' out out' → AreOfPasses passes history → AreOfPasses passes' history'
 look_settled-of-passes {answer} {i} {passes} {passes'} {history} {history'} {out = out} {out' = out'} step =
     ends-read answer step.pass (fault.Store step.ticket.number) step.content i passes passes' history history' out out' step.effect
 
-pub base_look_settled-of-passes : {answer : Settled} {shape : Shape} {i : ℕ} {passes passes' : List Pass} {history history' : List Entry} {flies flies' : List Ticket → Type 0} {tells : Type 0} {base out out' : List Sector}
-    → BaseLookSettled answer shape i passes passes' history history' flies flies' tells base out out' → AreOfPasses passes history → AreOfPasses passes' history'
+pub base_look_settled-of-passes : {answer : Settled} {shape : Shape} {i : ℕ} {passes passes' : List Pass} {history history' : List Entry} {flight flight' : List Ticket → Type 0} {tells : Type 0} {base out out' : List Sector}
+    → BaseLookSettled answer shape i passes passes' history history' flight flight' tells base out out' → AreOfPasses passes history → AreOfPasses passes' history'
 base_look_settled-of-passes {answer} {shape} {i} {passes} {passes'} {history} {history'} {out = out} {out' = out'} step =
     ends-read answer step.pass (fault.Base step.ticket.number) (step.content ++ replicate (step.pass.piece - step.ticket.count) zero_sector) i passes passes' history history' out out' step.effect
 

@@ -7,7 +7,7 @@ use Rattle.vd_law.specs.declared.entry.CallId.{CallId}
 use Rattle.vd_law.specs.declared.entry.Answer.{Answer}
 use Rattle.vd_law.specs.declared.entry.Answer.TheVariants.{Full}
 use Rattle.vd_law.specs.Entries.{Asked, Read, Write, Flush, Entry, Ask, Reply, past}
-use Rattle.vd_law.specs.Calls.{unasked, gone_on}
+use Rattle.vd_law.specs.Calls.{no_progress, progress_after}
 use Rattle.vd_law.specs.Rules.{Each, IsInside, IsReply, IsRegular, IsShown}
 use Rattle.vd_device.specs.declared.ticket.Ticket.{Ticket}
 use Rattle.vd_device.specs.Disks.{Disk}
@@ -15,18 +15,18 @@ use Rattle.vd_passes.specs.declared.shape.Shape.{Shape}
 use Rattle.vd_passes.specs.declared.pass.Pass.{Pass}
 use Rattle.vd_passes.specs.declared.pass.Phase.TheVariants.{Idle, Issuing, Ready}
 use Rattle.vd_passes.specs.Standings.{Standing, standing}
-use Rattle.vd_passes.specs.Places.{ArePlaces, Extends}
+use Rattle.vd_passes.specs.Places.{ArePlaces, KeepsPlaces}
 use Rattle.vd_passes.specs.Tracks.{Track, track, writes}
-use Rattle.vd_passes.specs.Needs.{sectors_of}
-use Rattle.vd_passes.specs.Coherent.{IsCoherent, IsFaithful, StandsFor}
+use Rattle.vd_passes.specs.Coherent.{IsCoherent, IsFaithful, AgreesInSector}
 use Rattle.vd_passes.specs.Steps.{IsAt, HasAskedWrite, Asks, AsksFull, Replies}
 use Rattle.vd_passes.proofs.Tracks.{track-more, track-writes, ask-same, reply-same}
 use Rattle.vd_passes.proofs.Standing.{last_of, next_of, standing-other, standing-own, standing-ask, regular-ask, regular-reply, shown-push}
 use Rattle.vd_passes.proofs.Lists.{some-inj, tickets-same, fetches-same}
 use Rattle.vd_passes.proofs.Growing.{grown-coherent, grown-faithful}
-use Rattle.vd_passes.proofs.Calm.{calm-coherent, calm-faithful, apart-free}
+use Rattle.vd_passes.proofs.NotIssuing.{not-issuing-coherent, not-issuing-faithful, apart-free}
 use Rattle.vd_passes.proofs.Replying.{answers, answers-full}
-use Rattle.vd_passes.specs.Passes.{has_region, writes_in, call_of, HasNone, HasTicket, pending_of, StandsAs, after_ask, after_reply}
+use Rattle.vd_passes.specs.Passes.{has_region, writes_in, call_id, HasNone, HasInFlight, pending_of, IsAsHistorySays, after_ask, after_reply}
+use Rattle.vd_passes.specs.Needs.{sectors_of}
 
 -- each block that a write touches has a place
 abbrev pub IsPlaced : (block : ℕ) → (ℕ → Option ℕ) → Asked → Type 0
@@ -36,12 +36,12 @@ IsPlaced block places Flush = Unit {0}
 
 -- How a call stands that has asked its request alone.
 abbrev pub asked_for : ℕ → Asked → Standing
-asked_for call request = record { call = call; progress = record unasked { asked = Some request } }
+asked_for call request = record { call = call; progress = record no_progress { asked = Some request } }
 
-pub stands-asked : {shape : Shape} {fresh : List Bool} {places : ℕ → Option ℕ} {t : Standing} {p : Pass} (r : Asked) (events sectors : ℕ) → StandsAs shape fresh places t p → p.phase ≡ Idle
-    → (r ≢ Flush → 0 < sectors_of r) → IsInside (shape.block * shape.blocks) r → IsPlaced shape.block places r → StandsAs shape fresh places (asked_for (p.call + 1) r) (after_ask p r events sectors)
+pub stands-asked : {shape : Shape} {fresh : List Bool} {places : ℕ → Option ℕ} {t : Standing} {p : Pass} (r : Asked) (events sectors : ℕ) → IsAsHistorySays shape fresh places t p → p.phase ≡ Idle
+    → (r ≢ Flush → 0 < sectors_of r) → IsInside (shape.block * shape.blocks) r → IsPlaced shape.block places r → IsAsHistorySays shape fresh places (asked_for (p.call + 1) r) (after_ask p r events sectors)
 stands-asked {shape} {fresh} {places} {t} {p} (Read first count) events sectors stands idle some inside placed =
-    let none : HasNone p = subst (λ ph. HasTicket ph shape fresh p) idle stands.ticket in record {
+    let none : HasNone p = subst (λ ph. HasInFlight ph shape fresh p) idle stands.ticket in record {
       call = refl;
       idle = λ e. absurd (cc);
       busy = λ e. (Read first count, refl, (refl, refl, refl, refl));
@@ -64,7 +64,7 @@ stands-asked {shape} {fresh} {places} {t} {p} (Read first count) events sectors 
       buffer = stands.buffer;
     }
 stands-asked {shape} {fresh} {places} {t} {p} (Write first content) events sectors stands idle some inside placed =
-    let none : HasNone p = subst (λ ph. HasTicket ph shape fresh p) idle stands.ticket in record {
+    let none : HasNone p = subst (λ ph. HasInFlight ph shape fresh p) idle stands.ticket in record {
       call = refl;
       idle = λ e. absurd (cc);
       busy = λ e. (Write first content, refl, (refl, refl, refl, refl));
@@ -87,7 +87,7 @@ stands-asked {shape} {fresh} {places} {t} {p} (Write first content) events secto
       buffer = stands.buffer;
     }
 stands-asked {shape} {fresh} {places} {t} {p} Flush events sectors stands idle some inside placed =
-    let none : HasNone p = subst (λ ph. HasTicket ph shape fresh p) idle stands.ticket in record {
+    let none : HasNone p = subst (λ ph. HasInFlight ph shape fresh p) idle stands.ticket in record {
       call = refl;
       idle = λ e. absurd (cc);
       busy = λ e. (Flush, refl, (refl, refl, refl, refl));
@@ -111,7 +111,7 @@ stands-asked {shape} {fresh} {places} {t} {p} Flush events sectors stands idle s
     }
 
 -- A pass whose last call has its reply.
-pub stands-idle : {shape : Shape} {fresh : List Bool} {places : ℕ → Option ℕ} (t : Standing) (p : Pass) → p.phase ≡ Idle → t.call ≡ p.call → t.progress.answered ≡ true → HasNone p → length p.buffer ≡ shape.block → StandsAs shape fresh places t p
+pub stands-idle : {shape : Shape} {fresh : List Bool} {places : ℕ → Option ℕ} (t : Standing) (p : Pass) → p.phase ≡ Idle → t.call ≡ p.call → t.progress.answered ≡ true → HasNone p → length p.buffer ≡ shape.block → IsAsHistorySays shape fresh places t p
 stands-idle {shape} {fresh} {places} t p idle call answered none buffer = record {
   call = call;
   idle = λ e f. answered;
@@ -131,13 +131,13 @@ stands-idle {shape} {fresh} {places} t p idle call answered none buffer = record
   placed = λ e. absurd (e idle);
   piece = λ e. absurd (let h = ap has_region idle in cc);
   at = λ e. absurd (let h = ap has_region idle in cc);
-  ticket = subst (λ ph. HasTicket ph shape fresh p) (sym idle) none;
+  ticket = subst (λ ph. HasInFlight ph shape fresh p) (sym idle) none;
   buffer = buffer;
 }
 
 -- A step of a pass with entries that tell no content, where it has nothing in flight before or after it.
-module _ {shape : Shape} {fresh : List Bool} {places : ℕ → Option ℕ} {passes : List Pass} {history : List Entry} {sectors depth base_sectors base_depth : ℕ} {flies base_flies : List Ticket → Type 0}
-    (co : IsCoherent shape fresh places passes history sectors depth base_sectors base_depth flies base_flies) (i : ℕ) (p : Pass) (there : slice_get passes i ≡ Some p) (none : HasNone p) (before : p.phase ≢ Issuing)
+module _ {shape : Shape} {fresh : List Bool} {places : ℕ → Option ℕ} {passes : List Pass} {history : List Entry} {sectors depth base_sectors base_depth : ℕ} {flight base_flight : List Ticket → Type 0}
+    (co : IsCoherent shape fresh places passes history sectors depth base_sectors base_depth flight base_flight) (i : ℕ) (p : Pass) (there : slice_get passes i ≡ Some p) (none : HasNone p) (before : p.phase ≢ Issuing)
     (p' : Pass) (none' : HasNone p') (after : has_region p'.phase ≡ false) (history' : List Entry)
     (same : (start : List Sector) (s : ℕ) → track start history' s ≡ track start history s) where
   not-after : p'.phase ≢ Issuing
@@ -146,19 +146,19 @@ module _ {shape : Shape} {fresh : List Bool} {places : ℕ → Option ℕ} {pass
   quiet : (s : ℕ) → writes history' s ≡ writes history s
   quiet s = sym (track-writes [] history' s) ∙ ap (λ (t : Track). t.writes) (same [] s) ∙ track-writes [] history s
 
-  pub wordless-coherent : IsRegular (shape.block * shape.blocks) history' → ((j : ℕ) → j ≢ i → standing history' j ≡ standing history j) → StandsAs shape fresh places (standing history' i) p'
-      → IsCoherent shape fresh places (slice_set passes i p') history' sectors depth base_sectors base_depth flies base_flies
-  wordless-coherent regular others next = calm-coherent co i p there before p' not-after history' quiet flies base_flies regular others next
+  pub wordless-coherent : IsRegular (shape.block * shape.blocks) history' → ((j : ℕ) → j ≢ i → standing history' j ≡ standing history j) → IsAsHistorySays shape fresh places (standing history' i) p'
+      → IsCoherent shape fresh places (slice_set passes i p') history' sectors depth base_sectors base_depth flight base_flight
+  wordless-coherent regular others next = not-issuing-coherent co i p there before p' not-after history' quiet flight base_flight regular others next
       (λ k r at ne. apart-free p' r after)
-      (subst flies (sym (tickets-same passes i p p' there (none'.ticket ∙ sym none.ticket))) co.flight)
-      (subst base_flies (sym (fetches-same passes i p p' there (none'.fetch ∙ sym none.fetch))) co.base_flight)
+      (subst flight (sym (tickets-same passes i p p' there (none'.ticket ∙ sym none.ticket))) co.flight)
+      (subst base_flight (sym (fetches-same passes i p p' there (none'.fetch ∙ sym none.fetch))) co.base_flight)
 
   pub wordless-faithful : {start : List Sector} {rest : ℕ → Sector} {disk : Disk} {last : ℕ} → IsFaithful start rest shape fresh places passes history disk last → Each (IsShown start) (past history')
       → IsFaithful start rest shape fresh places (slice_set passes i p') history' disk last
-  wordless-faithful {start} {rest} {disk} {last} fa shown = calm-faithful co i p there before p' not-after history' quiet fa disk last (omega arith) shown
+  wordless-faithful {start} {rest} {disk} {last} fa shown = not-issuing-faithful co i p there before p' not-after history' quiet fa disk last (omega arith) shown
       (λ t is. absurd (let e = sym is ∙ none'.ticket in cc))
       (λ a low. refl)
-      (λ s inside. subst (λ (g : Track). StandsFor shape.block fresh places rest s g (track disk.start disk.log)) (sym (same start s)) (fa.stands s inside))
+      (λ s inside. subst (λ (g : Track). AgreesInSector shape.block fresh places rest s g (track disk.start disk.log)) (sym (same start s)) (fa.stands s inside))
       (λ a w v among. subst (λ (g : Track). Contains g.contents v) (sym (same start w.sector)) among)
       (λ is. absurd (let h = ap has_region is in cc))
 
@@ -170,14 +170,14 @@ same-after-reply : (history : List Entry) (id : CallId) (answer : Answer) (start
 same-after-reply history id answer start s = track-more start history (Reply id answer) s ∙ reply-same s (track start history s) id answer
 
 -- The call that a pass asks is the next one of its number, and the one that it serves the last.
-next-is : {shape : Shape} {fresh : List Bool} {places : ℕ → Option ℕ} (history : List Entry) (i : ℕ) {p : Pass} → StandsAs shape fresh places (standing history i) p → next_of history i ≡ record { pass = i; call = p.call + 1 }
+next-is : {shape : Shape} {fresh : List Bool} {places : ℕ → Option ℕ} (history : List Entry) (i : ℕ) {p : Pass} → IsAsHistorySays shape fresh places (standing history i) p → next_of history i ≡ record { pass = i; call = p.call + 1 }
 next-is {shape} {fresh} {places} history i {p} stands = ap (λ (n : ℕ). record { pass = i; call = n + 1 }) stands.call
 
-last-is : {shape : Shape} {fresh : List Bool} {places : ℕ → Option ℕ} (history : List Entry) (i : ℕ) {p : Pass} → StandsAs shape fresh places (standing history i) p → last_of history i ≡ call_of i p
+last-is : {shape : Shape} {fresh : List Bool} {places : ℕ → Option ℕ} (history : List Entry) (i : ℕ) {p : Pass} → IsAsHistorySays shape fresh places (standing history i) p → last_of history i ≡ call_id i p
 last-is {shape} {fresh} {places} history i {p} stands = ap (λ (n : ℕ). record { pass = i; call = n }) stands.call
 
 -- What an Ask leaves of the histories' other passes, and makes of its own.
-module _ {shape : Shape} {fresh : List Bool} {places : ℕ → Option ℕ} (history : List Entry) (i : ℕ) {p : Pass} (stands : StandsAs shape fresh places (standing history i) p)
+module _ {shape : Shape} {fresh : List Bool} {places : ℕ → Option ℕ} (history : List Entry) (i : ℕ) {p : Pass} (stands : IsAsHistorySays shape fresh places (standing history i) p)
     (regular : IsRegular (shape.block * shape.blocks) history) (idle : p.phase ≡ Idle) (request : Asked) (inside : IsInside (shape.block * shape.blocks) request) where
   regular-asked : IsRegular (shape.block * shape.blocks) (history ++ Ask (record { pass = i; call = p.call + 1 }) request ∷ [])
   regular-asked = subst (λ (id : CallId). IsRegular (shape.block * shape.blocks) (history ++ Ask id request ∷ [])) (next-is history i stands)
@@ -206,10 +206,10 @@ after-call p (Write first content) events sectors = refl
 after-call p Flush events sectors = refl
 
 -- A pass asks a request, for which blocks may have got their places.
-module _ {shape : Shape} {fresh : List Bool} {places places' : ℕ → Option ℕ} {passes passes' : List Pass} {history history' : List Entry} {sectors depth base_sectors base_depth events_left sectors_left i : ℕ} {flies base_flies : List Ticket → Type 0}
-    (request : Asked) (co : IsCoherent shape fresh places passes history sectors depth base_sectors base_depth flies base_flies) (at : IsAt passes i (λ p. p.phase ≡ Idle))
+module _ {shape : Shape} {fresh : List Bool} {places places' : ℕ → Option ℕ} {passes passes' : List Pass} {history history' : List Entry} {sectors depth base_sectors base_depth events_left sectors_left i : ℕ} {flight base_flight : List Ticket → Type 0}
+    (request : Asked) (co : IsCoherent shape fresh places passes history sectors depth base_sectors base_depth flight base_flight) (at : IsAt passes i (λ p. p.phase ≡ Idle))
     (some : request ≢ Flush → 0 < sectors_of request) (inside : IsInside (shape.block * shape.blocks) request)
-    (extends : Extends places places') (placed : ArePlaces shape.block shape.storage_at sectors places') (has : IsPlaced shape.block places' request)
+    (extends : KeepsPlaces places places') (placed : ArePlaces shape.block shape.storage_at sectors places') (has : IsPlaced shape.block places' request)
     (step : Asks request events_left sectors_left i passes passes' history history') where
   abbrev asking : Pass
   asking = step.pass
@@ -220,14 +220,14 @@ module _ {shape : Shape} {fresh : List Bool} {places places' : ℕ → Option �
   asking-idle : asking.phase ≡ Idle
   asking-idle = ap (λ (x : Pass). x.phase) (some-inj (sym step.there ∙ at.1)) ∙ at.2
 
-  grown : IsCoherent shape fresh places' passes history sectors depth base_sectors base_depth flies base_flies
+  grown : IsCoherent shape fresh places' passes history sectors depth base_sectors base_depth flight base_flight
   grown = grown-coherent co places' extends placed
 
-  asking-stands : StandsAs shape fresh places' (standing history i) asking
+  asking-stands : IsAsHistorySays shape fresh places' (standing history i) asking
   asking-stands = grown.each i asking step.there
 
   asking-none : HasNone asking
-  asking-none = subst (λ ph. HasTicket ph shape fresh asking) asking-idle asking-stands.ticket
+  asking-none = subst (λ ph. HasInFlight ph shape fresh asking) asking-idle asking-stands.ticket
 
   asking-not : asking.phase ≢ Issuing
   asking-not e = let a = asking-idle in cc
@@ -238,13 +238,13 @@ module _ {shape : Shape} {fresh : List Bool} {places places' : ℕ → Option �
   ask-history : history' ≡ history ++ Ask ask-id request ∷ []
   ask-history = step.event ∙ ap (λ (n : ℕ). history ++ Ask (record { pass = i; call = n }) request ∷ []) (after-call asking request events_left sectors_left)
 
-  pub asks-coherent : IsCoherent shape fresh places' passes' history' sectors depth base_sectors base_depth flies base_flies
+  pub asks-coherent : IsCoherent shape fresh places' passes' history' sectors depth base_sectors base_depth flight base_flight
   asks-coherent = rw (step.after, ask-history)
       (wordless-coherent grown i asking step.there asking-none asking-not asked (after-none asking request events_left sectors_left asking-none) (after-region asking request events_left sectors_left)
       (history ++ Ask ask-id request ∷ []) (same-after-ask history ask-id request)
       (regular-asked history i asking-stands grown.regular asking-idle request inside)
       (others-asked history i asking-stands grown.regular asking-idle request inside)
-      (subst (λ (t : Standing). StandsAs shape fresh places' t asked) (sym (standing-asked history i asking-stands grown.regular asking-idle request inside))
+      (subst (λ (t : Standing). IsAsHistorySays shape fresh places' t asked) (sym (standing-asked history i asking-stands grown.regular asking-idle request inside))
       (stands-asked request events_left sectors_left asking-stands asking-idle some inside has)))
 
   pub asks-faithful : {start : List Sector} {rest : ℕ → Sector} {disk : Disk} {last : ℕ} → IsFaithful start rest shape fresh places passes history disk last → IsFaithful start rest shape fresh places' passes' history' disk last
@@ -259,8 +259,8 @@ module _ {shape : Shape} {fresh : List Bool} {places places' : ℕ → Option �
   asks-content first content is = (first, rw ask-history (ap (λ (t : Standing). t.progress.asked) (standing-asked history i asking-stands grown.regular asking-idle request inside) ∙ ap Some is))
 
 -- A pass asks a write for which too little storage is free.
-module _ {shape : Shape} {fresh : List Bool} {places : ℕ → Option ℕ} {passes passes' : List Pass} {history history' : List Entry} {sectors depth base_sectors base_depth needed free i : ℕ} {flies base_flies : List Ticket → Type 0}
-    (first : ℕ) (content : List Sector) (co : IsCoherent shape fresh places passes history sectors depth base_sectors base_depth flies base_flies) (at : IsAt passes i (λ p. p.phase ≡ Idle))
+module _ {shape : Shape} {fresh : List Bool} {places : ℕ → Option ℕ} {passes passes' : List Pass} {history history' : List Entry} {sectors depth base_sectors base_depth needed free i : ℕ} {flight base_flight : List Ticket → Type 0}
+    (first : ℕ) (content : List Sector) (co : IsCoherent shape fresh places passes history sectors depth base_sectors base_depth flight base_flight) (at : IsAt passes i (λ p. p.phase ≡ Idle))
     (some : 0 < length content) (inside : first + length content ≤ shape.block * shape.blocks)
     (step : AsksFull (Write first content) needed free i passes passes' history history') where
   abbrev full-pass : Pass
@@ -272,11 +272,11 @@ module _ {shape : Shape} {fresh : List Bool} {places : ℕ → Option ℕ} {pass
   full-idle : full-pass.phase ≡ Idle
   full-idle = ap (λ (x : Pass). x.phase) (some-inj (sym step.there ∙ at.1)) ∙ at.2
 
-  full-stands : StandsAs shape fresh places (standing history i) full-pass
+  full-stands : IsAsHistorySays shape fresh places (standing history i) full-pass
   full-stands = co.each i full-pass step.there
 
   full-none : HasNone full-pass
-  full-none = subst (λ ph. HasTicket ph shape fresh full-pass) full-idle full-stands.ticket
+  full-none = subst (λ ph. HasInFlight ph shape fresh full-pass) full-idle full-stands.ticket
 
   full-not : full-pass.phase ≢ Issuing
   full-not e = let a = full-idle in cc
@@ -305,8 +305,8 @@ module _ {shape : Shape} {fresh : List Bool} {places : ℕ → Option ℕ} {pass
       (record { asked = ap (λ (t : Standing). t.progress.asked) full-standing; unanswered = ap (λ (t : Standing). t.progress.answered) full-standing })
       (subst (λ (t : Standing). IsReply (Write first content) t.progress (Full needed free)) (sym full-standing) (answers-full first content needed free some)))
 
-  full-after : standing (full-asked ++ full-reply ∷ []) i ≡ record { call = full-pass.call + 1; progress = gone_on (asked_for (full-pass.call + 1) (Write first content)).progress full-reply }
-  full-after = standing-own full-asked full-reply i (sym full-last) tt ∙ ap (λ (t : Standing). record t { progress = gone_on t.progress full-reply }) full-standing
+  full-after : standing (full-asked ++ full-reply ∷ []) i ≡ record { call = full-pass.call + 1; progress = progress_after (asked_for (full-pass.call + 1) (Write first content)).progress full-reply }
+  full-after = standing-own full-asked full-reply i (sym full-last) tt ∙ ap (λ (t : Standing). record t { progress = progress_after t.progress full-reply }) full-standing
 
   full-others : (j : ℕ) → j ≢ i → standing (full-asked ++ full-reply ∷ []) j ≡ standing history j
   full-others j ne = standing-other full-asked full-reply j (λ e. ne (sym e)) ∙ others-asked history i full-stands co.regular full-idle (Write first content) inside j ne
@@ -320,10 +320,10 @@ module _ {shape : Shape} {fresh : List Bool} {places : ℕ → Option ℕ} {pass
   refused-region : has_region refused.phase ≡ false
   refused-region = ap has_region full-idle
 
-  pub asks_full-coherent : IsCoherent shape fresh places passes' history' sectors depth base_sectors base_depth flies base_flies
+  pub asks_full-coherent : IsCoherent shape fresh places passes' history' sectors depth base_sectors base_depth flight base_flight
   asks_full-coherent = rw (step.after, full-history)
       (wordless-coherent co i full-pass step.there full-none full-not refused refused-none refused-region (full-asked ++ full-reply ∷ []) full-same full-regular full-others
-      (subst (λ (t : Standing). StandsAs shape fresh places t refused) (sym full-after) (stands-idle _ refused full-idle refl refl refused-none full-stands.buffer)))
+      (subst (λ (t : Standing). IsAsHistorySays shape fresh places t refused) (sym full-after) (stands-idle _ refused full-idle refl refl refused-none full-stands.buffer)))
 
   pub asks_full-faithful : {start : List Sector} {rest : ℕ → Sector} {disk : Disk} {last : ℕ} → IsFaithful start rest shape fresh places passes history disk last → IsFaithful start rest shape fresh places passes' history' disk last
   asks_full-faithful {start} {rest} {disk} {last} fa = rw (step.after, full-history)
@@ -331,8 +331,8 @@ module _ {shape : Shape} {fresh : List Bool} {places : ℕ → Option ℕ} {pass
       (shown-push start full-asked full-reply (shown-push start history (Ask full-id (Write first content)) fa.shown tt) tt))
 
 -- A pass that is ready has its reply.
-module _ {shape : Shape} {fresh : List Bool} {places : ℕ → Option ℕ} {passes passes' : List Pass} {history history' : List Entry} {sectors depth base_sectors base_depth i : ℕ} {flies base_flies : List Ticket → Type 0} {answer : Answer}
-    (co : IsCoherent shape fresh places passes history sectors depth base_sectors base_depth flies base_flies) (at : IsAt passes i (λ p. p.phase ≡ Ready))
+module _ {shape : Shape} {fresh : List Bool} {places : ℕ → Option ℕ} {passes passes' : List Pass} {history history' : List Entry} {sectors depth base_sectors base_depth i : ℕ} {flight base_flight : List Ticket → Type 0} {answer : Answer}
+    (co : IsCoherent shape fresh places passes history sectors depth base_sectors base_depth flight base_flight) (at : IsAt passes i (λ p. p.phase ≡ Ready))
     (step : Replies answer i passes passes' history history') where
   abbrev ready-pass : Pass
   ready-pass = step.pass
@@ -346,17 +346,17 @@ module _ {shape : Shape} {fresh : List Bool} {places : ℕ → Option ℕ} {pass
   was-busy : ready-pass.phase ≢ Idle
   was-busy e = let a = was-ready in cc
 
-  ready-stands : StandsAs shape fresh places (standing history i) ready-pass
+  ready-stands : IsAsHistorySays shape fresh places (standing history i) ready-pass
   ready-stands = co.each i ready-pass step.there
 
   ready-none : HasNone ready-pass
-  ready-none = subst (λ ph. HasTicket ph shape fresh ready-pass) was-ready ready-stands.ticket
+  ready-none = subst (λ ph. HasInFlight ph shape fresh ready-pass) was-ready ready-stands.ticket
 
   ready-not : ready-pass.phase ≢ Issuing
   ready-not e = let a = was-ready in cc
 
   abbrev reply : Entry
-  reply = Reply (call_of i ready-pass) answer
+  reply = Reply (call_id i ready-pass) answer
 
   reply-regular : IsRegular (shape.block * shape.blocks) (history ++ reply ∷ [])
   reply-regular =
@@ -367,20 +367,20 @@ module _ {shape : Shape} {fresh : List Bool} {places : ℕ → Option ℕ} {pass
       (answers ready-pass b.0 (standing history i).progress ready-pass.fault b.2 (ready-stands.done was-busy)
       (ready-stands.pending was-busy ∙ ap (λ ph. pending_of ph ready-pass.piece) was-ready) (ready-stands.unstarted was-busy) (ready-stands.ready was-ready))))
 
-  reply-after : standing (history ++ reply ∷ []) i ≡ record (standing history i) { progress = gone_on (standing history i).progress reply }
+  reply-after : standing (history ++ reply ∷ []) i ≡ record (standing history i) { progress = progress_after (standing history i).progress reply }
   reply-after = standing-own history reply i (sym (last-is history i ready-stands)) tt
 
   replied-none : HasNone replied
   replied-none = record { ticket = ready-none.ticket; fetch = ready-none.fetch }
 
-  pub replies-coherent : IsCoherent shape fresh places passes' history' sectors depth base_sectors base_depth flies base_flies
+  pub replies-coherent : IsCoherent shape fresh places passes' history' sectors depth base_sectors base_depth flight base_flight
   replies-coherent = rw (step.after, step.event)
-      (wordless-coherent co i ready-pass step.there ready-none ready-not replied replied-none refl (history ++ reply ∷ []) (same-after-reply history (call_of i ready-pass) answer)
+      (wordless-coherent co i ready-pass step.there ready-none ready-not replied replied-none refl (history ++ reply ∷ []) (same-after-reply history (call_id i ready-pass) answer)
       reply-regular
       (λ j ne. standing-other history reply j (λ e. ne (sym e)))
-      (subst (λ (t : Standing). StandsAs shape fresh places t replied) (sym reply-after) (stands-idle _ replied refl ready-stands.call refl replied-none ready-stands.buffer)))
+      (subst (λ (t : Standing). IsAsHistorySays shape fresh places t replied) (sym reply-after) (stands-idle _ replied refl ready-stands.call refl replied-none ready-stands.buffer)))
 
   pub replies-faithful : {start : List Sector} {rest : ℕ → Sector} {disk : Disk} {last : ℕ} → IsFaithful start rest shape fresh places passes history disk last → IsFaithful start rest shape fresh places passes' history' disk last
   replies-faithful {start} {rest} {disk} {last} fa = rw (step.after, step.event)
-      (wordless-faithful co i ready-pass step.there ready-none ready-not replied replied-none refl (history ++ reply ∷ []) (same-after-reply history (call_of i ready-pass) answer) fa
+      (wordless-faithful co i ready-pass step.there ready-none ready-not replied replied-none refl (history ++ reply ∷ []) (same-after-reply history (call_id i ready-pass) answer) fa
       (shown-push start history reply fa.shown tt))

@@ -3,22 +3,23 @@ use Rattle.std.proofs.Common.{◌≡◌, ℕ, ◌+◌, ◌-◌, min, List, ◌++
 use Rattle.std.proofs.lemmas.List.FromFn.{length-map-range_with_len}
 use Rattle.vd_law.specs.declared.entry.Sector.{Sector}
 use Rattle.vd_law.proofs.Sectors.{slice_get-inside, sector_in-place}
-use Rattle.vd_reading.specs.Background.{zero_sector, background, background_run}
-use Rattle.vd_reading.proofs.BackgroundLaws.{two_parts, slice_get_run}
-use Rattle.vd_passes.specs.Laying.{below, Backs}
+use Rattle.vd_format.proofs.BackgroundLaws.{two_parts}
+use Rattle.vd_passes.specs.Laying.{count_below, Backs}
 use Rattle.vd_passes.proofs.Lists.{some-inj}
+use Rattle.vd_format.specs.Background.{zero_sector, background_of, background_run}
+use Rattle.vd_law.proofs.Lists.{slice_get_run}
 
-run-is : (content : List Sector) (tracked first count k : ℕ) (v : Sector) → slice_get (background_run content tracked first count) k ≡ Some v → v ≡ background content tracked (first + k)
+run-is : (content : List Sector) (tracked first count k : ℕ) (v : Sector) → slice_get (background_run content tracked first count) k ≡ Some v → v ≡ background_of content tracked (first + k)
 unfolding background_run
 run-is content tracked first count k v at =
     let inside = slice_get-inside (background_run content tracked first count) k v at in
-    let long = length-map-range_with_len (background content tracked) first count in
-    some-inj (sym at ∙ slice_get_run (background content tracked) first count k (omega (arith, inside, long)))
+    let long = length-map-range_with_len (background_of content tracked) first count in
+    some-inj (sym at ∙ slice_get_run (background_of content tracked) first count k (omega (arith, inside, long)))
 
-pub background-backs : (content : List Sector) (tracked limit : ℕ) → limit ≡ min (length content) tracked → Backs (background content tracked) limit content
+pub background-backs : (content : List Sector) (tracked limit : ℕ) → limit ≡ min (length content) tracked → Backs (background_of content tracked) limit content
 background-backs content tracked limit is first count front long held s v on =
     let all = front ++ replicate (count - length front) zero_sector in
-    let same : all ≡ background_run content tracked first count = two_parts content front tracked first count (long ∙ ap (λ (n : ℕ). below n first count) is) held in
+    let same : all ≡ background_run content tracked first count = two_parts content front tracked first count (long ∙ ap (λ (n : ℕ). count_below n first count) is) held in
     let place = sector_in-place first all s v on in
     let k : first + (s - first) ≡ s = (let from = place.0 in omega arith) in
-    run-is content tracked first count (s - first) v (ap (λ (xs : List Sector). slice_get xs (s - first)) (sym same) ∙ place.1) ∙ ap (background content tracked) k
+    run-is content tracked first count (s - first) v (ap (λ (xs : List Sector). slice_get xs (s - first)) (sym same) ∙ place.1) ∙ ap (background_of content tracked) k

@@ -15,8 +15,8 @@ use Rattle.vd_passes.specs.declared.pass.Pass.{Pass}
 use Rattle.vd_passes.specs.declared.pass.Phase.TheVariants.{Filled, Issuing}
 use Rattle.vd_passes.specs.Tracks.{Track, track, writes, follow}
 use Rattle.vd_passes.specs.Standings.{standing}
-use Rattle.vd_passes.specs.Passes.{has_region, call_of, Covers, IsWriting, IsFilling, IsPiece, IsStored, StandsAs}
-use Rattle.vd_passes.specs.Coherent.{IsCoherent, IsFaithful, StandsFor, IsUnwritten, IsWritten, IsUnfilled, IsFilled}
+use Rattle.vd_passes.specs.Passes.{has_region, call_id, TicketCovers, IsWriting, IsFilling, IsPiece, IsStored, IsAsHistorySays}
+use Rattle.vd_passes.specs.Coherent.{IsCoherent, IsFaithful, AgreesInSector, IsUnwritten, IsWritten, IsUnfilled, IsFilled}
 use Rattle.vd_passes.proofs.Lists.{some-inj, at-set, length-set', tickets-taken, fetches-same}
 use Rattle.vd_passes.proofs.Places.{same-block, same-place}
 use Rattle.vd_passes.proofs.Standing.{shown-push}
@@ -43,10 +43,10 @@ broke-closes s t id = record {
   other = broke-other s t id;
 }
 
-module _ {shape : Shape} {fresh : List Bool} {places : ℕ → Option ℕ} {passes : List Pass} {history : List Entry} {sectors depth base_sectors base_depth : ℕ} {flies base_flies : List Ticket → Type 0}
-    (co : IsCoherent shape fresh places passes history sectors depth base_sectors base_depth flies base_flies) (i : ℕ) (p : Pass) (there : slice_get passes i ≡ Some p)
+module _ {shape : Shape} {fresh : List Bool} {places : ℕ → Option ℕ} {passes : List Pass} {history : List Entry} {sectors depth base_sectors base_depth : ℕ} {flight base_flight : List Ticket → Type 0}
+    (co : IsCoherent shape fresh places passes history sectors depth base_sectors base_depth flight base_flight) (i : ℕ) (p : Pass) (there : slice_get passes i ≡ Some p)
     (issuing : p.phase ≡ Issuing) (t : Ticket) (has : p.ticket ≡ Some t) where
-  pub stands : StandsAs shape fresh places (standing history i) p
+  pub stands : IsAsHistorySays shape fresh places (standing history i) p
   stands = co.each i p there
 
   pub region : has_region p.phase ≡ true
@@ -74,12 +74,12 @@ module _ {shape : Shape} {fresh : List Bool} {places : ℕ → Option ℕ} {pass
   pub is-this : (q : Pass) (j : ℕ) → slice_get passes j ≡ Some q → j ≡ i → q ≡ p
   is-this q j at e = some-inj (sym at ∙ ap (slice_get passes) e ∙ there)
 
-  pub other-call : (w : Pass) (by : ℕ) → (by ≡ i → ⊥) → same_call (call_of by w) (call_of i p) ≡ false
-  other-call w by ne = same-false (call_of by w) (call_of i p) (λ e f. ne e)
+  pub other-call : (w : Pass) (by : ℕ) → (by ≡ i → ⊥) → same_call (call_id by w) (call_id i p) ≡ false
+  other-call w by ne = same-false (call_id by w) (call_id i p) (λ e f. ne e)
 
   -- the pass fills what its ticket covers
   pub fills : (a : ℕ) → t.first ≤ a → a < t.first + t.count → IsFilling p a
-  fills a from to = record { phase = issuing; covers = subst (λ o. Covers o a) (sym has) (from, to) }
+  fills a from to = record { phase = issuing; covers = subst (λ o. TicketCovers o a) (sym has) (from, to) }
 
   -- the place of a sector that it writes is one that it fills
   pub fills-too : (s a : ℕ) → a + shape.block * p.block ≡ p.at + s → IsWriting p s → IsFilling p a
@@ -99,29 +99,29 @@ module _ {shape : Shape} {fresh : List Bool} {places : ℕ → Option ℕ} {pass
       | inr old ↦ old.0 (alone co i p there region writer j q old.1 (region-of _ Issuing refl is) (same old.1))
     ]
 
-    pub close-guest : (s : ℕ) (ws' : List (CallId × Sector)) → Closes (call_of i p) (writes history s) ws' → IsUnwritten (slice_set passes i p') s ws' ⊎ IsWritten (slice_set passes i p') s ws'
+    pub close-guest : (s : ℕ) (ws' : List (CallId × Sector)) → Closes (call_id i p) (writes history s) ws' → IsUnwritten (slice_set passes i p') s ws' ⊎ IsWritten (slice_set passes i p') s ws'
     close-guest s ws' closes = elim (co.guest s) [
       | inl none ↦ inl (unwritten-set passes i p p' there s _ _ none (λ w. idle-now w.phase) (closes.none none.none))
       | inr w ↦ elim (cases_eq w.by i) [
         | inl e ↦
             let same = is-this w.pass w.by w.there e in
             let writing = subst (λ x. IsWriting x s) same w.writing in
-            let one : writes history s ≡ (call_of i p, w.content) ∷ [] = subst (λ x. writes history s ≡ (call_of i x, w.content) ∷ []) same (subst (λ k. writes history s ≡ (call_of k w.pass, w.content) ∷ []) e w.one) in
+            let one : writes history s ≡ (call_id i p, w.content) ∷ [] = subst (λ x. writes history s ≡ (call_id i x, w.content) ∷ []) same (subst (λ k. writes history s ≡ (call_id k w.pass, w.content) ∷ []) e w.one) in
             inl (record {
               nobody = λ j q at is. none-else j q at is.phase (λ old. same-block shape.block q.block p.block s (writing-block (co.each j q old) is) (writing-block stands writing));
               none = closes.own w.content one;
             })
-        | inr ne ↦ inr (written-set passes i p p' there s _ _ w ne (closes.other (call_of w.by w.pass) w.content w.one (other-call w.pass w.by ne)))
+        | inr ne ↦ inr (written-set passes i p p' there s _ _ w ne (closes.other (call_id w.by w.pass) w.content w.one (other-call w.pass w.by ne)))
       ]
     ]
 
-    pub close-coherent : (e : Entry) (fresh' : List Bool) (flies' : List Ticket → Type 0) → (caller_of e).pass ≡ i → IsRegular (shape.block * shape.blocks) (history ++ e ∷ [])
-        → ((s : ℕ) → Closes (call_of i p) (writes history s) (writes (history ++ e ∷ []) s))
+    pub close-coherent : (e : Entry) (fresh' : List Bool) (flight' : List Ticket → Type 0) → (caller_of e).pass ≡ i → IsRegular (shape.block * shape.blocks) (history ++ e ∷ [])
+        → ((s : ℕ) → Closes (call_id i p) (writes history s) (writes (history ++ e ∷ []) s))
         → length fresh' ≡ length fresh → ((b : ℕ) → b ≢ p.block → slice_get fresh' b ≡ slice_get fresh b)
-        → ((j : ℕ) (q : Pass) → slice_get passes j ≡ Some q → j ≢ i → StandsAs shape fresh' places (standing history j) q)
-        → StandsAs shape fresh' places (standing (history ++ e ∷ []) i) p' → p'.ticket ≡ None → p'.fetch ≡ None → Takes t flies flies'
-        → IsCoherent shape fresh' places (slice_set passes i p') (history ++ e ∷ []) sectors depth base_sectors base_depth flies' base_flies
-    close-coherent e fresh' flies' of regular closes size same each next no_ticket no_fetch takes = record {
+        → ((j : ℕ) (q : Pass) → slice_get passes j ≡ Some q → j ≢ i → IsAsHistorySays shape fresh' places (standing history j) q)
+        → IsAsHistorySays shape fresh' places (standing (history ++ e ∷ []) i) p' → p'.ticket ≡ None → p'.fetch ≡ None → Takes t flight flight'
+        → IsCoherent shape fresh' places (slice_set passes i p') (history ++ e ∷ []) sectors depth base_sectors base_depth flight' base_flight
+    close-coherent e fresh' flight' of regular closes size same each next no_ticket no_fetch takes = record {
       shaped = co.shaped;
       size = size ∙ co.size;
       placed = co.placed;
@@ -136,7 +136,7 @@ module _ {shape : Shape} {fresh : List Bool} {places : ℕ → Option ℕ} {pass
       each = each-set shape fresh' places passes history e i p p' there of each next;
       apart = apart-set passes i p p' there co.apart (λ k r at ne has_p. absurd (cc));
       flight = takes _ _ (tickets-taken passes i p p' t there has no_ticket) co.flight;
-      base_flight = subst base_flies (sym (fetches-same passes i p p' there (no_fetch ∙ sym no-fetch))) co.base_flight;
+      base_flight = subst base_flight (sym (fetches-same passes i p p' there (no_fetch ∙ sym no-fetch))) co.base_flight;
       guest = λ s. close-guest s _ (closes s);
     }
 
@@ -160,14 +160,14 @@ module _ {shape : Shape} {fresh : List Bool} {places : ℕ → Option ℕ} {pass
     own-write a w e = subst (λ u. (store-of a).writes ≡ (ticket_id u, w.content) ∷ []) (this-ticket w.pass w.by w.ticket w.there w.has e) w.one
 
     -- the guest's writes on a sector whose place another pass fills stay
-    guest-stays : (a : ℕ) (ws' : List (CallId × Sector)) (w : IsFilled shape.block passes a (track start history) (store-of a)) → Closes (call_of i p) (guest-of w.sector).writes ws' → (w.by ≡ i → ⊥) → ws' ≡ (guest-of w.sector).writes
+    guest-stays : (a : ℕ) (ws' : List (CallId × Sector)) (w : IsFilled shape.block passes a (track start history) (store-of a)) → Closes (call_id i p) (guest-of w.sector).writes ws' → (w.by ≡ i → ⊥) → ws' ≡ (guest-of w.sector).writes
     guest-stays a ws' w closes ne = elim w.source [
-      | inl own ↦ closes.other (call_of w.by w.pass) w.content own (other-call w.pass w.by ne)
+      | inl own ↦ closes.other (call_id w.by w.pass) w.content own (other-call w.pass w.by ne)
       | inr fill ↦ closes.none fill.0 ∙ sym fill.0
     ]
 
     module _ (p' : Pass) (freed : has_region p'.phase ≡ false) where
-      pub close-filling : (a : ℕ) → shape.storage_at ≤ a → (guest' : ℕ → Track) (store' : Track) → ((s : ℕ) → Closes (call_of i p) (guest-of s).writes (guest' s).writes) → Closes (ticket_id t) (store-of a).writes store'.writes
+      pub close-filling : (a : ℕ) → shape.storage_at ≤ a → (guest' : ℕ → Track) (store' : Track) → ((s : ℕ) → Closes (call_id i p) (guest-of s).writes (guest' s).writes) → Closes (ticket_id t) (store-of a).writes store'.writes
           → ((w : IsFilled shape.block passes a (track start history) (store-of a)) → (w.by ≡ i → ⊥) → (v : Sector) → Contains (guest-of w.sector).contents v → Contains (guest' w.sector).contents v)
           → IsUnfilled (slice_set passes i p') a store' ⊎ IsFilled shape.block (slice_set passes i p') a guest' store'
       close-filling a low guest' store' closes closes' more = elim (fa.filling a low) [
@@ -187,8 +187,8 @@ module _ {shape : Shape} {fresh : List Bool} {places : ℕ → Option ℕ} {pass
       ]
 
       pub close-faithful : {disk' : Disk} (e e' : Entry) (fresh' : List Bool) → p'.ticket ≡ None → IsShown start (past history) e → Adds e' disk disk'
-          → ((s : ℕ) → Closes (call_of i p) (guest-of s).writes (follow s (guest-of s) e).writes) → ((a : ℕ) → Closes (ticket_id t) (store-of a).writes (follow a (store-of a) e').writes)
-          → ((s : ℕ) → s < length start → StandsFor shape.block fresh' places rest s (follow s (guest-of s) e) (λ a. follow a (store-of a) e'))
+          → ((s : ℕ) → Closes (call_id i p) (guest-of s).writes (follow s (guest-of s) e).writes) → ((a : ℕ) → Closes (ticket_id t) (store-of a).writes (follow a (store-of a) e').writes)
+          → ((s : ℕ) → s < length start → AgreesInSector shape.block fresh' places rest s (follow s (guest-of s) e) (λ a. follow a (store-of a) e'))
           → ((a : ℕ) (w : IsFilled shape.block passes a (track start history) (store-of a)) → (w.by ≡ i → ⊥) → (v : Sector) → Contains (guest-of w.sector).contents v → Contains (follow w.sector (guest-of w.sector) e).contents v)
           → IsFaithful start rest shape fresh' places (slice_set passes i p') (history ++ e ∷ []) disk' last
       close-faithful {disk'} e e' fresh' no_ticket true_to adds closes closes' stands' more = record {
@@ -211,7 +211,7 @@ module _ {shape : Shape} {fresh : List Bool} {places : ℕ → Option ℕ} {pass
         };
         filling = λ a low. subst (λ d. IsUnfilled (slice_set passes i p') a d ⊎ IsFilled shape.block (slice_set passes i p') a (track start (history ++ e ∷ [])) d) (sym (disk-track a adds))
             (close-filling a low (track start (history ++ e ∷ [])) (follow a (store-of a) e')
-            (λ s. subst (λ (g : Track). Closes (call_of i p) (guest-of s).writes g.writes) (sym (track-more start history e s)) (closes s)) (closes' a)
+            (λ s. subst (λ (g : Track). Closes (call_id i p) (guest-of s).writes g.writes) (sym (track-more start history e s)) (closes s)) (closes' a)
             (λ w ne v among. subst (λ (g : Track). Contains g.contents v) (sym (track-more start history e w.sector)) (more a w ne v among)));
         buffers = λ j q at is. elim (at-set passes i j p' p q there at) [
           | inl a ↦ absurd (let f = region-of _ Filled refl (ap (λ (x : Pass). x.phase) (sym a.1) ∙ is) in cc)

@@ -12,12 +12,12 @@ use Rattle.vd_passes.specs.declared.shape.Shape.{Shape}
 use Rattle.vd_passes.specs.declared.pass.Pass.{Pass}
 use Rattle.vd_passes.specs.declared.pass.Phase.TheVariants.{Idle, Asked as HasAsked, Issuing, Ready}
 use Rattle.vd_passes.specs.Standings.{Standing, standing}
-use Rattle.vd_passes.specs.Passes.{region_of, IsRequestOf, IsPiece, HasNone, HasTicket, pending_of, StandsAs, after_enter}
+use Rattle.vd_passes.specs.Passes.{region_of, IsRequestOf, IsPiece, HasNone, HasInFlight, pending_of, IsAsHistorySays, after_enter}
 use Rattle.vd_passes.specs.Coherent.{IsCoherent, IsFaithful}
-use Rattle.vd_passes.specs.Steps.{IsAt, IsNextPiece, Enters}
+use Rattle.vd_passes.specs.Steps.{IsAt, IsPieceToEnter, Enters}
 use Rattle.vd_passes.proofs.Lists.{some-inj, tickets-same, fetches-same}
 use Rattle.vd_passes.proofs.Regions.{request-kept}
-use Rattle.vd_passes.proofs.Calm.{quiet-coherent, still-faithful}
+use Rattle.vd_passes.proofs.NotIssuing.{quiet-coherent, still-faithful}
 use Rattle.vd_passes.proofs.Holding.{region_on, apart-entered, regions-taken}
 
 -- a block that begins below the end of a disk of so many is one of them
@@ -33,7 +33,7 @@ served p (Read first count) is some = is.3
 served p (Write first content) is some = is.3
 served p Flush is some = absurd (let none = is.2 in omega arith)
 
-pub next-piece : {shape : Shape} {fresh : List Bool} {places : ℕ → Option ℕ} {t : Standing} {p : Pass} {block piece : ℕ} (at : ℕ) → StandsAs shape fresh places t p → p.phase ≡ HasAsked → IsNextPiece shape p block piece → IsPiece shape (after_enter p block piece at)
+pub next-piece : {shape : Shape} {fresh : List Bool} {places : ℕ → Option ℕ} {t : Standing} {p : Pass} {block piece : ℕ} (at : ℕ) → IsAsHistorySays shape fresh places t p → p.phase ≡ HasAsked → IsPieceToEnter shape p block piece → IsPiece shape (after_enter p block piece at)
 next-piece {shape} {fresh} {places} {t} {p} {block} {piece} at stands was next = record {
   some = next.some;
   no_more = next.no_more;
@@ -43,8 +43,8 @@ next-piece {shape} {fresh} {places} {t} {p} {block} {piece} at stands was next =
   ends = next.ends;
 }
 
-module _ {shape : Shape} {fresh : List Bool} {places : ℕ → Option ℕ} {passes passes' : List Pass} {history : List Entry} {sectors depth base_sectors base_depth i : ℕ} {flies base_flies : List Ticket → Type 0}
-    (co : IsCoherent shape fresh places passes history sectors depth base_sectors base_depth flies base_flies) (was : IsAt passes i (λ p. p.phase ≡ HasAsked))
+module _ {shape : Shape} {fresh : List Bool} {places : ℕ → Option ℕ} {passes passes' : List Pass} {history : List Entry} {sectors depth base_sectors base_depth i : ℕ} {flight base_flight : List Ticket → Type 0}
+    (co : IsCoherent shape fresh places passes history sectors depth base_sectors base_depth flight base_flight) (was : IsAt passes i (λ p. p.phase ≡ HasAsked))
     (step : Enters shape places i passes passes')
     (regions : List (Option Region)) (held : regions ≡ map region_of passes)
     (free : (by : ℕ) → Hinders regions i (region_on step.block step.pass.write) by → ⊥) where
@@ -57,11 +57,11 @@ module _ {shape : Shape} {fresh : List Bool} {places : ℕ → Option ℕ} {pass
   was-asked : entering.phase ≡ HasAsked
   was-asked = ap (λ (x : Pass). x.phase) (some-inj (sym step.there ∙ was.1)) ∙ was.2
 
-  entering-stands : StandsAs shape fresh places (standing history i) entering
+  entering-stands : IsAsHistorySays shape fresh places (standing history i) entering
   entering-stands = co.each i entering step.there
 
   entering-none : HasNone entering
-  entering-none = subst (λ ph. HasTicket ph shape fresh entering) was-asked entering-stands.ticket
+  entering-none = subst (λ ph. HasInFlight ph shape fresh entering) was-asked entering-stands.ticket
 
   entering-not : entering.phase ≢ Issuing
   entering-not e = let a = was-asked in cc
@@ -83,7 +83,7 @@ module _ {shape : Shape} {fresh : List Bool} {places : ℕ → Option ℕ} {pass
       let had = entering-stands.placed entering-busy write step.block (omega arith) (omega arith) in had.1 ∙ ap Some (sym (step.place had.0 had.1))
   entered-at (inr is) = let had = co.fresh_placed step.block is in had.1 ∙ ap Some (sym (step.place had.0 had.1))
 
-  stands-entered : StandsAs shape fresh places (standing history i) entered
+  stands-entered : IsAsHistorySays shape fresh places (standing history i) entered
   stands-entered = record {
     call = entering-stands.call;
     idle = λ e. absurd (cc);
@@ -107,12 +107,12 @@ module _ {shape : Shape} {fresh : List Bool} {places : ℕ → Option ℕ} {pass
     buffer = entering-stands.buffer;
   }
 
-  pub enters-coherent : IsCoherent shape fresh places passes' history sectors depth base_sectors base_depth flies base_flies
+  pub enters-coherent : IsCoherent shape fresh places passes' history sectors depth base_sectors base_depth flight base_flight
   enters-coherent = rw step.after
-      (quiet-coherent co i entering step.there entering-not entered (λ e. absurd (cc)) flies base_flies stands-entered
+      (quiet-coherent co i entering step.there entering-not entered (λ e. absurd (cc)) flight base_flight stands-entered
       (apart-entered passes i step.block entered (λ by h. free by (subst (λ rs. Hinders rs i (region_on step.block entering.write) by) (sym held) h)) refl)
-      (subst flies (sym (tickets-same passes i entering entered step.there refl)) co.flight)
-      (subst base_flies (sym (fetches-same passes i entering entered step.there refl)) co.base_flight))
+      (subst flight (sym (tickets-same passes i entering entered step.there refl)) co.flight)
+      (subst base_flight (sym (fetches-same passes i entering entered step.there refl)) co.base_flight))
 
   pub enters-faithful : {start : List Sector} {rest : ℕ → Sector} {disk : Disk} {last : ℕ} → IsFaithful start rest shape fresh places passes history disk last → IsFaithful start rest shape fresh places passes' history disk last
   enters-faithful {start} {rest} {disk} {last} fa = rw step.after

@@ -10,35 +10,35 @@ use Rattle.vd_device.specs.declared.settled.Settled.TheVariants as settled
 use Rattle.vd_device.specs.Tickets.{IsClear, Puts}
 use Rattle.vd_device.specs.Disks.{Disk}
 use Rattle.vd_device.specs.Calls.{Settles, Gives, IsHeld}
-use Rattle.vd_reading.specs.Background.{zero_sector}
 use Rattle.vd_passes.specs.declared.shape.Shape.{Shape}
 use Rattle.vd_passes.specs.declared.pass.Pass.{Pass}
 use Rattle.vd_passes.specs.declared.pass.Phase.{Phase}
 use Rattle.vd_passes.specs.declared.pass.Phase.TheVariants.{Idle, Asked as HasAsked, Held, Fetching, Filled, Issuing, Looking, Flushing, Ready}
 use Rattle.vd_passes.specs.declared.pass.Fault.TheVariants as fault
-use Rattle.vd_passes.specs.Laying.{below, IsRest, Backs}
+use Rattle.vd_passes.specs.Laying.{count_below, IsRest, Backs}
 use Rattle.vd_passes.specs.Standings.{standing}
-use Rattle.vd_passes.specs.Passes.{has_region, pending_of, writes_in, fetches_of, IsFetch, HasNone, HasTicket, StandsAs, after_fetch, after_filled, after_fault}
+use Rattle.vd_passes.specs.Passes.{has_region, pending_of, writes_in, fetches_of, IsFetch, HasNone, HasInFlight, IsAsHistorySays, after_fetch, after_filled, after_fault}
 use Rattle.vd_passes.specs.Coherent.{IsCoherent, IsFaithful}
-use Rattle.vd_passes.specs.Steps.{IsAt, CanReadBase, IsWaitingForBase, Fetches, FillsZeros, FetchSettled, fetched}
+use Rattle.vd_passes.specs.Steps.{IsAt, CanReadBase, IsWaitingForBase, Fetches, FillsZeros, FetchSettled, after_base_read}
 use Rattle.vd_passes.proofs.Lists.{some-inj, tickets-same, fetches-put, fetches-taken, fetches-same, few-fetches, all-fetches}
 use Rattle.vd_passes.proofs.Places.{block-after}
 use Rattle.vd_passes.proofs.Regions.{region-of, fetch-ticket, held-ticket, look-ticket}
-use Rattle.vd_passes.proofs.Calm.{quiet-coherent, still-faithful, apart-kept, apart-free}
+use Rattle.vd_passes.proofs.NotIssuing.{quiet-coherent, still-faithful, apart-kept, apart-free}
 use Rattle.vd_passes.proofs.Onward.{not-idle, moved-stands, failed-stands}
+use Rattle.vd_format.specs.Background.{zero_sector}
 
 -- it holds the region of a block that isn't fresh, to write a piece of it
 abbrev pub IsToFill : List Bool → Pass → Type 0
 IsToFill fresh p = (p.phase ≡ Held) × (p.write ≡ true) × (slice_get fresh p.block ≡ Some false)
 
 -- What the base doesn't have is zeros.
-pub zeros-are-rest : (rest : ℕ → Sector) (limit : ℕ) (base : List Sector) → Backs rest limit base → (first count : ℕ) → below limit first count ≡ 0 → IsRest rest first (replicate count zero_sector)
+pub zeros-are-rest : (rest : ℕ → Sector) (limit : ℕ) (base : List Sector) → Backs rest limit base → (first count : ℕ) → count_below limit first count ≡ 0 → IsRest rest first (replicate count zero_sector)
 zeros-are-rest rest limit base backs first count nothing =
     let same : count - 0 ≡ count = omega arith in
     subst (λ (n : ℕ). IsRest rest first (replicate n zero_sector)) same (backs first count [] (sym nothing) (λ some. absurd (omega arith)))
 
 -- what was read of it is the rest, with zeros behind it
-pub read-is-rest : (rest : ℕ → Sector) (limit : ℕ) (base : List Sector) → Backs rest limit base → (first count : ℕ) (front : List Sector) → length front ≡ below limit first count → IsHeld first front base
+pub read-is-rest : (rest : ℕ → Sector) (limit : ℕ) (base : List Sector) → Backs rest limit base → (first count : ℕ) (front : List Sector) → length front ≡ count_below limit first count → IsHeld first front base
     → IsRest rest first (front ++ replicate (count - length front) zero_sector)
 read-is-rest rest limit base backs first count front long held = backs first count front long (λ some. held)
 
@@ -48,7 +48,7 @@ length-padded content count fits =
     let z : length (replicate (count - length content) zero_sector) ≡ count - length content = length-replicate (count - length content) zero_sector in omega arith
 
 -- what a pass has in flight on the base is a read
-base-reads : (ph : Phase) (shape : Shape) (fresh : List Bool) (q : Pass) (u : Ticket) → HasTicket ph shape fresh q → q.fetch ≡ Some u → u.kind ≡ ReadKind
+base-reads : (ph : Phase) (shape : Shape) (fresh : List Bool) (q : Pass) (u : Ticket) → HasInFlight ph shape fresh q → q.fetch ≡ Some u → u.kind ≡ ReadKind
 base-reads Idle shape fresh q u has is = absurd (let n = has.fetch in cc)
 base-reads HasAsked shape fresh q u has is = absurd (let n = has.fetch in cc)
 base-reads Held shape fresh q u has is = absurd (let n = has.fetch in cc)
@@ -62,13 +62,13 @@ base-reads Looking shape fresh q u has is = elim has.1 [
 base-reads Flushing shape fresh q u has is = absurd (let n = has.0 in cc)
 base-reads Ready shape fresh q u has is = absurd (let n = has.fetch in cc)
 
-module _ {shape : Shape} {fresh : List Bool} {places : ℕ → Option ℕ} {passes : List Pass} {history : List Entry} {sectors depth base_sectors base_depth : ℕ} {flies base_flies : List Ticket → Type 0}
-    (co : IsCoherent shape fresh places passes history sectors depth base_sectors base_depth flies base_flies) (i : ℕ) where
+module _ {shape : Shape} {fresh : List Bool} {places : ℕ → Option ℕ} {passes : List Pass} {history : List Entry} {sectors depth base_sectors base_depth : ℕ} {flight base_flight : List Ticket → Type 0}
+    (co : IsCoherent shape fresh places passes history sectors depth base_sectors base_depth flight base_flight) (i : ℕ) where
   end-within : (p : Pass) → slice_get passes i ≡ Some p → has_region p.phase ≡ true → p.first + p.count ≤ 2 ^ 26
   end-within p there has = let range = ((co.each i p there).range (not-idle p.phase has)).0 in let size = co.shaped.size in omega arith
 
   -- A pass that holds its region can read from the base.
-  pub can-read-base : IsAt passes i (λ p. p.phase ≡ Held) → IsAt passes i (CanReadBase shape base_sectors base_depth base_flies)
+  pub can-read-base : IsAt passes i (λ p. p.phase ≡ Held) → IsAt passes i (CanReadBase shape base_sectors base_depth base_flight)
   can-read-base at =
       let p = at.0 in let there = at.1 in let has = region-of _ Held refl at.2 in let stands = co.each i p there in
       let limit = co.shaped.limit in let tracked = co.shaped.tracked in let size = co.shaped.size in (
@@ -94,7 +94,7 @@ module _ {shape : Shape} {fresh : List Bool} {places : ℕ → Option ℕ} {pass
 
   module _ (p : Pass) (there : slice_get passes i ≡ Some p) (has : has_region p.phase ≡ true) (t : Ticket) (is : p.fetch ≡ Some t) where
     -- the pass has this read in flight
-    waiting : p.ticket ≡ None → IsWaitingForBase shape base_flies p
+    waiting : p.ticket ≡ None → IsWaitingForBase shape base_flight p
     waiting none = let stands = co.each i p there in let gone : Pass = record p { fetch = None } in record {
       ticket = t;
       has = is;
@@ -106,7 +106,7 @@ module _ {shape : Shape} {fresh : List Bool} {places : ℕ → Option ℕ} {pass
       buffer = stands.buffer;
     }
 
-  pub waiting-for-fetch : IsAt passes i (λ p. p.phase ≡ Fetching) → IsAt passes i (IsWaitingForBase shape base_flies)
+  pub waiting-for-fetch : IsAt passes i (λ p. p.phase ≡ Fetching) → IsAt passes i (IsWaitingForBase shape base_flight)
   waiting-for-fetch at = let f = fetch-ticket (co.each i at.0 at.1) at.2 in (at.0, at.1, waiting at.0 at.1 (region-of _ Fetching refl at.2) f.0 f.1 f.2)
 
   -- a fetch reads a block at most
@@ -115,7 +115,7 @@ module _ {shape : Shape} {fresh : List Bool} {places : ℕ → Option ℕ} {pass
       let same : t.count ≡ f.0.count = ap (λ (x : Ticket). x.count) (some-inj (sym is ∙ f.1)) in omega arith
 
   -- a pass that reads its piece from the base: its block isn't fresh
-  pub waiting-for-base : IsAt passes i (λ p. (p.phase ≡ Looking) × (slice_get fresh p.block ≡ Some false)) → IsAt passes i (IsWaitingForBase shape base_flies)
+  pub waiting-for-base : IsAt passes i (λ p. (p.phase ≡ Looking) × (slice_get fresh p.block ≡ Some false)) → IsAt passes i (IsWaitingForBase shape base_flight)
   waiting-for-base at = let l = look-ticket (co.each i at.0 at.1) at.2.0 in elim l.1 [
     | inl store ↦ absurd (let local = store.local in let not_fresh = at.2.1 in cc)
     | inr base ↦ (at.0, at.1, waiting at.0 at.1 (region-of _ Looking refl at.2.0) l.0 base.has base.none)
@@ -123,7 +123,7 @@ module _ {shape : Shape} {fresh : List Bool} {places : ℕ → Option ℕ} {pass
 
   -- one that holds its region to write a block that isn't fresh
   module _ (p : Pass) (there : slice_get passes i ≡ Some p) (to_fill : IsToFill fresh p) where
-    stands : StandsAs shape fresh places (standing history i) p
+    stands : IsAsHistorySays shape fresh places (standing history i) p
     stands = co.each i p there
 
     region : has_region p.phase ≡ true
@@ -132,35 +132,35 @@ module _ {shape : Shape} {fresh : List Bool} {places : ℕ → Option ℕ} {pass
     none : HasNone p
     none = held-ticket stands to_fill.0
 
-    pub fetch-coherent : (t : Ticket) (base_flies' : List Ticket → Type 0) → t.kind ≡ ReadKind → t.first ≡ shape.block * p.block → t.count ≡ below shape.limit (shape.block * p.block) shape.block → Puts t base_flies base_flies'
-        → IsCoherent shape fresh places (slice_set passes i (after_fetch p t)) history sectors depth base_sectors base_depth flies base_flies'
-    fetch-coherent t base_flies' kind first count puts = quiet-coherent co i p there (λ e. absurd (let h = to_fill.0 in cc)) (after_fetch p t) (λ e. absurd (cc)) flies base_flies'
+    pub fetch-coherent : (t : Ticket) (base_flight' : List Ticket → Type 0) → t.kind ≡ ReadKind → t.first ≡ shape.block * p.block → t.count ≡ count_below shape.limit (shape.block * p.block) shape.block → Puts t base_flight base_flight'
+        → IsCoherent shape fresh places (slice_set passes i (after_fetch p t)) history sectors depth base_sectors base_depth flight base_flight'
+    fetch-coherent t base_flight' kind first count puts = quiet-coherent co i p there (λ e. absurd (let h = to_fill.0 in cc)) (after_fetch p t) (λ e. absurd (cc)) flight base_flight'
         (moved-stands stands region Fetching p.ticket (Some t) p.buffer refl (ap (λ (ph : Phase). pending_of ph p.piece) (sym to_fill.0)) (λ e. to_fill.1) (λ e. absurd (cc))
         (t, refl, none.ticket, record { kind = kind; first = first; count = count }, to_fill.2) stands.buffer)
         (apart-kept passes co.apart i p (after_fetch p t) there region refl refl)
-        (subst flies (sym (tickets-same passes i p (after_fetch p t) there refl)) co.flight)
+        (subst flight (sym (tickets-same passes i p (after_fetch p t) there refl)) co.flight)
         (puts _ _ (fetches-put passes i p (after_fetch p t) t there none.fetch refl) co.base_flight)
 
     abbrev zeros : List Sector
     zeros = replicate shape.block zero_sector
 
-    pub zeros-coherent : IsCoherent shape fresh places (slice_set passes i (after_filled p zeros)) history sectors depth base_sectors base_depth flies base_flies
-    zeros-coherent = quiet-coherent co i p there (λ e. absurd (let h = to_fill.0 in cc)) (after_filled p zeros) (λ e. absurd (cc)) flies base_flies
+    pub zeros-coherent : IsCoherent shape fresh places (slice_set passes i (after_filled p zeros)) history sectors depth base_sectors base_depth flight base_flight
+    zeros-coherent = quiet-coherent co i p there (λ e. absurd (let h = to_fill.0 in cc)) (after_filled p zeros) (λ e. absurd (cc)) flight base_flight
         (moved-stands stands region Filled p.ticket None zeros refl (ap (λ (ph : Phase). pending_of ph p.piece) (sym to_fill.0)) (λ e. to_fill.1) (λ e. absurd (cc))
         (record { ticket = none.ticket; fetch = refl }, to_fill.2) (length-replicate shape.block zero_sector))
         (apart-kept passes co.apart i p (after_filled p zeros) there region refl refl)
-        (subst flies (sym (tickets-same passes i p (after_filled p zeros) there refl)) co.flight)
-        (subst base_flies (sym (fetches-same passes i p (after_filled p zeros) there (sym none.fetch))) co.base_flight)
+        (subst flight (sym (tickets-same passes i p (after_filled p zeros) there refl)) co.flight)
+        (subst base_flight (sym (fetches-same passes i p (after_filled p zeros) there (sym none.fetch))) co.base_flight)
 
   -- one that reads its block from the base
   module _ (p : Pass) (there : slice_get passes i ≡ Some p) (fetching : p.phase ≡ Fetching) (t : Ticket) (has : p.fetch ≡ Some t) where
-    now : StandsAs shape fresh places (standing history i) p
+    now : IsAsHistorySays shape fresh places (standing history i) p
     now = co.each i p there
 
     holds : has_region p.phase ≡ true
     holds = region-of _ Fetching refl fetching
 
-    fetch : HasTicket Fetching shape fresh p
+    fetch : HasInFlight Fetching shape fresh p
     fetch = fetch-ticket now fetching
 
     same : fetch.0 ≡ t
@@ -169,37 +169,37 @@ module _ {shape : Shape} {fresh : List Bool} {places : ℕ → Option ℕ} {pass
     is-fetch : IsFetch shape p t
     is-fetch = subst (IsFetch shape p) same fetch.3
 
-    within : (content : List Sector) → length content ≡ t.count → length content ≡ below shape.limit (shape.block * p.block) shape.block
+    within : (content : List Sector) → length content ≡ t.count → length content ≡ count_below shape.limit (shape.block * p.block) shape.block
     within content long = long ∙ is-fetch.count
 
     full : (content : List Sector) → length content ≡ t.count → length (content ++ replicate (shape.block - length content) zero_sector) ≡ shape.block
     full content long = length-padded content shape.block (let w = within content long in omega arith)
 
-    pub fetched-coherent : (answer : Settled) (content : List Sector) (base_flies' : List Ticket → Type 0) (out out' : List Sector) → length content ≡ t.count → Settles answer t out out' base_flies base_flies'
-        → IsCoherent shape fresh places (slice_set passes i (fetched answer p t shape.block content)) history sectors depth base_sectors base_depth flies base_flies'
-    fetched-coherent settled.Done content base_flies' out out' long takes =
+    pub fetched-coherent : (answer : Settled) (content : List Sector) (base_flight' : List Ticket → Type 0) (out out' : List Sector) → length content ≡ t.count → Settles answer t out out' base_flight base_flight'
+        → IsCoherent shape fresh places (slice_set passes i (after_base_read answer p t shape.block content)) history sectors depth base_sectors base_depth flight base_flight'
+    fetched-coherent settled.Done content base_flight' out out' long takes =
         let buffer = content ++ replicate (shape.block - length content) zero_sector in let p' = after_filled p buffer in
-        quiet-coherent co i p there (λ e. absurd (cc)) p' (λ e. absurd (cc)) flies base_flies'
+        quiet-coherent co i p there (λ e. absurd (cc)) p' (λ e. absurd (cc)) flight base_flight'
         (moved-stands now holds Filled p.ticket None buffer refl (ap (λ (ph : Phase). pending_of ph p.piece) (sym fetching)) (λ e. now.write (ap writes_in fetching)) (λ e. absurd (cc))
         (record { ticket = fetch.2; fetch = refl }, fetch.4) (full content long))
         (apart-kept passes co.apart i p p' there holds refl refl)
-        (subst flies (sym (tickets-same passes i p p' there refl)) co.flight)
+        (subst flight (sym (tickets-same passes i p p' there refl)) co.flight)
         (takes _ _ (fetches-taken passes i p p' t there has refl) co.base_flight)
-    fetched-coherent (settled.NotYet late) content base_flies' out out' long keeps =
-        quiet-coherent co i p there (λ e. absurd (cc)) p (λ e. absurd (cc)) flies base_flies' now (apart-kept passes co.apart i p p there holds refl refl)
-        (subst flies (sym (tickets-same passes i p p there refl)) co.flight)
-        (keeps.2 _ (subst base_flies (sym (fetches-same passes i p p there refl)) co.base_flight))
-    fetched-coherent (settled.Failed number) content base_flies' out out' long fails =
+    fetched-coherent (settled.NotYet late) content base_flight' out out' long keeps =
+        quiet-coherent co i p there (λ e. absurd (cc)) p (λ e. absurd (cc)) flight base_flight' now (apart-kept passes co.apart i p p there holds refl refl)
+        (subst flight (sym (tickets-same passes i p p there refl)) co.flight)
+        (keeps.2 _ (subst base_flight (sym (fetches-same passes i p p there refl)) co.base_flight))
+    fetched-coherent (settled.Failed number) content base_flight' out out' long fails =
         let p' = after_fault (fault.Base t.number) p in let piece = now.piece holds in
-        quiet-coherent co i p there (λ e. absurd (cc)) p' (λ e. absurd (cc)) flies base_flies'
+        quiet-coherent co i p there (λ e. absurd (cc)) p' (λ e. absurd (cc)) flight base_flight'
         (failed-stands now holds (fault.Base t.number) (ap (λ (ph : Phase). pending_of ph p.piece) fetching) ((let s = piece.some in let n = piece.no_more in omega arith), refl))
         (λ k r at ne. apart-free p' r refl)
-        (subst flies (sym (tickets-same passes i p p' there (sym fetch.2))) co.flight)
+        (subst flight (sym (tickets-same passes i p p' there (sym fetch.2))) co.flight)
         (fails.2 _ _ (fetches-taken passes i p p' t there has refl) co.base_flight)
 
     module _ {start : List Sector} {rest : ℕ → Sector} {disk : Disk} {last : ℕ} (fa : IsFaithful start rest shape fresh places passes history disk last) where
       pub fetched-faithful : (answer : Settled) (content base : List Sector) → length content ≡ t.count → Gives answer t content base → Backs rest shape.limit base
-          → IsFaithful start rest shape fresh places (slice_set passes i (fetched answer p t shape.block content)) history disk last
+          → IsFaithful start rest shape fresh places (slice_set passes i (after_base_read answer p t shape.block content)) history disk last
       fetched-faithful settled.Done content base long gives backs =
           let buffer = content ++ replicate (shape.block - length content) zero_sector in let p' = after_filled p buffer in
           still-faithful co i p there (λ e. absurd (cc)) p' (λ e. absurd (cc)) fa (λ u is. is)
@@ -210,17 +210,17 @@ module _ {shape : Shape} {fresh : List Bool} {places : ℕ → Option ℕ} {pass
           still-faithful co i p there (λ e. absurd (cc)) (after_fault (fault.Base t.number) p) (λ e. absurd (cc)) fa (λ u is. absurd (cc)) (λ e. absurd (cc))
 
 -- The steps, as their records say them.
-module _ {shape : Shape} {fresh : List Bool} {places : ℕ → Option ℕ} {passes passes' : List Pass} {history : List Entry} {sectors depth base_sectors base_depth i : ℕ} {flies base_flies : List Ticket → Type 0}
-    (co : IsCoherent shape fresh places passes history sectors depth base_sectors base_depth flies base_flies) where
-  module _ {base_flies' : List Ticket → Type 0} (at : IsAt passes i (IsToFill fresh)) (step : Fetches shape i passes passes' base_flies base_flies') where
+module _ {shape : Shape} {fresh : List Bool} {places : ℕ → Option ℕ} {passes passes' : List Pass} {history : List Entry} {sectors depth base_sectors base_depth i : ℕ} {flight base_flight : List Ticket → Type 0}
+    (co : IsCoherent shape fresh places passes history sectors depth base_sectors base_depth flight base_flight) where
+  module _ {base_flight' : List Ticket → Type 0} (at : IsAt passes i (IsToFill fresh)) (step : Fetches shape i passes passes' base_flight base_flight') where
     this : at.0 ≡ step.pass
     this = some-inj (sym at.1 ∙ step.there)
 
     to_fill : IsToFill fresh step.pass
     to_fill = subst (IsToFill fresh) this at.2
 
-    pub fetches-coherent : IsCoherent shape fresh places passes' history sectors depth base_sectors base_depth flies base_flies'
-    fetches-coherent = rw step.after (fetch-coherent co i step.pass step.there to_fill step.ticket base_flies' step.kind step.first step.count step.flight)
+    pub fetches-coherent : IsCoherent shape fresh places passes' history sectors depth base_sectors base_depth flight base_flight'
+    fetches-coherent = rw step.after (fetch-coherent co i step.pass step.there to_fill step.ticket base_flight' step.kind step.first step.count step.flight)
 
     pub fetches-faithful : {start : List Sector} {rest : ℕ → Sector} {disk : Disk} {last : ℕ} {tells : Type 0} → (tells → IsFaithful start rest shape fresh places passes history disk last) → tells → IsFaithful start rest shape fresh places passes' history disk last
     fetches-faithful {start} {rest} {disk} {last} {tells} fa told = rw step.after (still-faithful co i step.pass step.there (λ e. absurd (let h = to_fill.0 in cc)) (after_fetch step.pass step.ticket) (λ e. absurd (cc)) (fa told) (λ u is. is) (λ e. absurd (cc)))
@@ -232,7 +232,7 @@ module _ {shape : Shape} {fresh : List Bool} {places : ℕ → Option ℕ} {pass
     filled-held : IsToFill fresh step.pass
     filled-held = subst (IsToFill fresh) filled-pass at.2
 
-    pub fills_zeros-coherent : IsCoherent shape fresh places passes' history sectors depth base_sectors base_depth flies base_flies
+    pub fills_zeros-coherent : IsCoherent shape fresh places passes' history sectors depth base_sectors base_depth flight base_flight
     fills_zeros-coherent = rw step.after (zeros-coherent co i step.pass step.there filled-held)
 
     pub fills_zeros-faithful : {start : List Sector} {rest : ℕ → Sector} {disk : Disk} {last : ℕ} {tells : Type 0} (base : List Sector) → (tells → Backs rest shape.limit base)
@@ -241,12 +241,12 @@ module _ {shape : Shape} {fresh : List Bool} {places : ℕ → Option ℕ} {pass
         rw step.after (still-faithful co i step.pass step.there (λ e. absurd (let h = filled-held.0 in cc)) (after_filled step.pass (replicate shape.block zero_sector)) (λ e. absurd (cc)) (fa told) (λ u is. is)
         (λ e. zeros-are-rest rest shape.limit base (backs told) (shape.block * step.pass.block) shape.block step.nothing))
 
-  module _ {base_flies' : List Ticket → Type 0} {answer : Settled} {base_tells : Type 0} {base : List Sector} (at : IsAt passes i (λ p. p.phase ≡ Fetching)) (step : FetchSettled answer shape i passes passes' base_flies base_flies' base_tells base) where
+  module _ {base_flight' : List Ticket → Type 0} {answer : Settled} {base_tells : Type 0} {base : List Sector} (at : IsAt passes i (λ p. p.phase ≡ Fetching)) (step : FetchSettled answer shape i passes passes' base_flight base_flight' base_tells base) where
     fetching-pass : step.pass.phase ≡ Fetching
     fetching-pass = ap (λ (x : Pass). x.phase) (some-inj (sym step.there ∙ at.1)) ∙ at.2
 
-    pub fetch_settled-coherent : IsCoherent shape fresh places passes' history sectors depth base_sectors base_depth flies base_flies'
-    fetch_settled-coherent = let s = step.settles in rw step.after (fetched-coherent co i step.pass step.there fetching-pass step.ticket step.has answer step.content base_flies' s.0 s.1 step.long s.2)
+    pub fetch_settled-coherent : IsCoherent shape fresh places passes' history sectors depth base_sectors base_depth flight base_flight'
+    fetch_settled-coherent = let s = step.settles in rw step.after (fetched-coherent co i step.pass step.there fetching-pass step.ticket step.has answer step.content base_flight' s.0 s.1 step.long s.2)
 
     pub fetch_settled-faithful : {start : List Sector} {rest : ℕ → Sector} {disk : Disk} {last : ℕ} {tells : Type 0} → (tells → base_tells) → (tells → Backs rest shape.limit base)
         → (tells → IsFaithful start rest shape fresh places passes history disk last) → tells → IsFaithful start rest shape fresh places passes' history disk last

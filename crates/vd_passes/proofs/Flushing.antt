@@ -7,7 +7,7 @@ use Rattle.vd_device.specs.declared.ticket.Ticket.{Ticket}
 use Rattle.vd_device.specs.declared.ticket.Kind.TheVariants.{Write as WriteKind}
 use Rattle.vd_device.specs.declared.settled.Settled.{Settled}
 use Rattle.vd_device.specs.declared.settled.Settled.TheVariants as settled
-use Rattle.vd_device.specs.Tickets.{IsFree, HasPlace, IsInFlight, AreApart as RangesApart}
+use Rattle.vd_device.specs.Tickets.{IsFree, HasPlace, IsInFlight, AreRangesApart as RangesApart}
 use Rattle.vd_device.specs.Calls.{Settles}
 use Rattle.vd_device.specs.Disks.{Disk}
 use Rattle.vd_passes.specs.declared.shape.Shape.{Shape}
@@ -17,12 +17,12 @@ use Rattle.vd_passes.specs.declared.pass.Phase.TheVariants.{Idle, Asked as HasAs
 use Rattle.vd_passes.specs.declared.pass.Fault.{Fault}
 use Rattle.vd_passes.specs.declared.pass.Fault.TheVariants as fault
 use Rattle.vd_passes.specs.Standings.{Standing, standing}
-use Rattle.vd_passes.specs.Passes.{has_region, region_of, pending_of, tickets_of, IsRequestOf, IsMeta, HasTicket, HasOutcome, StandsAs, after_meta, after_flush, after_fault}
+use Rattle.vd_passes.specs.Passes.{has_region, region_of, pending_of, tickets_of, IsRequestOf, IsMeta, HasInFlight, HasOutcome, IsAsHistorySays, after_meta, after_flush, after_fault}
 use Rattle.vd_passes.specs.Coherent.{IsCoherent}
 use Rattle.vd_passes.specs.Steps.{IsAt, SubmitsMeta, meta_settled, MetaSettled, EndsFlush}
 use Rattle.vd_passes.proofs.Lists.{some-inj, tickets-put, tickets-taken, tickets-same, fetches-same, few-tickets, all-tickets}
 use Rattle.vd_passes.proofs.Regions.{region-of, issuing-place, request-kept}
-use Rattle.vd_passes.proofs.Calm.{quiet-coherent, apart-free}
+use Rattle.vd_passes.proofs.NotIssuing.{quiet-coherent, apart-free}
 use Rattle.vd_passes.proofs.Holding.{region-none, regions-kept}
 use Rattle.vd_passes.proofs.Settling.{in-flight}
 use Rattle.vd_passes.proofs.Ready.{writes-there, stored-in}
@@ -49,12 +49,12 @@ flush-empty p (Read first count) is serves = absurd (let f = is.3 in cc)
 flush-empty p (Write first content) is serves = absurd (let f = is.3 in cc)
 flush-empty p Flush is serves = (is.0, is.2)
 
-module _ {shape : Shape} {fresh : List Bool} {places : ℕ → Option ℕ} {t : Standing} {p : Pass} (stands : StandsAs shape fresh places t p) where
-  pub flush-ticket : p.phase ≡ Flushing → HasTicket Flushing shape fresh p
-  flush-ticket is = subst (λ ph. HasTicket ph shape fresh p) is stands.ticket
+module _ {shape : Shape} {fresh : List Bool} {places : ℕ → Option ℕ} {t : Standing} {p : Pass} (stands : IsAsHistorySays shape fresh places t p) where
+  pub flush-ticket : p.phase ≡ Flushing → HasInFlight Flushing shape fresh p
+  flush-ticket is = subst (λ ph. HasInFlight ph shape fresh p) is stands.ticket
 
-  pub asked-ticket : p.phase ≡ HasAsked → HasTicket HasAsked shape fresh p
-  asked-ticket is = subst (λ ph. HasTicket ph shape fresh p) is stands.ticket
+  pub asked-ticket : p.phase ≡ HasAsked → HasInFlight HasAsked shape fresh p
+  asked-ticket is = subst (λ ph. HasInFlight ph shape fresh p) is stands.ticket
 
   module _ (under_way : IsFlushing p) where
     -- it reads nothing from the base
@@ -78,7 +78,7 @@ module _ {shape : Shape} {fresh : List Bool} {places : ℕ → Option ℕ} {t : 
       going ticket = record p { phase = Flushing; ticket = ticket }
 
       -- it goes on with its flush
-      pub meta-stands : (ticket : Option Ticket) → ((u : Ticket) → ticket ≡ Some u → IsMeta shape u) → StandsAs shape fresh places t (going ticket)
+      pub meta-stands : (ticket : Option Ticket) → ((u : Ticket) → ticket ≡ Some u → IsMeta shape u) → IsAsHistorySays shape fresh places t (going ticket)
       meta-stands ticket metas = record {
         call = stands.call;
         idle = λ e. absurd (cc);
@@ -110,7 +110,7 @@ module _ {shape : Shape} {fresh : List Bool} {places : ℕ → Option ℕ} {t : 
       EndsFor why = (why ≡ None) ⊎ ((number : ℕ) × (why ≡ Some (fault.Store number))) ⊎ ((generation : ℕ) × (why ≡ Some (fault.Worn generation)))
 
       -- its outcome is known
-      pub ended-stands : (why : Option Fault) (ticket fetch : Option Ticket) → EndsFor why → ticket ≡ None → fetch ≡ None → StandsAs shape fresh places t (ended why ticket fetch)
+      pub ended-stands : (why : Option Fault) (ticket fetch : Option Ticket) → EndsFor why → ticket ≡ None → fetch ≡ None → IsAsHistorySays shape fresh places t (ended why ticket fetch)
       ended-stands why ticket fetch cause no_ticket no_fetch =
           let p' = ended why ticket fetch in let whole = stands.whole busy unready in
           record {
@@ -142,53 +142,53 @@ module _ {shape : Shape} {fresh : List Bool} {places : ℕ → Option ℕ} {t : 
             buffer = stands.buffer;
           }
 
-module _ {shape : Shape} {fresh : List Bool} {places : ℕ → Option ℕ} {passes : List Pass} {history : List Entry} {sectors depth base_sectors base_depth : ℕ} {flies base_flies : List Ticket → Type 0}
-    (co : IsCoherent shape fresh places passes history sectors depth base_sectors base_depth flies base_flies) where
+module _ {shape : Shape} {fresh : List Bool} {places : ℕ → Option ℕ} {passes : List Pass} {history : List Entry} {sectors depth base_sectors base_depth : ℕ} {flight base_flight : List Ticket → Type 0}
+    (co : IsCoherent shape fresh places passes history sectors depth base_sectors base_depth flight base_flight) where
   -- A pass changes that has its flush under way before the step, and neither issues nor has a region after it.
   module _ (i : ℕ) (p : Pass) (there : slice_get passes i ≡ Some p) (under_way : IsFlushing p) where
-    pub flushing-calm : p.phase ≢ Issuing
-    flushing-calm = flushing-not p Issuing under_way (λ e. cc) (λ e. cc)
+    pub flushing-not-issuing : p.phase ≢ Issuing
+    flushing-not-issuing = flushing-not p Issuing under_way (λ e. cc) (λ e. cc)
 
-    flush-coherent : (p' : Pass) (flies' : List Ticket → Type 0) → has_region p'.phase ≡ false → p'.fetch ≡ None → StandsAs shape fresh places (standing history i) p' → flies' (tickets_of (slice_set passes i p'))
-        → IsCoherent shape fresh places (slice_set passes i p') history sectors depth base_sectors base_depth flies' base_flies
-    flush-coherent p' flies' no_region no_fetch stands flight = quiet-coherent co i p there flushing-calm p' (λ e. absurd (let h = ap has_region e in cc)) flies' base_flies stands
+    flush-coherent : (p' : Pass) (flight' : List Ticket → Type 0) → has_region p'.phase ≡ false → p'.fetch ≡ None → IsAsHistorySays shape fresh places (standing history i) p' → flight' (tickets_of (slice_set passes i p'))
+        → IsCoherent shape fresh places (slice_set passes i p') history sectors depth base_sectors base_depth flight' base_flight
+    flush-coherent p' flight' no_region no_fetch stands flight = quiet-coherent co i p there flushing-not-issuing p' (λ e. absurd (let h = ap has_region e in cc)) flight' base_flight stands
         (λ k r at ne. apart-free p' r no_region)
         flight
-        (subst base_flies (sym (fetches-same passes i p p' there (no_fetch ∙ sym (flush-fetch (co.each i p there) under_way)))) co.base_flight)
+        (subst base_flight (sym (fetches-same passes i p p' there (no_fetch ∙ sym (flush-fetch (co.each i p there) under_way)))) co.base_flight)
 
   -- A call is settled.
   module _ (i : ℕ) (p : Pass) (there : slice_get passes i ≡ Some p) (flushing : p.phase ≡ Flushing) (u : Ticket) (has : p.ticket ≡ Some u) where
-    stood : StandsAs shape fresh places (standing history i) p
+    stood : IsAsHistorySays shape fresh places (standing history i) p
     stood = co.each i p there
 
-    settled-coherent : (answer : Settled) (flies' : List Ticket → Type 0) (out out' : List Sector) → Settles answer u out out' flies flies'
-        → IsCoherent shape fresh places (slice_set passes i (meta_settled answer p u)) history sectors depth base_sectors base_depth flies' base_flies
-    settled-coherent settled.Done flies' out out' takes =
+    settled-coherent : (answer : Settled) (flight' : List Ticket → Type 0) (out out' : List Sector) → Settles answer u out out' flight flight'
+        → IsCoherent shape fresh places (slice_set passes i (meta_settled answer p u)) history sectors depth base_sectors base_depth flight' base_flight
+    settled-coherent settled.Done flight' out out' takes =
         let p' : Pass = record p { ticket = None } in
-        flush-coherent i p there (inr flushing) p' flies' (ap has_region flushing) (flush-fetch stood (inr flushing))
-        (subst (λ (ph : Phase). StandsAs shape fresh places (standing history i) (record p { phase = ph; ticket = None })) (sym flushing) (meta-stands stood (inr flushing) (stood.flush flushing) None (λ v is. absurd (cc))))
+        flush-coherent i p there (inr flushing) p' flight' (ap has_region flushing) (flush-fetch stood (inr flushing))
+        (subst (λ (ph : Phase). IsAsHistorySays shape fresh places (standing history i) (record p { phase = ph; ticket = None })) (sym flushing) (meta-stands stood (inr flushing) (stood.flush flushing) None (λ v is. absurd (cc))))
         (takes _ _ (tickets-taken passes i p p' u there has refl) co.flight)
-    settled-coherent (settled.NotYet same) flies' out out' keeps =
-        flush-coherent i p there (inr flushing) p flies' (ap has_region flushing) (flush-fetch stood (inr flushing)) stood
-        (keeps.2 _ (subst flies (sym (tickets-same passes i p p there refl)) co.flight))
-    settled-coherent (settled.Failed number) flies' out out' fails =
+    settled-coherent (settled.NotYet same) flight' out out' keeps =
+        flush-coherent i p there (inr flushing) p flight' (ap has_region flushing) (flush-fetch stood (inr flushing)) stood
+        (keeps.2 _ (subst flight (sym (tickets-same passes i p p there refl)) co.flight))
+    settled-coherent (settled.Failed number) flight' out out' fails =
         let p' = after_fault (fault.Store u.number) p in
-        flush-coherent i p there (inr flushing) p' flies' refl refl
+        flush-coherent i p there (inr flushing) p' flight' refl refl
         (ended-stands stood (inr flushing) (stood.flush flushing) (Some (fault.Store u.number)) None None (inr (inl (u.number, refl))) refl refl)
         (fails.2 _ _ (tickets-taken passes i p p' u there has refl) co.flight)
 
   -- The steps, as their records say them.
   module _ {i : ℕ} {passes' : List Pass} where
-    module _ {flies' : List Ticket → Type 0} {tells tells' : Type 0} {disk disk' : Disk} {last last' : ℕ} where
-      pub submits_meta-coherent : {content : List Sector} → SubmitsMeta content shape i passes passes' flies flies' tells tells' disk disk' last last' → IsCoherent shape fresh places passes' history sectors depth base_sectors base_depth flies' base_flies
+    module _ {flight' : List Ticket → Type 0} {tells tells' : Type 0} {disk disk' : Disk} {last last' : ℕ} where
+      pub submits_meta-coherent : {content : List Sector} → SubmitsMeta content shape i passes passes' flight flight' tells tells' disk disk' last last' → IsCoherent shape fresh places passes' history sectors depth base_sectors base_depth flight' base_flight
       submits_meta-coherent {content} step =
           let p = step.pass in let p' = after_meta p step.ticket in let stands = co.each i p step.there in
-          rw step.after (flush-coherent i p step.there step.phase p' flies' refl (flush-fetch stands step.phase)
+          rw step.after (flush-coherent i p step.there step.phase p' flight' refl (flush-fetch stands step.phase)
           (meta-stands stands step.phase step.serves (Some step.ticket) (λ v is. subst (IsMeta shape) (some-inj is) step.is_meta))
           (step.flight _ _ (tickets-put passes i p p' step.ticket step.there step.none refl) co.flight))
 
-      pub meta_settled-coherent : {answer : Settled} → MetaSettled answer i passes passes' flies flies' tells tells' disk disk' last last' → IsCoherent shape fresh places passes' history sectors depth base_sectors base_depth flies' base_flies
-      meta_settled-coherent {answer} step = let s = step.settles in rw step.after (settled-coherent i step.pass step.there step.phase step.ticket step.has answer flies' s.0 s.1 s.2)
+      pub meta_settled-coherent : {answer : Settled} → MetaSettled answer i passes passes' flight flight' tells tells' disk disk' last last' → IsCoherent shape fresh places passes' history sectors depth base_sectors base_depth flight' base_flight
+      meta_settled-coherent {answer} step = let s = step.settles in rw step.after (settled-coherent i step.pass step.there step.phase step.ticket step.has answer flight' s.0 s.1 s.2)
 
     ends-way : {why : Option Fault} (step : EndsFlush why i passes passes') → IsFlushing step.pass
     ends-way {why} step = elim step.cause [ inl over ↦ inr over.1 | inr worn ↦ inl worn.2 ]
@@ -196,23 +196,23 @@ module _ {shape : Shape} {fresh : List Bool} {places : ℕ → Option ℕ} {pass
     ends-for : {why : Option Fault} (step : EndsFlush why i passes passes') → (why ≡ None) ⊎ ((number : ℕ) × (why ≡ Some (fault.Store number))) ⊎ ((generation : ℕ) × (why ≡ Some (fault.Worn generation)))
     ends-for {why} step = elim step.cause [ inl over ↦ inl over.0 | inr worn ↦ inr (inr (worn.0, worn.1)) ]
 
-    pub ends_flush-coherent : {why : Option Fault} → EndsFlush why i passes passes' → IsCoherent shape fresh places passes' history sectors depth base_sectors base_depth flies base_flies
+    pub ends_flush-coherent : {why : Option Fault} → EndsFlush why i passes passes' → IsCoherent shape fresh places passes' history sectors depth base_sectors base_depth flight base_flight
     ends_flush-coherent {why} step =
         let p = step.pass in let p' = after_flush p why in let stands = co.each i p step.there in let way = ends-way step in let fetch = flush-fetch stands way in
-        rw step.after (flush-coherent i p step.there way p' flies refl fetch
+        rw step.after (flush-coherent i p step.there way p' flight refl fetch
         (ended-stands stands way step.serves why p.ticket p.fetch (ends-for step) step.none fetch)
-        (subst flies (sym (tickets-same passes i p p' step.there refl)) co.flight))
+        (subst flight (sym (tickets-same passes i p p' step.there refl)) co.flight))
 
   -- There is a place for one more call of the store.
   few-calls : length (tickets_of passes) < depth
   few-calls = let few = co.few in let deep = co.deep in omega (arith, few-tickets passes)
 
-  pub store-place : HasPlace flies depth
+  pub store-place : HasPlace flight depth
   store-place = (tickets_of passes, co.flight, few-calls)
 
   module _ (i : ℕ) where
     -- What a flush in flight has there.
-    pub flushing-ticket : (at : IsAt passes i (λ p. p.phase ≡ Flushing)) (u : Ticket) → at.0.ticket ≡ Some u → IsInFlight flies u × IsMeta shape u × (at.0.fetch ≡ None)
+    pub flushing-ticket : (at : IsAt passes i (λ p. p.phase ≡ Flushing)) (u : Ticket) → at.0.ticket ≡ Some u → IsInFlight flight u × IsMeta shape u × (at.0.fetch ≡ None)
     flushing-ticket at u has = let its = flush-ticket (co.each i at.0 at.1) at.2 in (in-flight passes co.flight i at.0 u at.1 has, its.1 u has, its.0)
 
     -- Where no other pass flushes, no write in flight touches what lies below the storage.
@@ -230,7 +230,7 @@ module _ {shape : Shape} {fresh : List Bool} {places : ℕ → Option ℕ} {pass
             ])
           ]
 
-      pub below-free : (first count : ℕ) → first + count ≤ shape.storage_at → IsFree flies depth first count
+      pub below-free : (first count : ℕ) → first + count ≤ shape.storage_at → IsFree flight depth first count
       below-free first count low = (tickets_of passes, co.flight, few-calls, all-tickets _ passes (below-apart first count low))
 
 -- The regions that the passes hold stay as they are.
@@ -242,14 +242,14 @@ settled-region settled.Done p ticket is = ap has_region is
 settled-region (settled.NotYet same) p ticket is = ap has_region is
 settled-region (settled.Failed number) p ticket is = refl
 
-pub submits_meta-regions : {content : List Sector} {shape : Shape} {i : ℕ} {passes passes' : List Pass} {flies flies' : List Ticket → Type 0} {tells tells' : Type 0} {disk disk' : Disk} {last last' : ℕ}
-    → SubmitsMeta content shape i passes passes' flies flies' tells tells' disk disk' last last' → map region_of passes' ≡ map region_of passes
-submits_meta-regions {content} {shape} {i} {passes} {passes'} {flies} {flies'} {tells} {tells'} {disk} {disk'} {last} {last'} step =
+pub submits_meta-regions : {content : List Sector} {shape : Shape} {i : ℕ} {passes passes' : List Pass} {flight flight' : List Ticket → Type 0} {tells tells' : Type 0} {disk disk' : Disk} {last last' : ℕ}
+    → SubmitsMeta content shape i passes passes' flight flight' tells tells' disk disk' last last' → map region_of passes' ≡ map region_of passes
+submits_meta-regions {content} {shape} {i} {passes} {passes'} {flight} {flight'} {tells} {tells'} {disk} {disk'} {last} {last'} step =
     rw step.after (kept-none passes i step.pass _ step.there (flushing-region step.pass step.phase) refl)
 
-pub meta_settled-regions : {answer : Settled} {i : ℕ} {passes passes' : List Pass} {flies flies' : List Ticket → Type 0} {tells tells' : Type 0} {disk disk' : Disk} {last last' : ℕ}
-    → MetaSettled answer i passes passes' flies flies' tells tells' disk disk' last last' → map region_of passes' ≡ map region_of passes
-meta_settled-regions {answer} {i} {passes} {passes'} {flies} {flies'} {tells} {tells'} {disk} {disk'} {last} {last'} step =
+pub meta_settled-regions : {answer : Settled} {i : ℕ} {passes passes' : List Pass} {flight flight' : List Ticket → Type 0} {tells tells' : Type 0} {disk disk' : Disk} {last last' : ℕ}
+    → MetaSettled answer i passes passes' flight flight' tells tells' disk disk' last last' → map region_of passes' ≡ map region_of passes
+meta_settled-regions {answer} {i} {passes} {passes'} {flight} {flight'} {tells} {tells'} {disk} {disk'} {last} {last'} step =
     rw step.after (kept-none passes i step.pass _ step.there (ap has_region step.phase) (settled-region answer step.pass step.ticket step.phase))
 
 pub ends_flush-regions : {why : Option Fault} {i : ℕ} {passes passes' : List Pass} → EndsFlush why i passes passes' → map region_of passes' ≡ map region_of passes

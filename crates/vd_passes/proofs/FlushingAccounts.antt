@@ -14,10 +14,10 @@ use Rattle.vd_passes.specs.declared.pass.Phase.TheVariants.{Idle, Flushing}
 use Rattle.vd_passes.specs.declared.pass.Fault.{Fault}
 use Rattle.vd_passes.specs.declared.pass.Fault.TheVariants as fault
 use Rattle.vd_passes.specs.Needs.{pieces_left, events_needed, HasRoom}
-use Rattle.vd_passes.specs.Passes.{call_of, IsRequestOf, after_meta, after_flush, after_fault}
+use Rattle.vd_passes.specs.Passes.{call_id, IsRequestOf, after_meta, after_flush, after_fault}
 use Rattle.vd_passes.specs.Coherent.{IsCoherent}
 use Rattle.vd_passes.specs.Steps.{IsAt, meta_entry, SubmitsMeta, meta_settled, MetaSettled, EndsFlush}
-use Rattle.vd_passes.specs.Causes.{Device, OfStore, OfBase, number_of, fault_of, IsBlamed, IsNumbered, AreOfPasses}
+use Rattle.vd_passes.specs.Causes.{Device, OfStore, OfBase, ticket_number, ticket_of_fault, FaultsAddUp, HasNextTicket, AreOfPasses}
 use Rattle.vd_passes.specs.Tracing.{IsTicketOf}
 use Rattle.vd_passes.specs.Following.{IsFollowed}
 use Rattle.vd_passes.proofs.Blaming.{flying-same, kept-untold, numbered-untold, failed-untold}
@@ -51,55 +51,55 @@ meta_settled-same (settled.Failed number) p ticket = (refl, refl, refl)
 
 -- What is told of the devices has its cause.
 
-worn-names : (device : Device) (generation : ℕ) → fault_of device (Some (fault.Worn generation)) ≡ None
+worn-names : (device : Device) (generation : ℕ) → ticket_of_fault device (Some (fault.Worn generation)) ≡ None
 worn-names OfStore generation = refl
 worn-names OfBase generation = refl
 
 module _ {passes : List Pass} {history : List Entry} {last faults_at_opening faults : ℕ} (i : ℕ) (p : Pass) (there : slice_get passes i ≡ Some p) (u : Ticket) where
-  settled-store : p.ticket ≡ Some u → IsBlamed OfStore passes history last faults_at_opening faults → (answer : Settled) (faults' late late' : ℕ) → IsCaused answer faults faults' late late'
-      → IsBlamed OfStore (slice_set passes i (meta_settled answer p u)) history last faults_at_opening faults'
+  settled-store : p.ticket ≡ Some u → FaultsAddUp OfStore passes history last faults_at_opening faults → (answer : Settled) (faults' late late' : ℕ) → IsCaused answer faults faults' late late'
+      → FaultsAddUp OfStore (slice_set passes i (meta_settled answer p u)) history last faults_at_opening faults'
   settled-store has blamed settled.Done faults' late late' cause = kept-untold blamed i there (record p { ticket = None }) (inr refl) (inl refl) (omega arith) cause.0
   settled-store has blamed (settled.NotYet same) faults' late late' cause = kept-untold blamed i there p (inl refl) (inl refl) (omega arith) cause.0.0
-  settled-store has blamed (settled.Failed number) faults' late late' cause = failed-untold blamed i there (after_fault (fault.Store u.number) p) (sym (ap number_of has)) refl cause.1
+  settled-store has blamed (settled.Failed number) faults' late late' cause = failed-untold blamed i there (after_fault (fault.Store u.number) p) (sym (ap ticket_number has)) refl cause.1
 
-  settled-base : IsBlamed OfBase passes history last faults_at_opening faults → (answer : Settled) → IsBlamed OfBase (slice_set passes i (meta_settled answer p u)) history last faults_at_opening faults
+  settled-base : FaultsAddUp OfBase passes history last faults_at_opening faults → (answer : Settled) → FaultsAddUp OfBase (slice_set passes i (meta_settled answer p u)) history last faults_at_opening faults
   settled-base blamed settled.Done = kept-untold blamed i there (record p { ticket = None }) (inl refl) (inl refl) (omega arith) (omega arith)
   settled-base blamed (settled.NotYet same) = kept-untold blamed i there p (inl refl) (inl refl) (omega arith) (omega arith)
   settled-base blamed (settled.Failed number) = kept-untold blamed i there (after_fault (fault.Store u.number) p) (inr refl) (inr refl) (omega arith) (omega arith)
 
 module _ {passes passes' : List Pass} {history : List Entry} {i : ℕ} where
-  module _ {content : List Sector} {shape : Shape} {flies flies' : List Ticket → Type 0} {tells tells' : Type 0} {disk disk' : Disk} {store_last store_last' : ℕ}
-      (step : SubmitsMeta content shape i passes passes' flies flies' tells tells' disk disk' store_last store_last') where
-    pub submits_meta-blamed : {device : Device} {last last' faults_at_opening faults faults' : ℕ} → IsBlamed device passes history last faults_at_opening faults → IsAt passes' i (IsNumbered device last last') → faults ≤ faults'
-        → IsBlamed device passes' history last' faults_at_opening faults'
+  module _ {content : List Sector} {shape : Shape} {flight flight' : List Ticket → Type 0} {tells tells' : Type 0} {disk disk' : Disk} {store_last store_last' : ℕ}
+      (step : SubmitsMeta content shape i passes passes' flight flight' tells tells' disk disk' store_last store_last') where
+    pub submits_meta-blamed : {device : Device} {last last' faults_at_opening faults faults' : ℕ} → FaultsAddUp device passes history last faults_at_opening faults → IsAt passes' i (HasNextTicket device last last') → faults ≤ faults'
+        → FaultsAddUp device passes' history last' faults_at_opening faults'
     submits_meta-blamed {device} {last} {last'} {faults_at_opening} {faults} {faults'} blamed at rise = let p' = after_meta step.pass step.ticket in
         rw step.after (numbered-untold blamed i step.there p' (numbered-at device passes passes' last last' i step.pass p' step.there step.after at) refl rise)
 
-    pub submits_meta-base_blamed : {last faults_at_opening faults : ℕ} → IsBlamed OfBase passes history last faults_at_opening faults → IsBlamed OfBase passes' history last faults_at_opening faults
+    pub submits_meta-base_blamed : {last faults_at_opening faults : ℕ} → FaultsAddUp OfBase passes history last faults_at_opening faults → FaultsAddUp OfBase passes' history last faults_at_opening faults
     submits_meta-base_blamed {last} {faults_at_opening} {faults} blamed = rw step.after (kept-untold blamed i step.there (after_meta step.pass step.ticket) (inl refl) (inr refl) (omega arith) (omega arith))
 
     pub submits_meta-of-passes : AreOfPasses passes history → AreOfPasses passes' history
     submits_meta-of-passes = set-of-passes i (after_meta step.pass step.ticket) step.after
 
-  module _ {answer : Settled} {flies flies' : List Ticket → Type 0} {tells tells' : Type 0} {disk disk' : Disk} {store_last store_last' : ℕ}
-      (step : MetaSettled answer i passes passes' flies flies' tells tells' disk disk' store_last store_last') where
-    pub meta_settled-blamed : {faults_at_opening faults faults' : ℕ} → IsBlamed OfStore passes history store_last faults_at_opening faults → (late late' : ℕ) → IsCaused answer faults faults' late late' → IsBlamed OfStore passes' history store_last' faults_at_opening faults'
+  module _ {answer : Settled} {flight flight' : List Ticket → Type 0} {tells tells' : Type 0} {disk disk' : Disk} {store_last store_last' : ℕ}
+      (step : MetaSettled answer i passes passes' flight flight' tells tells' disk disk' store_last store_last') where
+    pub meta_settled-blamed : {faults_at_opening faults faults' : ℕ} → FaultsAddUp OfStore passes history store_last faults_at_opening faults → (late late' : ℕ) → IsCaused answer faults faults' late late' → FaultsAddUp OfStore passes' history store_last' faults_at_opening faults'
     meta_settled-blamed {faults_at_opening} {faults} {faults'} blamed late late' cause = rw (step.after, step.number) (settled-store i step.pass step.there step.ticket step.has blamed answer faults' late late' cause)
 
-    pub meta_settled-base_blamed : {last faults_at_opening faults : ℕ} → IsBlamed OfBase passes history last faults_at_opening faults → IsBlamed OfBase passes' history last faults_at_opening faults
+    pub meta_settled-base_blamed : {last faults_at_opening faults : ℕ} → FaultsAddUp OfBase passes history last faults_at_opening faults → FaultsAddUp OfBase passes' history last faults_at_opening faults
     meta_settled-base_blamed {last} {faults_at_opening} {faults} blamed = rw step.after (settled-base i step.pass step.there step.ticket blamed answer)
 
     pub meta_settled-of-passes : AreOfPasses passes history → AreOfPasses passes' history
     meta_settled-of-passes = set-of-passes i (meta_settled answer step.pass step.ticket) step.after
 
 module _ {why : Option Fault} {passes passes' : List Pass} {i : ℕ} (step : EndsFlush why i passes passes') where
-  ends-names : (device : Device) → fault_of device why ≡ None
+  ends-names : (device : Device) → ticket_of_fault device why ≡ None
   ends-names device = elim step.cause [
     | inl over ↦ faultless device why over.0
-    | inr worn ↦ ap (fault_of device) worn.1 ∙ worn-names device worn.0
+    | inr worn ↦ ap (ticket_of_fault device) worn.1 ∙ worn-names device worn.0
   ]
 
-  pub ends_flush-blamed : {device : Device} {history : List Entry} {last faults_at_opening faults : ℕ} → IsBlamed device passes history last faults_at_opening faults → IsBlamed device passes' history last faults_at_opening faults
+  pub ends_flush-blamed : {device : Device} {history : List Entry} {last faults_at_opening faults : ℕ} → FaultsAddUp device passes history last faults_at_opening faults → FaultsAddUp device passes' history last faults_at_opening faults
   ends_flush-blamed {device} {history} {last} {faults_at_opening} {faults} blamed = let p' = after_flush step.pass why in
       rw step.after (kept-untold blamed i step.there p' (inl (flying-same device step.pass p' refl refl)) (inr (ends-names device)) (omega arith) (omega arith))
 
@@ -123,13 +123,13 @@ module _ {passes : List Pass} {history : List Entry} {numbers : List ℕ} {log l
   settled-followed (settled.NotYet same) told = let grown = less-followed followed _ told in set-followed grown there (grown.each i p there)
   settled-followed (settled.Failed number) told =
       let e = failed_entry u.kind u in let grown = less-followed followed (e ∷ []) told in let p' = after_fault (fault.Store u.number) p in
-      let traced = traced-now (followed.each i p there) (λ f. cc) u.number e told (failure u.kind u) (flush-ticket-of log history numbers (call_of i p) p u.number serves) in
+      let traced = traced-now (followed.each i p there) (λ f. cc) u.number e told (failure u.kind u) (flush-ticket-of log history numbers (call_id i p) p u.number serves) in
       set-followed grown there (fails-on (grown.each i p there) (λ f. cc) p' refl refl refl refl refl u.number refl refl traced)
 
 module _ {passes passes' : List Pass} {history : List Entry} {numbers : List ℕ} {i : ℕ} where
-  pub submits_meta-followed : {content : List Sector} {shape : Shape} {flies flies' : List Ticket → Type 0} {tells tells' : Type 0} {disk disk' : Disk} {last last' : ℕ} → IsFollowed passes history numbers disk.log
-      → (step : SubmitsMeta content shape i passes passes' flies flies' tells tells' disk disk' last last') → Adds (meta_entry step.ticket.kind step.ticket content) disk disk' → IsFollowed passes' history numbers disk'.log
-  submits_meta-followed {content} {shape} {flies} {flies'} {tells} {tells'} {disk} {disk'} {last} {last'} followed step told =
+  pub submits_meta-followed : {content : List Sector} {shape : Shape} {flight flight' : List Ticket → Type 0} {tells tells' : Type 0} {disk disk' : Disk} {last last' : ℕ} → IsFollowed passes history numbers disk.log
+      → (step : SubmitsMeta content shape i passes passes' flight flight' tells tells' disk disk' last last') → Adds (meta_entry step.ticket.kind step.ticket content) disk disk' → IsFollowed passes' history numbers disk'.log
+  submits_meta-followed {content} {shape} {flight} {flight'} {tells} {tells'} {disk} {disk'} {last} {last'} followed step told =
       let p = step.pass in let grown = less-followed followed (meta_entry step.ticket.kind step.ticket content ∷ []) told.log in
       rw step.after (set-followed grown step.there (goes-on (grown.each i p step.there) (flushing-not p Idle step.phase (λ e. cc) (λ e. cc)) (after_meta p step.ticket) refl refl refl refl refl (λ e. cc) (λ e. cc) (λ is. absurd (cc))))
 
@@ -139,9 +139,9 @@ module _ {passes passes' : List Pass} {history : List Entry} {numbers : List ℕ
       rw step.after (set-followed followed step.there (goes-on (followed.each i p step.there) (flushing-not p Idle way (λ e. cc) (λ e. cc)) (after_flush p why) refl refl refl refl refl (λ e. cc) (λ e. cc)
       (λ is ticket names. elim step.cause [ inl over ↦ let none = over.0 in cc | inr worn ↦ let other = worn.1 in cc ])))
 
-  module _ {shape : Shape} {fresh : List Bool} {places : ℕ → Option ℕ} {sectors depth base_sectors base_depth : ℕ} {flies base_flies : List Ticket → Type 0}
-      (co : IsCoherent shape fresh places passes history sectors depth base_sectors base_depth flies base_flies) where
-    pub meta_settled-followed : {answer : Settled} {flies' : List Ticket → Type 0} {tells tells' : Type 0} {disk disk' : Disk} {last last' : ℕ} → IsFollowed passes history numbers disk.log
-        → (step : MetaSettled answer i passes passes' flies flies' tells tells' disk disk' last last') → Tells answer step.ticket [] disk disk' → IsFollowed passes' history numbers disk'.log
-    meta_settled-followed {answer} {flies'} {tells} {tells'} {disk} {disk'} {last} {last'} followed step told =
+  module _ {shape : Shape} {fresh : List Bool} {places : ℕ → Option ℕ} {sectors depth base_sectors base_depth : ℕ} {flight base_flight : List Ticket → Type 0}
+      (co : IsCoherent shape fresh places passes history sectors depth base_sectors base_depth flight base_flight) where
+    pub meta_settled-followed : {answer : Settled} {flight' : List Ticket → Type 0} {tells tells' : Type 0} {disk disk' : Disk} {last last' : ℕ} → IsFollowed passes history numbers disk.log
+        → (step : MetaSettled answer i passes passes' flight flight' tells tells' disk disk' last last') → Tells answer step.ticket [] disk disk' → IsFollowed passes' history numbers disk'.log
+    meta_settled-followed {answer} {flight'} {tells} {tells'} {disk} {disk'} {last} {last'} followed step told =
         rw step.after (settled-followed followed i step.pass step.there step.phase ((co.each i step.pass step.there).flush step.phase) step.ticket answer told.grows.log)

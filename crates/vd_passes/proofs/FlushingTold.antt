@@ -23,9 +23,9 @@ use Rattle.vd_passes.specs.Coherent.{IsCoherent, IsFaithful, IsFilled}
 use Rattle.vd_passes.specs.Steps.{meta_entry, SubmitsMeta, meta_settled, MetaSettled, EndsFlush}
 use Rattle.vd_passes.proofs.Lists.{some-inj}
 use Rattle.vd_passes.proofs.Tracks.{disk-track, none-past, ask-same, reply-same, issue-off, done-none, done-other, broke-contents, broke-none, broke-other, same-false}
-use Rattle.vd_passes.proofs.Calm.{quiet-faithful, still-faithful}
+use Rattle.vd_passes.proofs.NotIssuing.{quiet-faithful, still-faithful}
 use Rattle.vd_passes.proofs.Settling.{late-faithful}
-use Rattle.vd_passes.proofs.Flushing.{IsFlushing, flushing-calm, flush-ticket}
+use Rattle.vd_passes.proofs.Flushing.{IsFlushing, flushing-not-issuing, flush-ticket}
 
 same-parts : (t u : Track) → t.contents ≡ u.contents → t.writes ≡ u.writes → t ≡ u
 same-parts t u contents writes = ap (λ (cs : List Sector). record { contents = cs; writes = t.writes }) contents ∙ ap (λ (ws : List (CallId × Sector)). record { contents = u.contents; writes = ws }) writes
@@ -37,8 +37,8 @@ begins-same shape u content (inr write) count a t low =
     subst (λ (k : Kind). follow a t (meta_entry k u content) ≡ t) (sym write.0)
     (issue-off a t (ticket_id u) u.first content (none-past u.first content a (let long = count write.0 in let inside = write.1 in omega arith)))
 
-module _ {shape : Shape} {fresh : List Bool} {places : ℕ → Option ℕ} {passes : List Pass} {history : List Entry} {sectors depth base_sectors base_depth : ℕ} {flies base_flies : List Ticket → Type 0}
-    (co : IsCoherent shape fresh places passes history sectors depth base_sectors base_depth flies base_flies) where
+module _ {shape : Shape} {fresh : List Bool} {places : ℕ → Option ℕ} {passes : List Pass} {history : List Entry} {sectors depth base_sectors base_depth : ℕ} {flight base_flight : List Ticket → Type 0}
+    (co : IsCoherent shape fresh places passes history sectors depth base_sectors base_depth flight base_flight) where
   -- nor where it ends
   module _ (i : ℕ) (p : Pass) (there : slice_get passes i ≡ Some p) (flushing : p.phase ≡ Flushing) (u : Ticket) (has : p.ticket ≡ Some u)
       {start : List Sector} {rest : ℕ → Sector} {disk : Disk} {last : ℕ} (fa : IsFaithful start rest shape fresh places passes history disk last) where
@@ -94,18 +94,18 @@ module _ {shape : Shape} {fresh : List Bool} {places : ℕ → Option ℕ} {pass
 
   -- The steps, as their records say them.
   module _ {i : ℕ} {passes' : List Pass} {start : List Sector} {rest : ℕ → Sector} where
-    module _ {flies' : List Ticket → Type 0} {tells tells' : Type 0} {disk disk' : Disk} {last last' : ℕ} where
-      pub submits_meta-faithful : {content : List Sector} → SubmitsMeta content shape i passes passes' flies flies' tells tells' disk disk' last last' → (tells → IsFaithful start rest shape fresh places passes history disk last) → tells'
+    module _ {flight' : List Ticket → Type 0} {tells tells' : Type 0} {disk disk' : Disk} {last last' : ℕ} where
+      pub submits_meta-faithful : {content : List Sector} → SubmitsMeta content shape i passes passes' flight flight' tells tells' disk disk' last last' → (tells → IsFaithful start rest shape fresh places passes history disk last) → tells'
           → IsFaithful start rest shape fresh places passes' history disk' last'
       submits_meta-faithful {content} step was told =
           let p = step.pass in let u = step.ticket in let new = step.told told in let later = new.1 in let fa = was (step.told_before told) in
           rw (step.after, step.number)
-          (quiet-faithful co i p step.there (flushing-calm co i p step.there step.phase) (after_meta p u) (λ e. absurd (cc)) fa disk' u.number (omega arith)
+          (quiet-faithful co i p step.there (flushing-not-issuing co i p step.there step.phase) (after_meta p u) (λ e. absurd (cc)) fa disk' u.number (omega arith)
           (λ v is. let same : v.number ≡ u.number = ap (λ (x : Ticket). x.number) (sym (some-inj is)) in (omega arith, λ j q w at ne has e. let n = fa.numbers j q w at has in absurd (omega arith)))
           (λ a low. disk-track a new.0 ∙ begins-same shape u content step.is_meta step.count a (track disk.start disk.log a) low)
           (λ e. absurd (cc)))
 
-      pub meta_settled-faithful : {answer : Settled} → MetaSettled answer i passes passes' flies flies' tells tells' disk disk' last last' → (tells → IsFaithful start rest shape fresh places passes history disk last) → tells'
+      pub meta_settled-faithful : {answer : Settled} → MetaSettled answer i passes passes' flight flight' tells tells' disk disk' last last' → (tells → IsFaithful start rest shape fresh places passes history disk last) → tells'
           → IsFaithful start rest shape fresh places passes' history disk' last'
       meta_settled-faithful {answer} step was told =
           rw (step.after, step.number) (settled-faithful i step.pass step.there step.phase step.ticket step.has (was (step.told_before told)) answer (step.told told))
@@ -113,4 +113,4 @@ module _ {shape : Shape} {fresh : List Bool} {places : ℕ → Option ℕ} {pass
     pub ends_flush-faithful : {why : Option Fault} {disk : Disk} {last : ℕ} → EndsFlush why i passes passes' → IsFaithful start rest shape fresh places passes history disk last → IsFaithful start rest shape fresh places passes' history disk last
     ends_flush-faithful {why} {disk} {last} step fa =
         let p = step.pass in let way : IsFlushing p = elim step.cause [ inl over ↦ inr over.1 | inr worn ↦ inl worn.2 ] in
-        rw step.after (still-faithful co i p step.there (flushing-calm co i p step.there way) (after_flush p why) (λ e. absurd (cc)) fa (λ v is. is) (λ e. absurd (cc)))
+        rw step.after (still-faithful co i p step.there (flushing-not-issuing co i p step.there way) (after_flush p why) (λ e. absurd (cc)) fa (λ v is. is) (λ e. absurd (cc)))

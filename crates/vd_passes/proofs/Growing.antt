@@ -7,12 +7,12 @@ use Rattle.vd_device.specs.Disks.{Disk}
 use Rattle.vd_passes.specs.declared.shape.Shape.{Shape}
 use Rattle.vd_passes.specs.declared.pass.Pass.{Pass}
 use Rattle.vd_passes.specs.Standings.{Standing}
-use Rattle.vd_passes.specs.Places.{ArePlaces, Extends}
-use Rattle.vd_passes.specs.Passes.{StandsAs}
+use Rattle.vd_passes.specs.Places.{ArePlaces, KeepsPlaces}
+use Rattle.vd_passes.specs.Passes.{IsAsHistorySays}
 use Rattle.vd_passes.specs.Coherent.{IsCoherent, IsFaithful}
 use Rattle.vd_passes.proofs.Lists.{some-inj}
 
-stands-grown : {shape : Shape} {fresh : List Bool} {places places' : ℕ → Option ℕ} {t : Standing} {p : Pass} → Extends places places' → StandsAs shape fresh places t p → StandsAs shape fresh places' t p
+stands-grown : {shape : Shape} {fresh : List Bool} {places places' : ℕ → Option ℕ} {t : Standing} {p : Pass} → KeepsPlaces places places' → IsAsHistorySays shape fresh places t p → IsAsHistorySays shape fresh places' t p
 stands-grown {shape} {fresh} {places} {places'} {t} {p} extends stands = record {
   call = stands.call;
   idle = stands.idle;
@@ -36,10 +36,10 @@ stands-grown {shape} {fresh} {places} {places'} {t} {p} extends stands = record 
   buffer = stands.buffer;
 }
 
-module _ {shape : Shape} {fresh : List Bool} {places : ℕ → Option ℕ} {passes : List Pass} {history : List Entry} {sectors depth base_sectors base_depth : ℕ} {flies base_flies : List Ticket → Type 0}
-    (co : IsCoherent shape fresh places passes history sectors depth base_sectors base_depth flies base_flies)
-    (places' : ℕ → Option ℕ) (extends : Extends places places') where
-  pub grown-coherent : ArePlaces shape.block shape.storage_at sectors places' → IsCoherent shape fresh places' passes history sectors depth base_sectors base_depth flies base_flies
+module _ {shape : Shape} {fresh : List Bool} {places : ℕ → Option ℕ} {passes : List Pass} {history : List Entry} {sectors depth base_sectors base_depth : ℕ} {flight base_flight : List Ticket → Type 0}
+    (co : IsCoherent shape fresh places passes history sectors depth base_sectors base_depth flight base_flight)
+    (places' : ℕ → Option ℕ) (extends : KeepsPlaces places places') where
+  pub grown-coherent : ArePlaces shape.block shape.storage_at sectors places' → IsCoherent shape fresh places' passes history sectors depth base_sectors base_depth flight base_flight
   grown-coherent placed = record {
     shaped = co.shaped;
     size = co.size;

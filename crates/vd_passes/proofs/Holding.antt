@@ -19,9 +19,9 @@ use Rattle.vd_device.specs.declared.settled.Settled.TheVariants as settled
 use Rattle.vd_device.specs.Disks.{Disk}
 use Rattle.vd_passes.specs.declared.shape.Shape.{Shape}
 use Rattle.vd_passes.specs.declared.pass.Fault.{Fault}
-use Rattle.vd_passes.specs.Passes.{has_region, region_of, after_ask, after_piece, spent}
-use Rattle.vd_passes.specs.Coherent.{AreApart}
-use Rattle.vd_passes.specs.Steps.{IsAt, Asks, AsksFull, Fetches, FillsZeros, FetchSettled, fetched, Issues, EndsWrite, WriteSettled, Looks, LooksAtBase, Sees, EndsRead, LookSettled, BaseLookSettled, Replies}
+use Rattle.vd_passes.specs.Passes.{has_region, region_of, after_ask, after_piece, after_spending}
+use Rattle.vd_passes.specs.Coherent.{ArePassesApart}
+use Rattle.vd_passes.specs.Steps.{IsAt, Asks, AsksFull, Fetches, FillsZeros, FetchSettled, after_base_read, Issues, EndsWrite, WriteSettled, Looks, LooksAtBase, Sees, EndsRead, LookSettled, BaseLookSettled, Replies}
 use Rattle.vd_passes.proofs.Lists.{some-inj}
 
 -- the region that a pass wants, or holds
@@ -74,7 +74,7 @@ own-mode : (write : Bool) → write ≡ true → (if write then Own else Shared)
 own-mode write is = ap (λ (b : Bool). if b then Own else Shared) is
 
 pub apart-entered : (passes : List Pass) (i block : ℕ) (p : Pass) → ((by : ℕ) → Hinders (map region_of passes) i (region_on block p.write) by → ⊥) → p.block ≡ block
-    → (k : ℕ) (r : Pass) → slice_get passes k ≡ Some r → i ≢ k → AreApart p r
+    → (k : ℕ) (r : Pass) → slice_get passes k ≡ Some r → i ≢ k → ArePassesApart p r
 apart-entered passes i block p free own k r there ne has_p has_r same = both-read p.write r.write
     (λ w. free k (hinders (inr (own-mode p.write w)))) (λ w. free k (hinders (inl (own-mode r.write w))))
   where
@@ -123,25 +123,25 @@ asks_full-regions {request} {needed} {free} {i} {passes} {passes'} {history} {hi
 pub replies-regions : {answer : Answer} {i : ℕ} {passes passes' : List Pass} {history history' : List Entry} → IsAt passes i (λ p. has_region p.phase ≡ false) → Replies answer i passes passes' history history' → map region_of passes' ≡ map region_of passes
 replies-regions {answer} {i} {passes} {passes'} {history} {history'} at step = rw step.after (holds-none passes i step.pass _ step.there at refl)
 
-pub fetches-regions : {shape : Shape} {i : ℕ} {passes passes' : List Pass} {base_flies base_flies' : List Ticket → Type 0} → IsAt passes i (λ p. has_region p.phase ≡ true) → Fetches shape i passes passes' base_flies base_flies' → map region_of passes' ≡ map region_of passes
-fetches-regions {shape} {i} {passes} {passes'} {base_flies} {base_flies'} at step = rw step.after (keeps passes i step.pass _ step.there at refl refl refl)
+pub fetches-regions : {shape : Shape} {i : ℕ} {passes passes' : List Pass} {base_flight base_flight' : List Ticket → Type 0} → IsAt passes i (λ p. has_region p.phase ≡ true) → Fetches shape i passes passes' base_flight base_flight' → map region_of passes' ≡ map region_of passes
+fetches-regions {shape} {i} {passes} {passes'} {base_flight} {base_flight'} at step = rw step.after (keeps passes i step.pass _ step.there at refl refl refl)
 
 pub fills_zeros-regions : {shape : Shape} {i : ℕ} {passes passes' : List Pass} → IsAt passes i (λ p. has_region p.phase ≡ true) → FillsZeros shape i passes passes' → map region_of passes' ≡ map region_of passes
 fills_zeros-regions {shape} {i} {passes} {passes'} at step = rw step.after (keeps passes i step.pass _ step.there at refl refl refl)
 
-pub issues-regions : {shape : Shape} {fresh : List Bool} {content : List Sector} {i : ℕ} {passes passes' : List Pass} {history history' : List Entry} {flies flies' : List Ticket → Type 0} {tells tells' : Type 0} {disk disk' : Disk} {last last' : ℕ}
-    → IsAt passes i (λ p. has_region p.phase ≡ true) → Issues shape fresh content i passes passes' history history' flies flies' tells tells' disk disk' last last' → map region_of passes' ≡ map region_of passes
-issues-regions {shape} {fresh} {content} {i} {passes} {passes'} {history} {history'} {flies} {flies'} {tells} {tells'} {disk} {disk'} {last} {last'} at step = rw step.after (keeps passes i step.pass _ step.there at refl refl refl)
+pub issues-regions : {shape : Shape} {fresh : List Bool} {content : List Sector} {i : ℕ} {passes passes' : List Pass} {history history' : List Entry} {flight flight' : List Ticket → Type 0} {tells tells' : Type 0} {disk disk' : Disk} {last last' : ℕ}
+    → IsAt passes i (λ p. has_region p.phase ≡ true) → Issues shape fresh content i passes passes' history history' flight flight' tells tells' disk disk' last last' → map region_of passes' ≡ map region_of passes
+issues-regions {shape} {fresh} {content} {i} {passes} {passes'} {history} {history'} {flight} {flight'} {tells} {tells'} {disk} {disk'} {last} {last'} at step = rw step.after (keeps passes i step.pass _ step.there at refl refl refl)
 
-pub looks-regions : {shape : Shape} {i : ℕ} {passes passes' : List Pass} {flies flies' : List Ticket → Type 0} {tells tells' : Type 0} {disk disk' : Disk} {last last' : ℕ}
-    → IsAt passes i (λ p. has_region p.phase ≡ true) → Looks shape i passes passes' flies flies' tells tells' disk disk' last last' → map region_of passes' ≡ map region_of passes
-looks-regions {shape} {i} {passes} {passes'} {flies} {flies'} {tells} {tells'} {disk} {disk'} {last} {last'} at step = rw step.after (keeps passes i step.pass _ step.there at refl refl refl)
+pub looks-regions : {shape : Shape} {i : ℕ} {passes passes' : List Pass} {flight flight' : List Ticket → Type 0} {tells tells' : Type 0} {disk disk' : Disk} {last last' : ℕ}
+    → IsAt passes i (λ p. has_region p.phase ≡ true) → Looks shape i passes passes' flight flight' tells tells' disk disk' last last' → map region_of passes' ≡ map region_of passes
+looks-regions {shape} {i} {passes} {passes'} {flight} {flight'} {tells} {tells'} {disk} {disk'} {last} {last'} at step = rw step.after (keeps passes i step.pass _ step.there at refl refl refl)
 
-pub looks_at_base-regions : {shape : Shape} {i : ℕ} {passes passes' : List Pass} {base_flies base_flies' : List Ticket → Type 0} → IsAt passes i (λ p. has_region p.phase ≡ true) → LooksAtBase shape i passes passes' base_flies base_flies' → map region_of passes' ≡ map region_of passes
-looks_at_base-regions {shape} {i} {passes} {passes'} {base_flies} {base_flies'} at step = rw step.after (keeps passes i step.pass _ step.there at refl refl refl)
+pub looks_at_base-regions : {shape : Shape} {i : ℕ} {passes passes' : List Pass} {base_flight base_flight' : List Ticket → Type 0} → IsAt passes i (λ p. has_region p.phase ≡ true) → LooksAtBase shape i passes passes' base_flight base_flight' → map region_of passes' ≡ map region_of passes
+looks_at_base-regions {shape} {i} {passes} {passes'} {base_flight} {base_flight'} at step = rw step.after (keeps passes i step.pass _ step.there at refl refl refl)
 
 pub sees-regions : {content : List Sector} {i : ℕ} {passes passes' : List Pass} {history history' : List Entry} {out out' : List Sector} → Sees content i passes passes' history history' out out' → map region_of passes' ≡ slice_set (map region_of passes) i None
-sees-regions {content} {i} {passes} {passes'} {history} {history'} {out} {out'} step = rw step.after (regions-freed passes i (spent 1 step.pass.piece (after_piece step.pass)) (piece-frees step.pass))
+sees-regions {content} {i} {passes} {passes'} {history} {history'} {out} {out'} step = rw step.after (regions-freed passes i (after_spending 1 step.pass.piece (after_piece step.pass)) (piece-frees step.pass))
 
 -- The regions after a settle: of a base read for a block, and of the write or the read of a piece.
 abbrev pub regions_fetched : Settled → ℕ → List (Option Region) → List (Option Region)
@@ -155,24 +155,24 @@ regions_ended (settled.NotYet same) i regions = regions
 regions_ended (settled.Failed number) i regions = slice_set regions i None
 
 fetched-regions : (answer : Settled) (block i : ℕ) (passes : List Pass) (p : Pass) (ticket : Ticket) (content : List Sector) → slice_get passes i ≡ Some p → IsAt passes i (λ p. has_region p.phase ≡ true)
-    → map region_of (slice_set passes i (fetched answer p ticket block content)) ≡ regions_fetched answer i (map region_of passes)
+    → map region_of (slice_set passes i (after_base_read answer p ticket block content)) ≡ regions_fetched answer i (map region_of passes)
 fetched-regions settled.Done block i passes p ticket content there at = keeps passes i p _ there at refl refl refl
 fetched-regions (settled.NotYet same) block i passes p ticket content there at = keeps passes i p p there at (this-holds true passes i p there at) refl refl
 fetched-regions (settled.Failed number) block i passes p ticket content there at = regions-freed passes i _ refl
 
-pub fetch_settled-regions : {answer : Settled} {shape : Shape} {i : ℕ} {passes passes' : List Pass} {base_flies base_flies' : List Ticket → Type 0} {base_tells : Type 0} {base : List Sector}
-    → IsAt passes i (λ p. has_region p.phase ≡ true) → FetchSettled answer shape i passes passes' base_flies base_flies' base_tells base → map region_of passes' ≡ regions_fetched answer i (map region_of passes)
-fetch_settled-regions {answer} {shape} {i} {passes} {passes'} {base_flies} {base_flies'} {base_tells} {base} at step = rw step.after (fetched-regions answer shape.block i passes step.pass step.ticket step.content step.there at)
+pub fetch_settled-regions : {answer : Settled} {shape : Shape} {i : ℕ} {passes passes' : List Pass} {base_flight base_flight' : List Ticket → Type 0} {base_tells : Type 0} {base : List Sector}
+    → IsAt passes i (λ p. has_region p.phase ≡ true) → FetchSettled answer shape i passes passes' base_flight base_flight' base_tells base → map region_of passes' ≡ regions_fetched answer i (map region_of passes)
+fetch_settled-regions {answer} {shape} {i} {passes} {passes'} {base_flight} {base_flight'} {base_tells} {base} at step = rw step.after (fetched-regions answer shape.block i passes step.pass step.ticket step.content step.there at)
 
 written-regions : (answer : Settled) (pass : Pass) (ticket : Ticket) (i : ℕ) (fresh fresh' : List Bool) (passes passes' : List Pass) (history history' : List Entry) → EndsWrite answer pass ticket i fresh fresh' passes passes' history history'
     → map region_of passes' ≡ regions_ended answer i (map region_of passes)
-written-regions settled.Done pass ticket i fresh fresh' passes passes' history history' effect = rw effect.1 (regions-freed passes i (spent 1 0 (after_piece pass)) (piece-frees pass))
+written-regions settled.Done pass ticket i fresh fresh' passes passes' history history' effect = rw effect.1 (regions-freed passes i (after_spending 1 0 (after_piece pass)) (piece-frees pass))
 written-regions (settled.NotYet same) pass ticket i fresh fresh' passes passes' history history' effect = ap (map region_of) effect.1
 written-regions (settled.Failed number) pass ticket i fresh fresh' passes passes' history history' effect = rw effect.1 (regions-freed passes i _ refl)
 
-pub write_settled-regions : {answer : Settled} {i : ℕ} {fresh fresh' : List Bool} {passes passes' : List Pass} {history history' : List Entry} {flies flies' : List Ticket → Type 0} {tells tells' : Type 0} {disk disk' : Disk} {last last' : ℕ}
-    → WriteSettled answer i fresh fresh' passes passes' history history' flies flies' tells tells' disk disk' last last' → map region_of passes' ≡ regions_ended answer i (map region_of passes)
-write_settled-regions {answer} {i} {fresh} {fresh'} {passes} {passes'} {history} {history'} {flies} {flies'} {tells} {tells'} {disk} {disk'} {last} {last'} step =
+pub write_settled-regions : {answer : Settled} {i : ℕ} {fresh fresh' : List Bool} {passes passes' : List Pass} {history history' : List Entry} {flight flight' : List Ticket → Type 0} {tells tells' : Type 0} {disk disk' : Disk} {last last' : ℕ}
+    → WriteSettled answer i fresh fresh' passes passes' history history' flight flight' tells tells' disk disk' last last' → map region_of passes' ≡ regions_ended answer i (map region_of passes)
+write_settled-regions {answer} {i} {fresh} {fresh'} {passes} {passes'} {history} {history'} {flight} {flight'} {tells} {tells'} {disk} {disk'} {last} {last'} step =
     written-regions answer step.pass step.ticket i fresh fresh' passes passes' history history' step.effect
 
 read-regions : (answer : Settled) (pass : Pass) (why : Fault) (content : List Sector) (i : ℕ) (passes passes' : List Pass) (history history' : List Entry) (out out' : List Sector) → EndsRead answer pass why content i passes passes' history history' out out'
@@ -181,12 +181,12 @@ read-regions settled.Done pass why content i passes passes' history history' out
 read-regions (settled.NotYet same) pass why content i passes passes' history history' out out' effect = ap (map region_of) effect.0
 read-regions (settled.Failed number) pass why content i passes passes' history history' out out' effect = rw effect.0 (regions-freed passes i _ refl)
 
-pub look_settled-regions : {answer : Settled} {i : ℕ} {passes passes' : List Pass} {history history' : List Entry} {flies flies' : List Ticket → Type 0} {tells tells' : Type 0} {disk disk' : Disk} {last last' : ℕ} {out out' : List Sector}
-    → LookSettled answer i passes passes' history history' flies flies' tells tells' disk disk' last last' out out' → map region_of passes' ≡ regions_ended answer i (map region_of passes)
-look_settled-regions {answer} {i} {passes} {passes'} {history} {history'} {flies} {flies'} {tells} {tells'} {disk} {disk'} {last} {last'} {out} {out'} step =
+pub look_settled-regions : {answer : Settled} {i : ℕ} {passes passes' : List Pass} {history history' : List Entry} {flight flight' : List Ticket → Type 0} {tells tells' : Type 0} {disk disk' : Disk} {last last' : ℕ} {out out' : List Sector}
+    → LookSettled answer i passes passes' history history' flight flight' tells tells' disk disk' last last' out out' → map region_of passes' ≡ regions_ended answer i (map region_of passes)
+look_settled-regions {answer} {i} {passes} {passes'} {history} {history'} {flight} {flight'} {tells} {tells'} {disk} {disk'} {last} {last'} {out} {out'} step =
     read-regions answer step.pass _ step.content i passes passes' history history' out out' step.effect
 
-pub base_look_settled-regions : {answer : Settled} {shape : Shape} {i : ℕ} {passes passes' : List Pass} {history history' : List Entry} {base_flies base_flies' : List Ticket → Type 0} {base_tells : Type 0} {base out out' : List Sector}
-    → BaseLookSettled answer shape i passes passes' history history' base_flies base_flies' base_tells base out out' → map region_of passes' ≡ regions_ended answer i (map region_of passes)
-base_look_settled-regions {answer} {shape} {i} {passes} {passes'} {history} {history'} {base_flies} {base_flies'} {base_tells} {base} {out} {out'} step =
+pub base_look_settled-regions : {answer : Settled} {shape : Shape} {i : ℕ} {passes passes' : List Pass} {history history' : List Entry} {base_flight base_flight' : List Ticket → Type 0} {base_tells : Type 0} {base out out' : List Sector}
+    → BaseLookSettled answer shape i passes passes' history history' base_flight base_flight' base_tells base out out' → map region_of passes' ≡ regions_ended answer i (map region_of passes)
+base_look_settled-regions {answer} {shape} {i} {passes} {passes'} {history} {history'} {base_flight} {base_flight'} {base_tells} {base} {out} {out'} step =
     read-regions answer step.pass _ _ i passes passes' history history' out out' step.effect

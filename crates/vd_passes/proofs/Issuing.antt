@@ -20,8 +20,8 @@ use Rattle.vd_passes.specs.Laying.{Lays}
 use Rattle.vd_passes.specs.Tracks.{Track, track, writes, follow}
 use Rattle.vd_passes.specs.Standings.{standing}
 use Rattle.vd_passes.specs.Places.{IsIn}
-use Rattle.vd_passes.specs.Passes.{has_region, call_of, tickets_of, HasNone, StandsAs, IsPiece, IsStored, pending_of, after_issue}
-use Rattle.vd_passes.specs.Coherent.{IsCoherent, IsFaithful, StandsFor, IsUnwritten, IsWritten, IsUnfilled, IsFilled}
+use Rattle.vd_passes.specs.Passes.{has_region, call_id, tickets_of, HasNone, IsAsHistorySays, IsPiece, IsStored, pending_of, after_issue}
+use Rattle.vd_passes.specs.Coherent.{IsCoherent, IsFaithful, AgreesInSector, IsUnwritten, IsWritten, IsUnfilled, IsFilled}
 use Rattle.vd_passes.specs.Steps.{IsAt, HasAskedWrite, Issues}
 use Rattle.vd_passes.proofs.Tracks.{track-more, track-writes, writes-more, disk-track, cases-at, at-inside, at-range, issue-at, issue-off}
 use Rattle.vd_passes.proofs.Standing.{last_of, standing-own, regular-issue, shown-push}
@@ -31,17 +31,17 @@ use Rattle.vd_passes.proofs.Regions.{alone, only-writer, only-filler, stored-pla
 use Rattle.vd_passes.proofs.Laying.{given-buffer, given-stored, given-lays}
 use Rattle.vd_passes.proofs.Ready.{IsHolding, holding-region, holding-not, holding-none, holding-busy, holding-unready, request-is, asked-long}
 
-module _ {shape : Shape} {fresh : List Bool} {places : ℕ → Option ℕ} {passes : List Pass} {history : List Entry} {sectors depth base_sectors base_depth : ℕ} {flies base_flies : List Ticket → Type 0}
-    (co : IsCoherent shape fresh places passes history sectors depth base_sectors base_depth flies base_flies) (i : ℕ) (p : Pass) (there : slice_get passes i ≡ Some p)
+module _ {shape : Shape} {fresh : List Bool} {places : ℕ → Option ℕ} {passes : List Pass} {history : List Entry} {sectors depth base_sectors base_depth : ℕ} {flight base_flight : List Ticket → Type 0}
+    (co : IsCoherent shape fresh places passes history sectors depth base_sectors base_depth flight base_flight) (i : ℕ) (p : Pass) (there : slice_get passes i ≡ Some p)
     (holding : IsHolding p) (write : p.write ≡ true) (part : List Sector) (long : length part ≡ p.piece) (t : Ticket)
     (kind : t.kind ≡ WriteKind) (stored : IsStored shape.block fresh p t) (buffer : List Sector) (room : length buffer ≡ shape.block) where
   abbrev issued : Pass
   issued = after_issue p t buffer
 
   abbrev event : Entry
-  event = Issue (call_of i p) (p.first + p.done) part
+  event = Issue (call_id i p) (p.first + p.done) part
 
-  stands : StandsAs shape fresh places (standing history i) p
+  stands : IsAsHistorySays shape fresh places (standing history i) p
   stands = co.each i p there
 
   region : has_region p.phase ≡ true
@@ -85,7 +85,7 @@ module _ {shape : Shape} {fresh : List Bool} {places : ℕ → Option ℕ} {pass
   guest : (s : ℕ) → IsUnwritten (slice_set passes i issued) s (writes (history ++ event ∷ []) s) ⊎ IsWritten (slice_set passes i issued) s (writes (history ++ event ∷ []) s)
   guest s = elim (cases-at (p.first + p.done) part s) [
     | inl off ↦
-        let same : writes (history ++ event ∷ []) s ≡ writes history s = writes-next s ∙ ap (λ (x : Track). x.writes) (issue-off s (bare s) (call_of i p) (p.first + p.done) part off) in
+        let same : writes (history ++ event ∷ []) s ≡ writes history s = writes-next s ∙ ap (λ (x : Track). x.writes) (issue-off s (bare s) (call_id i p) (p.first + p.done) part off) in
         elim (co.guest s) [
           | inl unwritten ↦ inl (unwritten-set passes i p issued there s (writes history s) (writes (history ++ event ∷ []) s) unwritten
               (λ w. let from : p.first + p.done ≤ s = w.from in let to : s < p.first + p.done + p.piece = w.to in let f = at-inside (p.first + p.done) part s from (omega arith) in let g = f.1 in cc)
@@ -100,14 +100,14 @@ module _ {shape : Shape} {fresh : List Bool} {places : ℕ → Option ℕ} {pass
           there = get-set-same passes i issued p there;
           writing = record { phase = refl; from = r.0; to = let to = r.1 in omega arith };
           content = on.0;
-          one = writes-next s ∙ ap (λ (x : Track). x.writes) (issue-at s (bare s) (call_of i p) (p.first + p.done) part on.0 on.1) ∙ ap (λ ws. (call_of i p, on.0) ∷ ws) (free s (in-part s on.0 on.1));
+          one = writes-next s ∙ ap (λ (x : Track). x.writes) (issue-at s (bare s) (call_id i p) (p.first + p.done) part on.0 on.1) ∙ ap (λ ws. (call_id i p, on.0) ∷ ws) (free s (in-part s on.0 on.1));
         })
   ]
 
   abbrev call-at : ℕ → CallId
   call-at n = record { pass = i; call = n }
 
-  mine : call_of i p ≡ last_of history i
+  mine : call_id i p ≡ last_of history i
   mine = ap call-at (sym stands.call)
 
   closed : (standing history i).progress.pending ≡ 0
@@ -116,8 +116,8 @@ module _ {shape : Shape} {fresh : List Bool} {places : ℕ → Option ℕ} {pass
     | inr filled ↦ ap (λ ph. pending_of ph p.piece) filled
   ]
 
-  next : StandsAs shape fresh places (standing (history ++ event ∷ []) i) issued
-  next = subst (λ h. StandsAs shape fresh places h issued) (sym (standing-own history event i mine tt)) (record {
+  next : IsAsHistorySays shape fresh places (standing (history ++ event ∷ []) i) issued
+  next = subst (λ h. IsAsHistorySays shape fresh places h issued) (sym (standing-own history event i mine tt)) (record {
     call = stands.call;
     idle = λ e. absurd (cc);
     busy = λ e. let b = stands.busy not-idle in (b.0, b.1, request-kept p issued b.0 refl refl refl refl b.2);
@@ -152,8 +152,8 @@ module _ {shape : Shape} {fresh : List Bool} {places : ℕ → Option ℕ} {pass
         (part_of ∙ ap (λ n. slice_range asked n (n + length part)) (sym done))
         (λ s from to. free s (in-piece shape p s piece from (omega arith))))
 
-    pub coherent : (flies' : List Ticket → Type 0) → Puts t flies flies' → IsCoherent shape fresh places (slice_set passes i issued) (history ++ event ∷ []) sectors depth base_sectors base_depth flies' base_flies
-    coherent flies' puts = record {
+    pub coherent : (flight' : List Ticket → Type 0) → Puts t flight flight' → IsCoherent shape fresh places (slice_set passes i issued) (history ++ event ∷ []) sectors depth base_sectors base_depth flight' base_flight
+    coherent flight' puts = record {
       shaped = co.shaped;
       size = co.size;
       placed = co.placed;
@@ -165,7 +165,7 @@ module _ {shape : Shape} {fresh : List Bool} {places : ℕ → Option ℕ} {pass
       each = each-set shape fresh places passes history event i p issued there refl (λ j q at ne. co.each j q at) next;
       apart = apart-set passes i p issued there co.apart (λ k r at ne has_p has_r. co.apart i k p r there at ne region has_r);
       flight = puts (tickets_of passes) (tickets_of (slice_set passes i issued)) (tickets-put passes i p issued t there none.ticket refl) co.flight;
-      base_flight = subst base_flies (sym (fetches-same passes i p issued there refl)) co.base_flight;
+      base_flight = subst base_flight (sym (fetches-same passes i p issued there refl)) co.base_flight;
       guest = guest;
     }
 
@@ -193,10 +193,10 @@ module _ {shape : Shape} {fresh : List Bool} {places : ℕ → Option ℕ} {pass
     in-stored a c h = let r = at-range t.first stored_content a c h in stored-place shape fresh p t a piece stored r.0 (let to = r.1 in omega arith)
 
     guest-off : (s : ℕ) → sector_in (p.first + p.done) part s ≡ None → guest-next s ≡ guest-of s
-    guest-off s off = issue-off s (guest-of s) (call_of i p) (p.first + p.done) part off
+    guest-off s off = issue-off s (guest-of s) (call_id i p) (p.first + p.done) part off
 
-    guest-on : (s : ℕ) (c : Sector) → sector_in (p.first + p.done) part s ≡ Some c → guest-next s ≡ record { contents = (guest-of s).contents ++ c ∷ []; writes = (call_of i p, c) ∷ (guest-of s).writes }
-    guest-on s c on = issue-at s (guest-of s) (call_of i p) (p.first + p.done) part c on
+    guest-on : (s : ℕ) (c : Sector) → sector_in (p.first + p.done) part s ≡ Some c → guest-next s ≡ record { contents = (guest-of s).contents ++ c ∷ []; writes = (call_id i p, c) ∷ (guest-of s).writes }
+    guest-on s c on = issue-at s (guest-of s) (call_id i p) (p.first + p.done) part c on
 
     store-off : (a : ℕ) → sector_in t.first stored_content a ≡ None → store-next a ≡ store-of a
     store-off a off = issue-off a (store-of a) (ticket_id t) t.first stored_content off
@@ -230,7 +230,7 @@ module _ {shape : Shape} {fresh : List Bool} {places : ℕ → Option ℕ} {pass
           | inr fill ↦ absurd (let known = sym is ∙ ap (slice_get fresh) same ∙ fill.2 in cc)
         ]
 
-    stands-next : (s : ℕ) → s < length start → StandsFor shape.block fresh places rest s (guest-next s) store-next
+    stands-next : (s : ℕ) → s < length start → AgreesInSector shape.block fresh places rest s (guest-next s) store-next
     stands-next s inside = let old = fa.stands s inside in record {
       local = λ b x in_b is at_b v among.
           let a : ℕ = x + (s - shape.block * b) in
@@ -279,7 +279,7 @@ module _ {shape : Shape} {fresh : List Bool} {places : ℕ → Option ℕ} {pass
             place = place.1;
             in_block = place.2;
             source = elim (lays.source a place.0 on.0 place.1 on.1) [
-              | inl own ↦ inl (ap (λ (x : Track). x.writes) (guest-on place.0 on.0 own) ∙ ap (λ ws. (call_of i p, on.0) ∷ ws) (guest-free place.0 place.2))
+              | inl own ↦ inl (ap (λ (x : Track). x.writes) (guest-on place.0 on.0 own) ∙ ap (λ ws. (call_id i p, on.0) ∷ ws) (guest-free place.0 place.2))
               | inr fill ↦ inr (
                 ap (λ (x : Track). x.writes) (guest-off place.0 fill.0) ∙ guest-free place.0 place.2,
                 more place.0 on.0 (subst (λ x. Contains (guest-of place.0).contents x) (sym fill.1) ((fa.stands place.0 (in-disk place.0 place.2)).other p.block place.2 fill.2)),
@@ -310,7 +310,7 @@ module _ {shape : Shape} {fresh : List Bool} {places : ℕ → Option ℕ} {pass
           | inr b ↦ fa.distinct j k q r u v a.1 b.1 ne has_u has_v
         ]
       ];
-      stands = λ s inside. subst (λ g. StandsFor shape.block fresh places rest s g (track disk'.start disk'.log)) (sym (track-more start history event s)) (stands-told s (stands-next s inside));
+      stands = λ s inside. subst (λ g. AgreesInSector shape.block fresh places rest s g (track disk'.start disk'.log)) (sym (track-more start history event s)) (stands-told s (stands-next s inside));
       filling = λ a low. filling-told a (filling-next a low);
       buffers = λ j q at_j filled. elim (at-set passes i j issued p q there at_j) [
         | inl a ↦ absurd (let e = ap (λ (x : Pass). x.phase) a.1 in cc)
@@ -318,7 +318,7 @@ module _ {shape : Shape} {fresh : List Bool} {places : ℕ → Option ℕ} {pass
       ];
     }
       where
-        stands-told : (s : ℕ) → StandsFor shape.block fresh places rest s (guest-next s) store-next → StandsFor shape.block fresh places rest s (guest-next s) (track disk'.start disk'.log)
+        stands-told : (s : ℕ) → AgreesInSector shape.block fresh places rest s (guest-next s) store-next → AgreesInSector shape.block fresh places rest s (guest-next s) (track disk'.start disk'.log)
         stands-told s next = record {
           local = λ b x in_b is at_b v among. next.local b x in_b is at_b v (subst (λ (d : Track). Contains d.contents v) (disk-track (x + (s - shape.block * b)) adds) among);
           other = next.other;
@@ -339,7 +339,7 @@ module _ {shape : Shape} {fresh : List Bool} {places : ℕ → Option ℕ} {pass
           sector = w.sector;
           place = w.place;
           in_block = w.in_block;
-          source = subst (λ (g : Track). (g.writes ≡ (call_of w.by w.pass, w.content) ∷ []) ⊎ ((g.writes ≡ []) × Contains g.contents w.content)) (sym (track-more start history event w.sector)) w.source;
+          source = subst (λ (g : Track). (g.writes ≡ (call_id w.by w.pass, w.content) ∷ []) ⊎ ((g.writes ≡ []) × Contains g.contents w.content)) (sym (track-more start history event w.sector)) w.source;
         })
 
 -- a part has the length that was asked of it, where there is so much
@@ -350,10 +350,10 @@ part-long content done piece fits =
     omega arith
 
 -- Issuing keeps a core coherent, and true to its devices.
-module _ {shape : Shape} {fresh : List Bool} {places : ℕ → Option ℕ} {passes passes' : List Pass} {history history' : List Entry} {sectors depth base_sectors base_depth i last last' : ℕ} {flies flies' base_flies : List Ticket → Type 0}
-    {tells tells' : Type 0} {disk disk' : Disk} (content : List Sector) (co : IsCoherent shape fresh places passes history sectors depth base_sectors base_depth flies base_flies)
+module _ {shape : Shape} {fresh : List Bool} {places : ℕ → Option ℕ} {passes passes' : List Pass} {history history' : List Entry} {sectors depth base_sectors base_depth i last last' : ℕ} {flight flight' base_flight : List Ticket → Type 0}
+    {tells tells' : Type 0} {disk disk' : Disk} (content : List Sector) (co : IsCoherent shape fresh places passes history sectors depth base_sectors base_depth flight base_flight)
     (at : IsAt passes i (λ p. ((p.phase ≡ Held) ⊎ (p.phase ≡ Filled)) × (p.write ≡ true))) (asked : HasAskedWrite history i content)
-    (step : Issues shape fresh content i passes passes' history history' flies flies' tells tells' disk disk' last last') where
+    (step : Issues shape fresh content i passes passes' history history' flight flight' tells tells' disk disk' last last') where
   this : at.0 ≡ step.pass
   this = some-inj (sym at.1 ∙ step.there)
 
@@ -366,7 +366,7 @@ module _ {shape : Shape} {fresh : List Bool} {places : ℕ → Option ℕ} {pass
   abbrev step-part : List Sector
   step-part = slice_range content step.pass.done (step.pass.done + step.pass.piece)
 
-  step-stands : StandsAs shape fresh places (standing history i) step.pass
+  step-stands : IsAsHistorySays shape fresh places (standing history i) step.pass
   step-stands = co.each i step.pass step.there
 
   step-piece : IsPiece shape step.pass
@@ -384,9 +384,9 @@ module _ {shape : Shape} {fresh : List Bool} {places : ℕ → Option ℕ} {pass
   step-room : length step.buffer ≡ shape.block
   step-room = given-buffer step.given step-piece step-long step-stands.buffer
 
-  pub issues-coherent : IsCoherent shape fresh places passes' history' sectors depth base_sectors base_depth flies' base_flies
+  pub issues-coherent : IsCoherent shape fresh places passes' history' sectors depth base_sectors base_depth flight' base_flight
   issues-coherent = rw (step.after, step.event) (coherent co i step.pass step.there was-holding writes-now step-part step-long step.ticket step.kind step-stored step.buffer step-room
-      asked.0 content asked.1 (ap (λ n. slice_range content step.pass.done (step.pass.done + n)) (sym step-long)) flies' step.flight)
+      asked.0 content asked.1 (ap (λ n. slice_range content step.pass.done (step.pass.done + n)) (sym step-long)) flight' step.flight)
 
   pub issues-faithful : {start : List Sector} {rest : ℕ → Sector} → (tells → IsFaithful start rest shape fresh places passes history disk last) → tells' → IsFaithful start rest shape fresh places passes' history' disk' last'
   issues-faithful {start} {rest} faithful_before told =

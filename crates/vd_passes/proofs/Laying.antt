@@ -7,7 +7,7 @@ use Rattle.vd_device.specs.declared.ticket.Ticket.{Ticket}
 use Rattle.vd_passes.specs.declared.shape.Shape.{Shape}
 use Rattle.vd_passes.specs.declared.pass.Pass.{Pass}
 use Rattle.vd_passes.specs.declared.pass.Phase.TheVariants.{Filled}
-use Rattle.vd_passes.specs.Laying.{laid, IsRest, Lays}
+use Rattle.vd_passes.specs.Laying.{content_with_part, IsRest, Lays}
 use Rattle.vd_passes.specs.Passes.{IsPiece, IsStored}
 use Rattle.vd_passes.specs.Steps.{IsGiven}
 use Rattle.vd_passes.proofs.Tracks.{at-range, at-some, some-at, none-before, none-past}
@@ -51,15 +51,15 @@ length-front k part content fits =
     omega arith
 
 -- a content of which a part is another is as long as it was
-pub length-laid : (k : ℕ) (part content : List Sector) → k + length part ≤ length content → length (laid k part content) ≡ length content
+pub length-laid : (k : ℕ) (part content : List Sector) → k + length part ≤ length content → length (content_with_part k part content) ≡ length content
 length-laid k part content fits =
     let a = length-front k part content (omega arith) in
     let b : length (drop (k + length part) content) ≡ length content - (k + length part) = length-drop (k + length part) content in
-    let c : length (laid k part content) ≡ length (take k content ++ part) + length (drop (k + length part) content) = length-append (take k content ++ part) (drop (k + length part) content) in
+    let c : length (content_with_part k part content) ≡ length (take k content ++ part) + length (drop (k + length part) content) = length-append (take k content ++ part) (drop (k + length part) content) in
     omega arith
 
 -- a laid content has the part's sector, or the part has none there and it is the one that stood there
-laid-source : (first k : ℕ) (part content : List Sector) (s : ℕ) (c : Sector) → k + length part ≤ length content → first ≤ s → slice_get (laid k part content) (s - first) ≡ Some c
+laid-source : (first k : ℕ) (part content : List Sector) (s : ℕ) (c : Sector) → k + length part ≤ length content → first ≤ s → slice_get (content_with_part k part content) (s - first) ≡ Some c
     → (sector_in (first + k) part s ≡ Some c) ⊎ ((sector_in (first + k) part s ≡ None) × (sector_in first content s ≡ Some c))
 laid-source first k part content s c fits from h =
     let t : length (take k content) ≡ k = length-take-le k content (omega arith) in
@@ -75,7 +75,7 @@ laid-source first k part content s c fits from h =
       )
     ]
 
-laid-part : (first k : ℕ) (part content : List Sector) (s : ℕ) (c : Sector) → k + length part ≤ length content → sector_in (first + k) part s ≡ Some c → slice_get (laid k part content) (s - first) ≡ Some c
+laid-part : (first k : ℕ) (part content : List Sector) (s : ℕ) (c : Sector) → k + length part ≤ length content → sector_in (first + k) part s ≡ Some c → slice_get (content_with_part k part content) (s - first) ≡ Some c
 laid-part first k part content s c fits h =
     let r = at-range (first + k) part s c h in let from = r.0 in
     let t : length (take k content) ≡ k = length-take-le k content (omega arith) in
@@ -93,12 +93,12 @@ lays-piece rest block b at first part stored_first is_rest place = record {
 
 -- The block is stored, and the piece laid into the rest of it.
 pub lays-block : (rest : ℕ → Sector) (block b at first k : ℕ) (part content : List Sector) (is_rest : Type 0) → first ≡ block * b + k → k + length part ≤ length content → IsRest rest (block * b) content → is_rest
-    → Lays rest block b at first part at (laid k part content) is_rest
+    → Lays rest block b at first part at (content_with_part k part content) is_rest
 lays-block rest block b at first k part content is_rest place fits is_all holds = record {
   source = λ a s c here h.
-      let r = at-range at (laid k part content) a c h in let from = r.0 in
+      let r = at-range at (content_with_part k part content) a c h in let from = r.0 in
       let e : a - at ≡ s - block * b = omega arith in
-      let got = rw e at (at-some at (laid k part content) a c h) in
+      let got = rw e at (at-some at (content_with_part k part content) a c h) in
       elim (laid-source (block * b) k part content s c fits (omega arith) got) [
         | inl own ↦ inl (rw place own)
         | inr fill ↦ inr (rw place fill.0, is_all s c fill.1, holds)
@@ -107,7 +107,7 @@ lays-block rest block b at first k part content is_rest place fits is_all holds 
       let g = rw place at h in
       let r = at-range (block * b + k) part s c g in let from = r.0 in
       let e : a - at ≡ s - block * b = omega arith in
-      some-at at (laid k part content) a c (omega arith) (rw e (laid-part (block * b) k part content s c fits g));
+      some-at at (content_with_part k part content) a c (omega arith) (rw e (laid-part (block * b) k part content s c fits g));
 }
 
 module _ {shape : Shape} {fresh : List Bool} {pass : Pass} {part : List Sector} {ticket : Ticket} {stored buffer : List Sector}

@@ -3,7 +3,7 @@ pub mod Asking
 pub mod Backing
 pub mod Blaming
 pub mod BlamingSteps
-pub mod Calm
+pub mod NotIssuing
 pub mod Closing
 pub mod Entering
 pub mod Fetching

@@ -20,14 +20,14 @@ use Rattle.vd_passes.specs.Laying.{IsRest}
 use Rattle.vd_passes.specs.Tracks.{Track, track, writes}
 use Rattle.vd_passes.specs.Standings.{standing}
 use Rattle.vd_passes.specs.Places.{IsIn}
-use Rattle.vd_passes.specs.Passes.{has_region, pending_of, call_of, tickets_of, fetches_of, IsPiece, IsRequestOf, HasOutcome, StandsAs, after_piece, spent}
-use Rattle.vd_passes.specs.Coherent.{IsCoherent, IsFaithful, StandsFor, IsFilled}
+use Rattle.vd_passes.specs.Passes.{has_region, pending_of, call_id, tickets_of, fetches_of, IsPiece, IsRequestOf, HasOutcome, IsAsHistorySays, after_piece, after_spending}
+use Rattle.vd_passes.specs.Coherent.{IsCoherent, IsFaithful, AgreesInSector, IsFilled}
 use Rattle.vd_passes.proofs.Lists.{some-inj}
 use Rattle.vd_passes.proofs.Places.{block-after, same-block, in-piece, same-place}
 use Rattle.vd_passes.proofs.Standing.{IsServing, standing-own, standing-other, regular-seen, shown-push}
 use Rattle.vd_passes.proofs.Tracks.{track-more, track-writes, track-contents, writes-more, writes-none, disk-track, cases-at, at-range, at-some, some-at, seen-writes, seen-at, seen-off, is-one}
 use Rattle.vd_passes.proofs.Regions.{region-of, issuing-write, both-read, no-writer, no-filler, request-kept}
-use Rattle.vd_passes.proofs.Calm.{calm-coherent, calm-faithful, apart-free}
+use Rattle.vd_passes.proofs.NotIssuing.{not-issuing-coherent, not-issuing-faithful, apart-free}
 use Rattle.vd_passes.proofs.Onward.{not-idle, not-ready}
 
 -- What an honest store reads where no write is open could stand there before.
@@ -58,10 +58,10 @@ is-read p Flush is reads no_flush = absurd (let f = is.3 in cc)
 ended : Bool → Phase
 ended b = if b then HasAsked else Ready
 
-ended-calm : (b : Bool) → ended b ≢ Issuing
+ended-not-issuing : (b : Bool) → ended b ≢ Issuing
 unfolding ended
-ended-calm true e = cc
-ended-calm false e = cc
+ended-not-issuing true e = cc
+ended-not-issuing false e = cc
 
 ended-free : (b : Bool) → has_region (ended b) ≡ false
 unfolding ended
@@ -73,10 +73,10 @@ unfolding ended
 ended-filled true e = cc
 ended-filled false e = cc
 
-module _ {shape : Shape} {fresh : List Bool} {places : ℕ → Option ℕ} {passes : List Pass} {history : List Entry} {sectors depth base_sectors base_depth : ℕ} {flies base_flies : List Ticket → Type 0}
-    (co : IsCoherent shape fresh places passes history sectors depth base_sectors base_depth flies base_flies) (i : ℕ) (p : Pass) (there : slice_get passes i ≡ Some p)
+module _ {shape : Shape} {fresh : List Bool} {places : ℕ → Option ℕ} {passes : List Pass} {history : List Entry} {sectors depth base_sectors base_depth : ℕ} {flight base_flight : List Ticket → Type 0}
+    (co : IsCoherent shape fresh places passes history sectors depth base_sectors base_depth flight base_flight) (i : ℕ) (p : Pass) (there : slice_get passes i ≡ Some p)
     (region : has_region p.phase ≡ true) (calm : p.phase ≢ Issuing) (reads : p.write ≡ false) (content : List Sector) (long : length content ≡ p.piece) where
-  stands : StandsAs shape fresh places (standing history i) p
+  stands : IsAsHistorySays shape fresh places (standing history i) p
   stands = co.each i p there
 
   piece : IsPiece shape p
@@ -89,10 +89,10 @@ module _ {shape : Shape} {fresh : List Bool} {places : ℕ → Option ℕ} {pass
   whole = stands.whole busy (not-ready p.phase region)
 
   abbrev event : Entry
-  event = Seen (call_of i p) (p.first + p.done) content
+  event = Seen (call_id i p) (p.first + p.done) content
 
   abbrev next : Pass
-  next = spent 1 p.piece (after_piece p)
+  next = after_spending 1 p.piece (after_piece p)
 
   in-block : (s : ℕ) (v : Sector) → sector_in (p.first + p.done) content s ≡ Some v → IsIn shape.block p.block s
   in-block s v on = let r = at-range (p.first + p.done) content s v on in in-piece shape p s piece r.0 (let to = r.1 in omega arith)
@@ -124,7 +124,7 @@ module _ {shape : Shape} {fresh : List Bool} {places : ℕ → Option ℕ} {pass
       (λ s from to. free s (in-piece shape p s piece from (omega arith))))
 
   goes-on : (b : Bool) → nat_lt (p.done + p.piece) p.count ≡ b
-      → StandsAs shape fresh places (record (standing history i) { progress = record (standing history i).progress { done = (standing history i).progress.done + length content; started = true } })
+      → IsAsHistorySays shape fresh places (record (standing history i) { progress = record (standing history i).progress { done = (standing history i).progress.done + length content; started = true } })
       (record p { phase = if b then HasAsked else Ready; done = p.done + p.piece; ticket = None; fetch = None; events = p.events - 1; sectors = p.sectors - p.piece })
   goes-on true is = record {
     call = stands.call;
@@ -175,9 +175,9 @@ module _ {shape : Shape} {fresh : List Bool} {places : ℕ → Option ℕ} {pass
   abbrev more_left : Bool
   more_left = nat_lt (p.done + p.piece) p.count
 
-  next-calm : next.phase ≢ Issuing
+  next-not-issuing : next.phase ≢ Issuing
   unfolding ended
-  next-calm = ended-calm more_left
+  next-not-issuing = ended-not-issuing more_left
 
   next-free : has_region next.phase ≡ false
   unfolding ended
@@ -188,13 +188,13 @@ module _ {shape : Shape} {fresh : List Bool} {places : ℕ → Option ℕ} {pass
   next-filled = ended-filled more_left
 
   quiet : (s : ℕ) → writes (history ++ event ∷ []) s ≡ writes history s
-  quiet s = writes-more history event s (track [] history s) (track-writes [] history s) ∙ seen-writes s (track [] history s) (call_of i p) (p.first + p.done) content ∙ track-writes [] history s
+  quiet s = writes-more history event s (track [] history s) (track-writes [] history s) ∙ seen-writes s (track [] history s) (call_id i p) (p.first + p.done) content ∙ track-writes [] history s
 
-  pub seen-coherent : (flies' base_flies' : List Ticket → Type 0) → flies' (tickets_of (slice_set passes i next)) → base_flies' (fetches_of (slice_set passes i next))
-      → IsCoherent shape fresh places (slice_set passes i next) (history ++ event ∷ []) sectors depth base_sectors base_depth flies' base_flies'
-  seen-coherent flies' base_flies' flight base_flight = calm-coherent co i p there calm next next-calm (history ++ event ∷ []) quiet flies' base_flies' regular
+  pub seen-coherent : (flight' base_flight' : List Ticket → Type 0) → flight' (tickets_of (slice_set passes i next)) → base_flight' (fetches_of (slice_set passes i next))
+      → IsCoherent shape fresh places (slice_set passes i next) (history ++ event ∷ []) sectors depth base_sectors base_depth flight' base_flight'
+  seen-coherent flight' base_flight' flight base_flight = not-issuing-coherent co i p there calm next next-not-issuing (history ++ event ∷ []) quiet flight' base_flight' regular
       (λ j ne. standing-other history event j (λ e. ne (sym e)))
-      (subst (λ h. StandsAs shape fresh places h next) (sym (standing-own history event i (ap at-call (sym stands.call)) tt)) (goes-on more_left refl))
+      (subst (λ h. IsAsHistorySays shape fresh places h next) (sym (standing-own history event i (ap at-call (sym stands.call)) tt)) (goes-on more_left refl))
       (λ k r at ne. apart-free next r next-free)
       flight base_flight
 
@@ -210,11 +210,11 @@ module _ {shape : Shape} {fresh : List Bool} {places : ℕ → Option ℕ} {pass
 
     -- where nothing was seen what may stand there stays, and where something was it is that
     off-same : (s : ℕ) → sector_in (p.first + p.done) content s ≡ None → seen-of s ≡ guest-of s
-    off-same s off = track-more start history event s ∙ seen-off s (guest-of s) (call_of i p) (p.first + p.done) content off
+    off-same s off = track-more start history event s ∙ seen-off s (guest-of s) (call_id i p) (p.first + p.done) content off
 
     on-now : (s : ℕ) (v : Sector) → sector_in (p.first + p.done) content s ≡ Some v → (seen-of s).contents ≡ v ∷ []
     on-now s v on = ap (λ (x : Track). x.contents) (track-more start history event s)
-        ∙ seen-at s (guest-of s) (call_of i p) (p.first + p.done) content v on (track-writes start history s ∙ free s (in-block s v on))
+        ∙ seen-at s (guest-of s) (call_id i p) (p.first + p.done) content v on (track-writes start history s ∙ free s (in-block s v on))
 
     more : (a : ℕ) (w : IsFilled shape.block passes a (track start history) (track disk.start disk.log a)) → (v : Sector) → Contains (guest-of w.sector).contents v → Contains (seen-of w.sector).contents v
     more a w v among = elim (cases-at (p.first + p.done) content w.sector) [
@@ -227,13 +227,13 @@ module _ {shape : Shape} {fresh : List Bool} {places : ℕ → Option ℕ} {pass
 
     -- The pass saw the rest of a block that isn't fresh.
     pub rest-faithful : slice_get fresh p.block ≡ Some false → IsRest rest (p.first + p.done) content → IsFaithful start rest shape fresh places (slice_set passes i next) (history ++ event ∷ []) disk last
-    rest-faithful absent is_rest = calm-faithful co i p there calm next next-calm (history ++ event ∷ []) quiet fa disk last (omega arith)
+    rest-faithful absent is_rest = not-issuing-faithful co i p there calm next next-not-issuing (history ++ event ∷ []) quiet fa disk last (omega arith)
         (shown-push start history event fa.shown (shown-is (λ s v on.
         let in_p = in-block s v on in
         subst (λ (x : Sector). Contains (guest-of s).contents x) (sym (is_rest s v on)) ((fa.stands s (in-start s in_p)).other p.block in_p absent))))
         (λ t is. absurd (cc)) (λ a low. refl)
         (λ s inside. elim (cases-at (p.first + p.done) content s) [
-          | inl off ↦ subst (λ (g : Track). StandsFor shape.block fresh places rest s g (track disk.start disk.log)) (sym (off-same s off)) (fa.stands s inside)
+          | inl off ↦ subst (λ (g : Track). AgreesInSector shape.block fresh places rest s g (track disk.start disk.log)) (sym (off-same s off)) (fa.stands s inside)
           | inr on ↦
               let in_p = in-block s on.0 on.1 in
               record {
@@ -295,14 +295,14 @@ module _ {shape : Shape} {fresh : List Bool} {places : ℕ → Option ℕ} {pass
         store-on : (a : ℕ) (v : Sector) → sector_in t.first content a ≡ Some v → (after-of a).contents ≡ v ∷ []
         store-on a v on = ap (λ (x : Track). x.contents) (disk-track a adds) ∙ seen-at a (store-of a) (ticket_id t) t.first content v on (store-free a v on)
 
-        off-stands : (s : ℕ) → s < length start → sector_in (p.first + p.done) content s ≡ None → StandsFor shape.block fresh places rest s (seen-of s) after-of
+        off-stands : (s : ℕ) → s < length start → sector_in (p.first + p.done) content s ≡ None → AgreesInSector shape.block fresh places rest s (seen-of s) after-of
         off-stands s inside off = let old = fa.stands s inside in record {
           local = λ b x in_b is at v among. subst (λ (g : Track). Contains g.contents v) (sym (off-same s off))
               (old.local b x in_b is at v (subst (λ (d : Track). Contains d.contents v) (store-off (x + (s - shape.block * b)) (off-too s b x in_b at off)) among));
           other = λ b in_b not. subst (λ (g : Track). Contains g.contents (rest s)) (sym (off-same s off)) (old.other b in_b not);
         }
 
-        on-stands : (s : ℕ) (c : Sector) → sector_in (p.first + p.done) content s ≡ Some c → StandsFor shape.block fresh places rest s (seen-of s) after-of
+        on-stands : (s : ℕ) (c : Sector) → sector_in (p.first + p.done) content s ≡ Some c → AgreesInSector shape.block fresh places rest s (seen-of s) after-of
         on-stands s c on = let in_p = in-block s c on in record {
           local = λ b x in_b is at v among.
               let e : b ≡ p.block = same-block shape.block b p.block s in_b in_p in
@@ -315,7 +315,7 @@ module _ {shape : Shape} {fresh : List Bool} {places : ℕ → Option ℕ} {pass
         }
 
         pub seen-faithful : IsHeld t.first content disk'.held → IsFaithful start rest shape fresh places (slice_set passes i next) (history ++ event ∷ []) disk' last
-        seen-faithful held = calm-faithful co i p there calm next next-calm (history ++ event ∷ []) quiet fa disk' last (omega arith)
+        seen-faithful held = not-issuing-faithful co i p there calm next next-not-issuing (history ++ event ∷ []) quiet fa disk' last (omega arith)
             (shown-push start history event fa.shown (shown-is (λ s v on.
             let in_p = in-block s v on in let low = in_p.0 in
             let a = p.at + (s - shape.block * p.block) in

@@ -16,8 +16,8 @@ use Rattle.vd_passes.specs.declared.pass.Phase.{Phase}
 use Rattle.vd_passes.specs.declared.pass.Phase.TheVariants.{Idle, Asked as HasAsked, Held, Fetching, Filled, Issuing, Looking, Flushing, Ready}
 use Rattle.vd_passes.specs.declared.pass.Fault.{Fault}
 use Rattle.vd_passes.proofs.Lists.{some-inj, at-set}
-use Rattle.vd_passes.specs.Needs.{pieces, need_of, sectors_left, pieces_left, events_of, events_needed, sectors_needed, HasRoom}
-use Rattle.vd_passes.specs.Passes.{IsPiece, spent, after_ask, after_enter, after_fetch, after_filled, after_issue, after_look, after_base_look, after_piece, after_fault, after_reply}
+use Rattle.vd_passes.specs.Needs.{sectors_left, pieces_left, events_of, events_needed, sectors_needed, HasRoom, pieces, need_of}
+use Rattle.vd_passes.specs.Passes.{IsPiece, after_spending, after_ask, after_enter, after_fetch, after_filled, after_issue, after_look, after_base_look, after_piece, after_fault, after_reply}
 
 -- The pieces of a range that begins in block b.
 pub pieces-from : (block b first count : ℕ) → block * b ≤ first → first < block * b + block → pieces block first count ≡ (first - block * b + count + (block - 1)) / block
@@ -218,7 +218,7 @@ unidle false is = cc
 
 module _ {shape : Shape} {p : Pass} (piece : IsPiece shape p) (room : HasRoom shape.block p) where
   -- after the end of its piece the pass has its next one to do, or its Reply
-  ended : (events sectors : ℕ) → events + 1 + events_of p.write (pieces_left shape.block p) ≤ p.events + events_of p.write 1 → sectors_left p ≤ p.sectors - sectors + p.piece → HasRoom shape.block (spent events sectors (after_piece p))
+  ended : (events sectors : ℕ) → events + 1 + events_of p.write (pieces_left shape.block p) ≤ p.events + events_of p.write 1 → sectors_left p ≤ p.sectors - sectors + p.piece → HasRoom shape.block (after_spending events sectors (after_piece p))
   ended events sectors enough_events enough_sectors =
       let behind : ℕ = pieces shape.block (p.first + (p.done + p.piece)) (p.count - (p.done + p.piece)) in
       elim (cases_lt (p.done + p.piece) p.count) [
@@ -254,19 +254,19 @@ module _ {shape : Shape} {p : Pass} (piece : IsPiece shape p) (room : HasRoom sh
   issuing-sectors is = let a = room.sectors in let e = ap (λ ph. sectors_needed ph (sectors_left p) p.piece) is in omega arith
 
   -- the piece is written
-  pub room-written : p.phase ≡ Issuing → p.write ≡ true → HasRoom shape.block (spent 1 0 (after_piece p)) × Uses 1 0 p (spent 1 0 (after_piece p))
+  pub room-written : p.phase ≡ Issuing → p.write ≡ true → HasRoom shape.block (after_spending 1 0 (after_piece p)) × Uses 1 0 p (after_spending 1 0 (after_piece p))
   room-written is write =
       let a = issuing-events is write in let b = issuing-sectors is in let c = pieces-left piece in let f = twice p.write (pieces_left shape.block p) write in let g = twice p.write 1 write in
       (ended 1 0 (omega arith) (omega arith), record { events_used = omega arith; sectors_used = omega arith })
 
   -- the store has failed it
-  pub room-broke : p.phase ≡ Issuing → p.write ≡ true → (fault : Fault) → HasRoom shape.block (spent 1 0 (after_fault fault p)) × Uses 1 0 p (spent 1 0 (after_fault fault p))
+  pub room-broke : p.phase ≡ Issuing → p.write ≡ true → (fault : Fault) → HasRoom shape.block (after_spending 1 0 (after_fault fault p)) × Uses 1 0 p (after_spending 1 0 (after_fault fault p))
   room-broke is write fault =
       let a = issuing-events is write in let c = pieces-left piece in
       (record { events = omega arith; sectors = omega arith; idle = λ idle. absurd (cc) }, record { events_used = omega arith; sectors_used = omega arith })
 
   -- the piece is seen
-  pub room-seen : is_before_event p.phase ≡ true → p.write ≡ false → HasRoom shape.block (spent 1 p.piece (after_piece p)) × Uses 1 p.piece p (spent 1 p.piece (after_piece p))
+  pub room-seen : is_before_event p.phase ≡ true → p.write ≡ false → HasRoom shape.block (after_spending 1 p.piece (after_piece p)) × Uses 1 p.piece p (after_spending 1 p.piece (after_piece p))
   room-seen before read =
       let a = room.events in let b = room.sectors in let e = events-before p.phase p.write (pieces_left shape.block p) before in let h = sectors-before p.phase (sectors_left p) p.piece before in
       let f = once p.write (pieces_left shape.block p) read in let g = once p.write 1 read in let n = piece.no_more in

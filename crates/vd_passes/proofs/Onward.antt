@@ -8,7 +8,7 @@ use Rattle.vd_passes.specs.declared.pass.Phase.{Phase}
 use Rattle.vd_passes.specs.declared.pass.Phase.TheVariants.{Idle, Asked as HasAsked, Looking, Flushing, Ready}
 use Rattle.vd_passes.specs.declared.pass.Fault.{Fault}
 use Rattle.vd_passes.specs.Standings.{Standing}
-use Rattle.vd_passes.specs.Passes.{has_region, pending_of, writes_in, HasTicket, HasOutcome, StandsAs, after_fault}
+use Rattle.vd_passes.specs.Passes.{has_region, pending_of, writes_in, HasInFlight, HasOutcome, IsAsHistorySays, after_fault}
 use Rattle.vd_passes.proofs.Regions.{request-kept}
 
 -- a phase in which a pass holds its region is none of these
@@ -24,14 +24,14 @@ not-ready ph has e = let h = ap has_region e in absurd (cc)
 pub not-flushing : (ph : Phase) → has_region ph ≡ true → ph ≢ Flushing
 not-flushing ph has e = let h = ap has_region e in absurd (cc)
 
-module _ {shape : Shape} {fresh : List Bool} {places : ℕ → Option ℕ} {t : Standing} {p : Pass} (stands : StandsAs shape fresh places t p) (region : has_region p.phase ≡ true) where
+module _ {shape : Shape} {fresh : List Bool} {places : ℕ → Option ℕ} {t : Standing} {p : Pass} (stands : IsAsHistorySays shape fresh places t p) (region : has_region p.phase ≡ true) where
   -- in its region it is now in another phase
   abbrev pub moved : Phase → (ticket fetch : Option Ticket) → (buffer : List Sector) → Pass
   moved ph ticket fetch buffer = record p { phase = ph; ticket = ticket; fetch = fetch; buffer = buffer }
 
   pub moved-stands : (ph : Phase) (ticket fetch : Option Ticket) (buffer : List Sector) → has_region ph ≡ true → pending_of ph p.piece ≡ pending_of p.phase p.piece
-      → (writes_in ph ≡ true → p.write ≡ true) → (ph ≡ Looking → p.write ≡ false) → HasTicket ph shape fresh (moved ph ticket fetch buffer) → length buffer ≡ shape.block
-      → StandsAs shape fresh places t (moved ph ticket fetch buffer)
+      → (writes_in ph ≡ true → p.write ≡ true) → (ph ≡ Looking → p.write ≡ false) → HasInFlight ph shape fresh (moved ph ticket fetch buffer) → length buffer ≡ shape.block
+      → IsAsHistorySays shape fresh places t (moved ph ticket fetch buffer)
   moved-stands ph ticket fetch buffer has pending write read ticket_is long =
       let busy = not-idle p.phase region in
       record {
@@ -58,7 +58,7 @@ module _ {shape : Shape} {fresh : List Bool} {places : ℕ → Option ℕ} {t : 
       }
 
   -- A device has failed it where it had written nothing of its piece.
-  pub failed-stands : (why : Fault) → pending_of p.phase p.piece ≡ 0 → HasOutcome (after_fault why p) false (Some why) → StandsAs shape fresh places t (after_fault why p)
+  pub failed-stands : (why : Fault) → pending_of p.phase p.piece ≡ 0 → HasOutcome (after_fault why p) false (Some why) → IsAsHistorySays shape fresh places t (after_fault why p)
   failed-stands why pending outcome =
       let busy = not-idle p.phase region in let whole = stands.whole busy (not-ready p.phase region) in
       record {

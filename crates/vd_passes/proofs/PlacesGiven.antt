@@ -2,9 +2,9 @@
 use Rattle.std.proofs.Common.{◌≡◌, ◌≢◌, ℕ, suc, ◌+◌, ◌*◌, ◌/◌, ◌%◌, ◌<◌, ◌≤◌, ◌⊎◌, List, refl, sym, ◌∙◌, ap, inl, inr, arith, Option, Some, None, slice_get}
 use Rattle.std.proofs.Math.Nat.{mul-le-mul_left, mul-suc, mul_comm, div-add-mod, mod-lt}
 use Rattle.std.proofs.lemmas.Bool.{cases_lt}
-use Rattle.vd_table.specs.Tables.{Given, with_storage, IsOneToOne}
+use Rattle.vd_table.specs.Tables.{TableState, with_storage, IsOneToOne}
 use Rattle.vd_passes.specs.declared.shape.Shape.{Shape}
-use Rattle.vd_passes.specs.Places.{place_in, place_of, ArePlaces, Extends}
+use Rattle.vd_passes.specs.Places.{place_in, place_of, ArePlaces, KeepsPlaces}
 use Rattle.vd_passes.proofs.Lists.{some-inj, get-set-other}
 
 -- the number of a block among those of the storage area
@@ -49,7 +49,7 @@ same-slot k p q r s r_less s_less same = elim (cases_lt p q) [
 same-number : (k a b : ℕ) → a / k ≡ b / k → a % k ≡ b % k → a ≡ b
 same-number k a b quotient remainder = let e = div-add-mod a k in let f = div-add-mod b k in let g = ap (λ (n : ℕ). k * n) quotient in omega arith
 
-module _ (shape : Shape) (table : Given) (one_to_one : IsOneToOne table) (some : 0 < shape.chunk) where
+module _ (shape : Shape) (table : TableState) (one_to_one : IsOneToOne table) (some : 0 < shape.chunk) where
   -- two blocks have one place only where they are one
   one-slot : (b c p q : ℕ) → slice_get table.chunks (b / shape.chunk) ≡ Some (Some p) → slice_get table.chunks (c / shape.chunk) ≡ Some (Some q) → slot shape b p ≡ slot shape c q → b ≡ c
   one-slot b c p q has_b has_c same =
@@ -80,7 +80,7 @@ module _ (shape : Shape) (table : Given) (one_to_one : IsOneToOne table) (some :
   are-places {sectors} room = record { apart = places-apart; inside = places-inside room }
 
 -- The blocks of a chunk that gets storage get their places, and the others keep theirs.
-pub extends-given : (shape : Shape) (table : Given) (chunk p : ℕ) → slice_get table.chunks chunk ≡ Some None → Extends (place_of shape table.chunks) (place_of shape (with_storage table chunk p).chunks)
+pub extends-given : (shape : Shape) (table : TableState) (chunk p : ℕ) → slice_get table.chunks chunk ≡ Some None → KeepsPlaces (place_of shape table.chunks) (place_of shape (with_storage table chunk p).chunks)
 extends-given shape table chunk p none b x at =
     let from = place-from shape table.chunks b x at in
     place-some shape (with_storage table chunk p).chunks b from.0 (get-set-other table.chunks chunk (b / shape.chunk) (Some p) (λ e. had from.0 (sym none ∙ ap (slice_get table.chunks) (sym e) ∙ from.1)) ∙ from.1)
@@ -89,8 +89,8 @@ extends-given shape table chunk p none b x at =
     had : (q : ℕ) → ◌≡◌ {A = Option (Option ℕ)} (Some None) (Some (Some q)) → ⊥
     had q e = cc
 
-pub extends-refl : (places : ℕ → Option ℕ) → Extends places places
+pub extends-refl : (places : ℕ → Option ℕ) → KeepsPlaces places places
 extends-refl places b x at = at
 
-pub extends-then : (places places' places'' : ℕ → Option ℕ) → Extends places places' → Extends places' places'' → Extends places places''
+pub extends-then : (places places' places'' : ℕ → Option ℕ) → KeepsPlaces places places' → KeepsPlaces places' places'' → KeepsPlaces places places''
 extends-then places places' places'' first second b x at = second b x (first b x at)

@@ -5,13 +5,13 @@ use Rattle.vd_law.specs.declared.entry.Sector.{Sector}
 use Rattle.vd_law.specs.Entries.{Write, Entry}
 use Rattle.vd_device.specs.declared.ticket.Ticket.{Ticket}
 use Rattle.vd_device.specs.declared.ticket.Kind.TheVariants.{Write as WriteKind}
-use Rattle.vd_device.specs.Tickets.{IsFree, AreApart as RangesApart}
+use Rattle.vd_device.specs.Tickets.{IsFree, AreRangesApart as RangesApart}
 use Rattle.vd_passes.specs.declared.shape.Shape.{Shape}
 use Rattle.vd_passes.specs.declared.pass.Pass.{Pass}
 use Rattle.vd_passes.specs.declared.pass.Phase.{Phase}
 use Rattle.vd_passes.specs.declared.pass.Phase.TheVariants.{Idle, Asked as HasAsked, Held, Fetching, Filled, Issuing, Looking, Flushing, Ready}
 use Rattle.vd_passes.specs.Standings.{Standing, standing}
-use Rattle.vd_passes.specs.Passes.{has_region, tickets_of, HasNone, HasTicket, IsPiece, IsStored, IsStoreLook, IsBaseLook, IsRequestOf, StandsAs}
+use Rattle.vd_passes.specs.Passes.{has_region, tickets_of, HasNone, HasInFlight, IsPiece, IsStored, IsStoreLook, IsBaseLook, IsRequestOf, IsAsHistorySays}
 use Rattle.vd_passes.specs.Coherent.{IsCoherent}
 use Rattle.vd_passes.specs.Steps.{IsAt, HasAskedWrite, CanWrite, CanRead}
 use Rattle.vd_passes.proofs.Lists.{some-inj, few-tickets, all-tickets}
@@ -23,7 +23,7 @@ look-reads q shape fresh t u (inl store) is kind = let e = ap (λ (x : Ticket). 
 look-reads q shape fresh t u (inr base) is kind = let n = base.none in cc
 
 -- a pass that has a write in flight is issuing, or its flush writes below the storage
-pub writes-there : (ph : Phase) (q : Pass) (shape : Shape) (fresh : List Bool) (u : Ticket) → HasTicket ph shape fresh q → q.ticket ≡ Some u → u.kind ≡ WriteKind → ((ph ≡ Issuing) × IsStored shape.block fresh q u) ⊎ ((ph ≡ Flushing) × (u.first + u.count ≤ shape.storage_at))
+pub writes-there : (ph : Phase) (q : Pass) (shape : Shape) (fresh : List Bool) (u : Ticket) → HasInFlight ph shape fresh q → q.ticket ≡ Some u → u.kind ≡ WriteKind → ((ph ≡ Issuing) × IsStored shape.block fresh q u) ⊎ ((ph ≡ Flushing) × (u.first + u.count ≤ shape.storage_at))
 writes-there Idle q shape fresh u has is kind = absurd (let n = has.ticket in cc)
 writes-there HasAsked q shape fresh u has is kind = absurd (let n = has.ticket in cc)
 writes-there Held q shape fresh u has is kind = absurd (let n = has.ticket in cc)
@@ -59,11 +59,11 @@ pub holding-not : (p : Pass) (phase : Phase) → IsHolding p → Held ≢ phase 
 holding-not p phase (inl held) not_held not_filled e = not_held (sym held ∙ e)
 holding-not p phase (inr filled) not_held not_filled e = not_filled (sym filled ∙ e)
 
-module _ {shape : Shape} {fresh : List Bool} {places : ℕ → Option ℕ} {t : Standing} {p : Pass} (stands : StandsAs shape fresh places t p) (holding : IsHolding p) where
+module _ {shape : Shape} {fresh : List Bool} {places : ℕ → Option ℕ} {t : Standing} {p : Pass} (stands : IsAsHistorySays shape fresh places t p) (holding : IsHolding p) where
   pub holding-none : HasNone p
   holding-none = elim holding [
-    | inl held ↦ subst (λ ph. HasTicket ph shape fresh p) held stands.ticket
-    | inr filled ↦ (subst (λ ph. HasTicket ph shape fresh p) filled stands.ticket).0
+    | inl held ↦ subst (λ ph. HasInFlight ph shape fresh p) held stands.ticket
+    | inr filled ↦ (subst (λ ph. HasInFlight ph shape fresh p) filled stands.ticket).0
   ]
 
   pub holding-busy : p.phase ≢ Idle
@@ -72,8 +72,8 @@ module _ {shape : Shape} {fresh : List Bool} {places : ℕ → Option ℕ} {t : 
   pub holding-unready : p.phase ≢ Ready
   holding-unready = holding-not p Ready holding (λ e. absurd (cc)) (λ e. absurd (cc))
 
-module _ {shape : Shape} {fresh : List Bool} {places : ℕ → Option ℕ} {passes : List Pass} {history : List Entry} {sectors depth base_sectors base_depth : ℕ} {flies base_flies : List Ticket → Type 0}
-    (co : IsCoherent shape fresh places passes history sectors depth base_sectors base_depth flies base_flies) (i : ℕ) where
+module _ {shape : Shape} {fresh : List Bool} {places : ℕ → Option ℕ} {passes : List Pass} {history : List Entry} {sectors depth base_sectors base_depth : ℕ} {flight base_flight : List Ticket → Type 0}
+    (co : IsCoherent shape fresh places passes history sectors depth base_sectors base_depth flight base_flight) (i : ℕ) where
   -- The content that was asked is as long as the request.
   pub request-is : (p : Pass) → slice_get passes i ≡ Some p → IsHolding p → (first : ℕ) (content : List Sector) → (standing history i).progress.asked ≡ Some (Write first content) → IsRequestOf p (Write first content)
   request-is p there holding first content asked = let b = (co.each i p there).busy (holding-busy (co.each i p there) holding) in subst (IsRequestOf p) (some-inj (sym b.1 ∙ asked)) b.2
@@ -83,7 +83,7 @@ module _ {shape : Shape} {fresh : List Bool} {places : ℕ → Option ℕ} {pass
 
   -- one whose block has its place
   module _ (p : Pass) (there : slice_get passes i ≡ Some p) (holding : IsHolding p) (known : (p.write ≡ true) ⊎ (slice_get fresh p.block ≡ Some true)) where
-    stands : StandsAs shape fresh places (standing history i) p
+    stands : IsAsHistorySays shape fresh places (standing history i) p
     stands = co.each i p there
 
     region : has_region p.phase ≡ true
@@ -110,13 +110,13 @@ module _ {shape : Shape} {fresh : List Bool} {places : ℕ → Option ℕ} {pass
           | inr low ↦ inl (let inside = (co.placed.inside p.block p.at placed).0 in let below = low.1 in omega arith)
         ]
 
-    free : (first count : ℕ) → p.at ≤ first → first + count ≤ p.at + shape.block → IsFree flies depth first count
+    free : (first count : ℕ) → p.at ≤ first → first + count ≤ p.at + shape.block → IsFree flight depth first count
     free first count from to = (tickets_of passes, co.flight, (let few = co.few in let deep = co.deep in omega (arith, few-tickets passes)), all-tickets _ passes (apart first count from to))
 
     within : p.first + p.count ≤ 2 ^ 26
     within = let range = (stands.range (holding-busy stands holding)).0 in let size = co.shaped.size in omega arith
 
-    pub ready-write : CanWrite shape sectors depth flies p
+    pub ready-write : CanWrite shape sectors depth flight p
     ready-write =
         record {
           piece = stands.piece region;
@@ -129,7 +129,7 @@ module _ {shape : Shape} {fresh : List Bool} {places : ℕ → Option ℕ} {pass
           free = free;
         }
 
-    pub ready-read : CanRead shape sectors depth flies p
+    pub ready-read : CanRead shape sectors depth flight p
     ready-read =
         record {
           piece = stands.piece region;
@@ -141,13 +141,13 @@ module _ {shape : Shape} {fresh : List Bool} {places : ℕ → Option ℕ} {pass
           free = free;
         }
 
-  pub can-read : IsAt passes i (λ p. (p.phase ≡ Held) × (slice_get fresh p.block ≡ Some true)) → IsAt passes i (CanRead shape sectors depth flies)
+  pub can-read : IsAt passes i (λ p. (p.phase ≡ Held) × (slice_get fresh p.block ≡ Some true)) → IsAt passes i (CanRead shape sectors depth flight)
   can-read at = (at.0, at.1, ready-read at.0 at.1 (inl at.2.0) (inr at.2.1))
 
-  pub can-write : IsAt passes i (λ p. ((p.phase ≡ Held) ⊎ (p.phase ≡ Filled)) × (p.write ≡ true)) → IsAt passes i (CanWrite shape sectors depth flies)
+  pub can-write : IsAt passes i (λ p. ((p.phase ≡ Held) ⊎ (p.phase ≡ Filled)) × (p.write ≡ true)) → IsAt passes i (CanWrite shape sectors depth flight)
   can-write at = (at.0, at.1, ready-write at.0 at.1 at.2.0 (inl at.2.1))
 
   -- and the content that was asked has the piece
   pub can-write-asked : (content : List Sector) → HasAskedWrite history i content → IsAt passes i (λ p. ((p.phase ≡ Held) ⊎ (p.phase ≡ Filled)) × (p.write ≡ true))
-      → IsAt passes i (λ p. CanWrite shape sectors depth flies p × (length content ≡ p.count))
+      → IsAt passes i (λ p. CanWrite shape sectors depth flight p × (length content ≡ p.count))
   can-write-asked content asked at = (at.0, at.1, (ready-write at.0 at.1 at.2.0 (inl at.2.1), asked-long content asked at.0 at.1 at.2.0))

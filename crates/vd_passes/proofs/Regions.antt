@@ -13,8 +13,8 @@ use Rattle.vd_passes.specs.declared.pass.Phase.TheVariants.{Idle, Asked as HasAs
 use Rattle.vd_passes.specs.Tracks.{Track, writes}
 use Rattle.vd_passes.specs.Standings.{Standing, standing}
 use Rattle.vd_passes.specs.Places.{IsIn}
-use Rattle.vd_passes.specs.Passes.{has_region, Covers, IsWriting, IsFilling, IsPiece, IsStored, IsStoreLook, IsBaseLook, HasTicket, IsRequestOf, writes_in, StandsAs}
-use Rattle.vd_passes.specs.Coherent.{IsCoherent, AreApart, IsUnwritten, IsWritten, IsUnfilled, IsFilled}
+use Rattle.vd_passes.specs.Passes.{has_region, TicketCovers, IsWriting, IsFilling, IsPiece, IsStored, IsStoreLook, IsBaseLook, HasInFlight, IsRequestOf, writes_in, IsAsHistorySays}
+use Rattle.vd_passes.specs.Coherent.{IsCoherent, ArePassesApart, IsUnwritten, IsWritten, IsUnfilled, IsFilled}
 use Rattle.vd_passes.proofs.Lists.{some-inj, get-set-same, get-set-other, at-set, length-set'}
 use Rattle.vd_passes.proofs.Places.{same-block, in-piece, same-place}
 use Rattle.vd_passes.proofs.Standing.{standing-other}
@@ -23,22 +23,22 @@ pub region-of : (phase as_known : Phase) → has_region as_known ≡ true → ph
 region-of phase as_known has is = ap has_region is ∙ has
 
 -- What is known of one pass.
-module _ {shape : Shape} {fresh : List Bool} {places : ℕ → Option ℕ} {t : Standing} {p : Pass} (stands : StandsAs shape fresh places t p) where
+module _ {shape : Shape} {fresh : List Bool} {places : ℕ → Option ℕ} {t : Standing} {p : Pass} (stands : IsAsHistorySays shape fresh places t p) where
   -- what it has in flight, in a phase that is known
-  pub write-ticket : p.phase ≡ Issuing → HasTicket Issuing shape fresh p
-  write-ticket is = subst (λ ph. HasTicket ph shape fresh p) is stands.ticket
+  pub write-ticket : p.phase ≡ Issuing → HasInFlight Issuing shape fresh p
+  write-ticket is = subst (λ ph. HasInFlight ph shape fresh p) is stands.ticket
 
-  pub fetch-ticket : p.phase ≡ Fetching → HasTicket Fetching shape fresh p
-  fetch-ticket is = subst (λ ph. HasTicket ph shape fresh p) is stands.ticket
+  pub fetch-ticket : p.phase ≡ Fetching → HasInFlight Fetching shape fresh p
+  fetch-ticket is = subst (λ ph. HasInFlight ph shape fresh p) is stands.ticket
 
-  pub filled-ticket : p.phase ≡ Filled → HasTicket Filled shape fresh p
-  filled-ticket is = subst (λ ph. HasTicket ph shape fresh p) is stands.ticket
+  pub filled-ticket : p.phase ≡ Filled → HasInFlight Filled shape fresh p
+  filled-ticket is = subst (λ ph. HasInFlight ph shape fresh p) is stands.ticket
 
-  pub look-ticket : p.phase ≡ Looking → HasTicket Looking shape fresh p
-  look-ticket is = subst (λ ph. HasTicket ph shape fresh p) is stands.ticket
+  pub look-ticket : p.phase ≡ Looking → HasInFlight Looking shape fresh p
+  look-ticket is = subst (λ ph. HasInFlight ph shape fresh p) is stands.ticket
 
-  pub held-ticket : p.phase ≡ Held → HasTicket Held shape fresh p
-  held-ticket is = subst (λ ph. HasTicket ph shape fresh p) is stands.ticket
+  pub held-ticket : p.phase ≡ Held → HasInFlight Held shape fresh p
+  held-ticket is = subst (λ ph. HasInFlight ph shape fresh p) is stands.ticket
 
   -- a pass that issues serves a write, and its block has its place
   pub issuing-write : p.phase ≡ Issuing → p.write ≡ true
@@ -60,12 +60,12 @@ stored-place shape fresh p t a piece (inr whole) from to = let e = whole.0 in le
 pub sector-at : (block b at a : ℕ) → at ≤ a → a < at + block → (s : ℕ) × (a + block * b ≡ at + s) × IsIn block b s
 sector-at block b at a from to = (block * b + (a - at), omega arith, (omega arith, omega arith))
 
-module _ {shape : Shape} {fresh : List Bool} {places : ℕ → Option ℕ} {t : Standing} {p : Pass} (stands : StandsAs shape fresh places t p) where
+module _ {shape : Shape} {fresh : List Bool} {places : ℕ → Option ℕ} {t : Standing} {p : Pass} (stands : IsAsHistorySays shape fresh places t p) where
   -- the sector of the store that it fills lies in its block's place
   pub filling-range : {a : ℕ} → IsFilling p a → (p.at ≤ a) × (a < p.at + shape.block)
   filling-range {a} f =
       let has = write-ticket stands f.phase in
-      let covers : Covers (Some has.0) a = subst (λ o. Covers o a) has.1 f.covers in
+      let covers : TicketCovers (Some has.0) a = subst (λ o. TicketCovers o a) has.1 f.covers in
       stored-place shape fresh p has.0 a (stands.piece (region-of _ Issuing refl f.phase)) has.4 covers.0 covers.1
 
   -- and is the place of a sector of the guest in that block
@@ -73,8 +73,8 @@ module _ {shape : Shape} {fresh : List Bool} {places : ℕ → Option ℕ} {t : 
   filling-place {a} f = let range = filling-range f in sector-at shape.block p.block p.at a range.0 range.1
 
 -- What follows of one pass that holds the region of its block.
-module _ {shape : Shape} {fresh : List Bool} {places : ℕ → Option ℕ} {passes : List Pass} {history : List Entry} {sectors depth base_sectors base_depth : ℕ} {flies base_flies : List Ticket → Type 0}
-    (co : IsCoherent shape fresh places passes history sectors depth base_sectors base_depth flies base_flies) (i : ℕ) (p : Pass) (there : slice_get passes i ≡ Some p)
+module _ {shape : Shape} {fresh : List Bool} {places : ℕ → Option ℕ} {passes : List Pass} {history : List Entry} {sectors depth base_sectors base_depth : ℕ} {flight base_flight : List Ticket → Type 0}
+    (co : IsCoherent shape fresh places passes history sectors depth base_sectors base_depth flight base_flight) (i : ℕ) (p : Pass) (there : slice_get passes i ≡ Some p)
     (holds : has_region p.phase ≡ true) where
   -- where another holds a region there too, both read
   pub both-read : (j : ℕ) (q : Pass) → slice_get passes j ≡ Some q → has_region q.phase ≡ true → q.block ≡ p.block → j ≢ i → (p.write ≡ false) × (q.write ≡ false)
@@ -101,8 +101,8 @@ module _ {shape : Shape} {fresh : List Bool} {places : ℕ → Option ℕ} {pass
   no-filler reads a guest store placed from to w = region-unwritten reads w.by w.pass w.there w.filling.phase (filler-block a guest store placed from to w)
 
 -- What follows of one that holds it to write.
-module _ {shape : Shape} {fresh : List Bool} {places : ℕ → Option ℕ} {passes : List Pass} {history : List Entry} {sectors depth base_sectors base_depth : ℕ} {flies base_flies : List Ticket → Type 0}
-    (co : IsCoherent shape fresh places passes history sectors depth base_sectors base_depth flies base_flies) (i : ℕ) (p : Pass) (there : slice_get passes i ≡ Some p)
+module _ {shape : Shape} {fresh : List Bool} {places : ℕ → Option ℕ} {passes : List Pass} {history : List Entry} {sectors depth base_sectors base_depth : ℕ} {flight base_flight : List Ticket → Type 0}
+    (co : IsCoherent shape fresh places passes history sectors depth base_sectors base_depth flight base_flight) (i : ℕ) (p : Pass) (there : slice_get passes i ≡ Some p)
     (holds : has_region p.phase ≡ true) (write : p.write ≡ true) where
   -- no other pass holds a region of its block
   pub alone : (j : ℕ) (q : Pass) → slice_get passes j ≡ Some q → has_region q.phase ≡ true → q.block ≡ p.block → j ≡ i
@@ -174,16 +174,16 @@ request-kept p q Flush w f c g is = (w ∙ is.0, f ∙ is.1, c ∙ is.2, g ∙ i
 
 -- A pass that changes keeps apart from the others where it holds no region that it didn't hold.
 pub apart-set : (passes : List Pass) (i : ℕ) (p p' : Pass) → slice_get passes i ≡ Some p
-    → ((j k : ℕ) (q r : Pass) → slice_get passes j ≡ Some q → slice_get passes k ≡ Some r → j ≢ k → AreApart q r)
-    → ((k : ℕ) (r : Pass) → slice_get passes k ≡ Some r → i ≢ k → AreApart p' r)
-    → (j k : ℕ) (q r : Pass) → slice_get (slice_set passes i p') j ≡ Some q → slice_get (slice_set passes i p') k ≡ Some r → j ≢ k → AreApart q r
+    → ((j k : ℕ) (q r : Pass) → slice_get passes j ≡ Some q → slice_get passes k ≡ Some r → j ≢ k → ArePassesApart q r)
+    → ((k : ℕ) (r : Pass) → slice_get passes k ≡ Some r → i ≢ k → ArePassesApart p' r)
+    → (j k : ℕ) (q r : Pass) → slice_get (slice_set passes i p') j ≡ Some q → slice_get (slice_set passes i p') k ≡ Some r → j ≢ k → ArePassesApart q r
 apart-set passes i p p' there old new j k q r at_j at_k ne = elim (at-set passes i j p' p q there at_j) [
   | inl a ↦ elim (at-set passes i k p' p r there at_k) [
     | inl b ↦ absurd (ne (a.0 ∙ sym b.0))
-    | inr b ↦ subst (λ x. AreApart x r) (sym a.1) (new k r b.1 (λ e. b.0 (sym e)))
+    | inr b ↦ subst (λ x. ArePassesApart x r) (sym a.1) (new k r b.1 (λ e. b.0 (sym e)))
   ]
   | inr a ↦ elim (at-set passes i k p' p r there at_k) [
-    | inl b ↦ λ has_q has_r same. let c = subst (λ x. AreApart x q) (sym b.1) (new j q a.1 (λ e. a.0 (sym e))) has_r has_q (sym same) in (c.1, c.0)
+    | inl b ↦ λ has_q has_r same. let c = subst (λ x. ArePassesApart x q) (sym b.1) (new j q a.1 (λ e. a.0 (sym e))) has_r has_q (sym same) in (c.1, c.0)
     | inr b ↦ old j k q r a.1 b.1 ne
   ]
 ]
@@ -191,26 +191,26 @@ apart-set passes i p p' there old new j k q r at_j at_k ne = elim (at-set passes
 -- The passes stand as the history says after a step of one of them,
 pub each-step : (shape : Shape) (fresh : List Bool) (places : ℕ → Option ℕ) (passes : List Pass) (history history' : List Entry) (i : ℕ) (p p' : Pass) → slice_get passes i ≡ Some p
     → ((j : ℕ) → j ≢ i → standing history' j ≡ standing history j)
-    → ((j : ℕ) (q : Pass) → slice_get passes j ≡ Some q → j ≢ i → StandsAs shape fresh places (standing history j) q)
-    → StandsAs shape fresh places (standing history' i) p'
-    → (j : ℕ) (q : Pass) → slice_get (slice_set passes i p') j ≡ Some q → StandsAs shape fresh places (standing history' j) q
+    → ((j : ℕ) (q : Pass) → slice_get passes j ≡ Some q → j ≢ i → IsAsHistorySays shape fresh places (standing history j) q)
+    → IsAsHistorySays shape fresh places (standing history' i) p'
+    → (j : ℕ) (q : Pass) → slice_get (slice_set passes i p') j ≡ Some q → IsAsHistorySays shape fresh places (standing history' j) q
 each-step shape fresh places passes history history' i p p' there others old new j q at_j = elim (at-set passes i j p' p q there at_j) [
-  | inl a ↦ subst (λ x. StandsAs shape fresh places (standing history' j) x) (sym a.1) (subst (λ k. StandsAs shape fresh places (standing history' k) p') (sym a.0) new)
-  | inr a ↦ subst (λ h. StandsAs shape fresh places h q) (sym (others j a.0)) (old j q a.1 a.0)
+  | inl a ↦ subst (λ x. IsAsHistorySays shape fresh places (standing history' j) x) (sym a.1) (subst (λ k. IsAsHistorySays shape fresh places (standing history' k) p') (sym a.0) new)
+  | inr a ↦ subst (λ h. IsAsHistorySays shape fresh places h q) (sym (others j a.0)) (old j q a.1 a.0)
 ]
 
 -- with an entry,
 pub each-set : (shape : Shape) (fresh : List Bool) (places : ℕ → Option ℕ) (passes : List Pass) (history : List Entry) (e : Entry) (i : ℕ) (p p' : Pass) → slice_get passes i ≡ Some p → (caller_of e).pass ≡ i
-    → ((j : ℕ) (q : Pass) → slice_get passes j ≡ Some q → j ≢ i → StandsAs shape fresh places (standing history j) q)
-    → StandsAs shape fresh places (standing (history ++ e ∷ []) i) p'
-    → (j : ℕ) (q : Pass) → slice_get (slice_set passes i p') j ≡ Some q → StandsAs shape fresh places (standing (history ++ e ∷ []) j) q
+    → ((j : ℕ) (q : Pass) → slice_get passes j ≡ Some q → j ≢ i → IsAsHistorySays shape fresh places (standing history j) q)
+    → IsAsHistorySays shape fresh places (standing (history ++ e ∷ []) i) p'
+    → (j : ℕ) (q : Pass) → slice_get (slice_set passes i p') j ≡ Some q → IsAsHistorySays shape fresh places (standing (history ++ e ∷ []) j) q
 each-set shape fresh places passes history e i p p' there of = each-step shape fresh places passes history (history ++ e ∷ []) i p p' there (λ j ne. standing-other history e j (λ same. ne (sym same ∙ of)))
 
 -- and with none
 pub each-quiet : (shape : Shape) (fresh : List Bool) (places : ℕ → Option ℕ) (passes : List Pass) (history : List Entry) (i : ℕ) (p p' : Pass) → slice_get passes i ≡ Some p
-    → ((j : ℕ) (q : Pass) → slice_get passes j ≡ Some q → j ≢ i → StandsAs shape fresh places (standing history j) q)
-    → StandsAs shape fresh places (standing history i) p'
-    → (j : ℕ) (q : Pass) → slice_get (slice_set passes i p') j ≡ Some q → StandsAs shape fresh places (standing history j) q
+    → ((j : ℕ) (q : Pass) → slice_get passes j ≡ Some q → j ≢ i → IsAsHistorySays shape fresh places (standing history j) q)
+    → IsAsHistorySays shape fresh places (standing history i) p'
+    → (j : ℕ) (q : Pass) → slice_get (slice_set passes i p') j ≡ Some q → IsAsHistorySays shape fresh places (standing history j) q
 each-quiet shape fresh places passes history i p p' there = each-step shape fresh places passes history history i p p' there (λ j ne. refl)
 
 -- block b is fresh from now on, and the others are as they were
@@ -233,7 +233,7 @@ look-freshens : {fresh fresh' : List Bool} {b : ℕ} → Freshens fresh fresh' b
 look-freshens {fresh} {fresh'} {b} f shape p t ne (inl store) = inl (record { has = store.has; none = store.none; kind = store.kind; first = store.first; count = store.count; local = known f p.block true ne store.local })
 look-freshens {fresh} {fresh'} {b} f shape p t ne (inr base) = inr (record { has = base.has; none = base.none; kind = base.kind; first = base.first; count = base.count; not_fresh = known f p.block false ne base.not_fresh })
 
-ticket-freshens : {fresh fresh' : List Bool} {b : ℕ} → Freshens fresh fresh' b → (ph : Phase) (shape : Shape) (p : Pass) → (has_region ph ≡ true → p.block ≢ b) → HasTicket ph shape fresh p → HasTicket ph shape fresh' p
+ticket-freshens : {fresh fresh' : List Bool} {b : ℕ} → Freshens fresh fresh' b → (ph : Phase) (shape : Shape) (p : Pass) → (has_region ph ≡ true → p.block ≢ b) → HasInFlight ph shape fresh p → HasInFlight ph shape fresh' p
 ticket-freshens {fresh} {fresh'} {b} f Idle shape p ne has = has
 ticket-freshens {fresh} {fresh'} {b} f HasAsked shape p ne has = has
 ticket-freshens {fresh} {fresh'} {b} f Held shape p ne has = has
@@ -246,7 +246,7 @@ ticket-freshens {fresh} {fresh'} {b} f Ready shape p ne has = has
 
 -- A pass that holds no region of the block stands as it did.
 pub stands-freshens : {shape : Shape} {fresh fresh' : List Bool} {b : ℕ} {places : ℕ → Option ℕ} {t : Standing} {p : Pass} → Freshens fresh fresh' b → (has_region p.phase ≡ true → p.block ≢ b)
-    → StandsAs shape fresh places t p → StandsAs shape fresh' places t p
+    → IsAsHistorySays shape fresh places t p → IsAsHistorySays shape fresh' places t p
 stands-freshens {shape} {fresh} {fresh'} {b} {places} {t} {p} freshens ne stands = record {
   call = stands.call;
   idle = stands.idle;

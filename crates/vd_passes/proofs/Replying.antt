@@ -4,7 +4,7 @@ use Rattle.std.proofs.lemmas.Bool.{eq-eqb, eqb-true, cases_Bool}
 use Rattle.vd_law.specs.declared.entry.Sector.{Sector}
 use Rattle.vd_law.specs.declared.entry.Answer.TheVariants.{Full}
 use Rattle.vd_law.specs.Entries.{Asked, Read, Write, Flush}
-use Rattle.vd_law.specs.Calls.{Progress, unasked}
+use Rattle.vd_law.specs.Calls.{Progress, no_progress}
 use Rattle.vd_law.specs.Rules.{IsReply}
 use Rattle.vd_passes.specs.declared.pass.Pass.{Pass}
 use Rattle.vd_passes.specs.declared.pass.Fault.{Fault}
@@ -37,5 +37,5 @@ answers p Flush c (Some (fault.Base ticket)) is done none unstarted outcome = ab
 answers p Flush c (Some (fault.Worn generation)) is done none unstarted outcome = record { none_open = none; all_done = tt; broken = tt; fits = unstarted outcome.0 }
 
 -- and that its store is too full answers a write that has done nothing
-pub answers-full : (first : ℕ) (content : List Sector) (needed free : ℕ) → 0 < length content → IsReply (Write first content) (record unasked { asked = Some (Write first content) }) (Full needed free)
+pub answers-full : (first : ℕ) (content : List Sector) (needed free : ℕ) → 0 < length content → IsReply (Write first content) (record no_progress { asked = Some (Write first content) }) (Full needed free)
 answers-full first content needed free some = record { none_open = refl; all_done = sym (unequal 0 (length content) some); broken = refl; fits = refl }

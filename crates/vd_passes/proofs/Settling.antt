@@ -6,13 +6,13 @@ use Rattle.std.proofs.lemmas.Bool.{ltb-true, ltb-false}
 use Rattle.vd_law.specs.declared.entry.CallId.{CallId}
 use Rattle.vd_law.specs.declared.entry.Sector.{Sector}
 use Rattle.vd_law.specs.Entries.{Entry, Done, Broke}
-use Rattle.vd_law.specs.Calls.{gone_on}
+use Rattle.vd_law.specs.Calls.{progress_after}
 use Rattle.vd_law.specs.Rules.{IsRegular}
 use Rattle.vd_device.specs.declared.ticket.Ticket.{Ticket}
 use Rattle.vd_device.specs.declared.ticket.Kind.TheVariants.{Write as WriteKind}
 use Rattle.vd_device.specs.declared.settled.Settled.{Settled}
 use Rattle.vd_device.specs.declared.settled.Settled.TheVariants as settled
-use Rattle.vd_device.specs.Tickets.{ticket_id, Takes, Keeps, IsInFlight}
+use Rattle.vd_device.specs.Tickets.{ticket_id, Takes, KeepsFlight, IsInFlight}
 use Rattle.vd_device.specs.Disks.{Disk, Adds, GrowsBy}
 use Rattle.vd_device.specs.Calls.{done_entry, failed_entry}
 use Rattle.vd_passes.specs.declared.shape.Shape.{Shape}
@@ -21,7 +21,7 @@ use Rattle.vd_passes.specs.declared.pass.Phase.TheVariants.{Idle, Asked as HasAs
 use Rattle.vd_passes.specs.declared.pass.Fault.TheVariants as fault
 use Rattle.vd_passes.specs.Tracks.{Track, track, writes}
 use Rattle.vd_passes.specs.Standings.{Standing, standing}
-use Rattle.vd_passes.specs.Passes.{has_region, call_of, tickets_of, IsPiece, StandsAs, HasOutcome, pending_of, after_piece, after_fault, spent}
+use Rattle.vd_passes.specs.Passes.{has_region, call_id, tickets_of, IsPiece, IsAsHistorySays, HasOutcome, pending_of, after_piece, after_fault, after_spending}
 use Rattle.vd_passes.specs.Coherent.{IsCoherent, IsFaithful, IsUnfilled, IsFilled}
 use Rattle.vd_passes.specs.Steps.{IsAt, IsWaiting, WriteSettled}
 use Rattle.vd_passes.proofs.Lists.{some-inj, tickets-taken}
@@ -35,10 +35,10 @@ abbrev id-of : ℕ → ℕ → CallId
 id-of i call = record { pass = i; call = call }
 
 -- The two ways in which a write ends.
-module _ {shape : Shape} {fresh : List Bool} {places : ℕ → Option ℕ} {passes : List Pass} {history : List Entry} {sectors depth base_sectors base_depth : ℕ} {flies base_flies : List Ticket → Type 0}
-    (co : IsCoherent shape fresh places passes history sectors depth base_sectors base_depth flies base_flies) (i : ℕ) (p : Pass) (there : slice_get passes i ≡ Some p)
+module _ {shape : Shape} {fresh : List Bool} {places : ℕ → Option ℕ} {passes : List Pass} {history : List Entry} {sectors depth base_sectors base_depth : ℕ} {flying base_flying : List Ticket → Type 0}
+    (co : IsCoherent shape fresh places passes history sectors depth base_sectors base_depth flying base_flying) (i : ℕ) (p : Pass) (there : slice_get passes i ≡ Some p)
     (issuing : p.phase ≡ Issuing) where
-  abbrev now : StandsAs shape fresh places (standing history i) p
+  abbrev now : IsAsHistorySays shape fresh places (standing history i) p
   now = co.each i p there
 
   not-idle : p.phase ≢ Idle
@@ -62,22 +62,22 @@ module _ {shape : Shape} {fresh : List Bool} {places : ℕ → Option ℕ} {pass
   some-open : 0 < (standing history i).progress.pending
   some-open = let s = piece-of.some in let w = open-write in omega arith
 
-  last-is : call_of i p ≡ last_of history i
+  last-is : call_id i p ≡ last_of history i
   last-is = ap (id-of i) (sym now.call)
 
   serves : IsServing history i (now.busy not-idle).0
   serves = record { asked = (now.busy not-idle).1; unanswered = now.unanswered not-idle }
 
   abbrev after-done : Standing
-  after-done = record (standing history i) { progress = gone_on (standing history i).progress (Done (call_of i p)) }
+  after-done = record (standing history i) { progress = progress_after (standing history i).progress (Done (call_id i p)) }
 
   abbrev after-broke : Standing
-  after-broke = record (standing history i) { progress = gone_on (standing history i).progress (Broke (call_of i p)) }
+  after-broke = record (standing history i) { progress = progress_after (standing history i).progress (Broke (call_id i p)) }
 
   abbrev piece-next : Bool → Pass
-  piece-next b = spent 1 0 (record p { phase = if b then HasAsked else Ready; done = p.done + p.piece; ticket = None; fetch = None })
+  piece-next b = after_spending 1 0 (record p { phase = if b then HasAsked else Ready; done = p.done + p.piece; ticket = None; fetch = None })
 
-  goes-on : (b : Bool) → nat_lt (p.done + p.piece) p.count ≡ b → StandsAs shape fresh places after-done (piece-next b)
+  goes-on : (b : Bool) → nat_lt (p.done + p.piece) p.count ≡ b → IsAsHistorySays shape fresh places after-done (piece-next b)
   goes-on true is = record {
     call = now.call;
     idle = λ e. absurd (cc);
@@ -131,9 +131,9 @@ module _ {shape : Shape} {fresh : List Bool} {places : ℕ → Option ℕ} {pass
   more-left = nat_lt (p.done + p.piece) p.count
 
   abbrev broken-next : ℕ → Pass
-  broken-next number = spent 1 0 (after_fault (fault.Store number) p)
+  broken-next number = after_spending 1 0 (after_fault (fault.Store number) p)
 
-  failed : (number : ℕ) → StandsAs shape fresh places after-broke (broken-next number)
+  failed : (number : ℕ) → IsAsHistorySays shape fresh places after-broke (broken-next number)
   failed number = record {
     call = now.call;
     idle = λ e. absurd (cc);
@@ -161,48 +161,48 @@ module _ {shape : Shape} {fresh : List Bool} {places : ℕ → Option ℕ} {pass
   last-write s = record { contents = []; writes = writes history s }
 
   module _ (t : Ticket) (has : p.ticket ≡ Some t) where
-    pub done-coherent : (flies' : List Ticket → Type 0) → Takes t flies flies' → IsCoherent shape (slice_set fresh p.block true) places (slice_set passes i (spent 1 0 (after_piece p))) (history ++ Done (call_of i p) ∷ []) sectors depth base_sectors base_depth flies' base_flies
-    done-coherent flies' takes =
+    pub done-coherent : (flying' : List Ticket → Type 0) → Takes t flying flying' → IsCoherent shape (slice_set fresh p.block true) places (slice_set passes i (after_spending 1 0 (after_piece p))) (history ++ Done (call_id i p) ∷ []) sectors depth base_sectors base_depth flying' base_flying
+    done-coherent flying' takes =
         let more = next-freshens co i p there issuing t has in
         let freed = no-region more-left in
-        close-coherent co i p there issuing t has (piece-next more-left) freed (Done (call_of i p)) (slice_set fresh p.block true) flies' refl
+        close-coherent co i p there issuing t has (piece-next more-left) freed (Done (call_id i p)) (slice_set fresh p.block true) flying' refl
         (subst (λ id. IsRegular (shape.block * shape.blocks) (history ++ Done id ∷ [])) (sym last-is) (regular-done i _ co.regular serves some-open))
-        (λ s. subst (λ ws. Closes (call_of i p) (writes history s) ws) (sym (writes-more history (Done (call_of i p)) s (last-write s) refl)) (done-closes s (last-write s) (call_of i p)))
+        (λ s. subst (λ ws. Closes (call_id i p) (writes history s) ws) (sym (writes-more history (Done (call_id i p)) s (last-write s) refl)) (done-closes s (last-write s) (call_id i p)))
         more.size more.others
         (λ j q at ne. stands-freshens more (λ held same. ne (alone co i p there (region-of _ Issuing refl issuing) (writer co i p there issuing t has) j q at held same)) (co.each j q at))
-        (stands-freshens more (λ held. absurd (cc)) (subst (λ h. StandsAs shape fresh places h (piece-next more-left)) (sym (standing-own history (Done (call_of i p)) i last-is tt)) (goes-on more-left refl)))
+        (stands-freshens more (λ held. absurd (cc)) (subst (λ h. IsAsHistorySays shape fresh places h (piece-next more-left)) (sym (standing-own history (Done (call_id i p)) i last-is tt)) (goes-on more-left refl)))
         refl refl takes
 
-    pub broke-coherent : (number : ℕ) (flies' : List Ticket → Type 0) → Takes t flies flies' → IsCoherent shape fresh places (slice_set passes i (spent 1 0 (after_fault (fault.Store number) p))) (history ++ Broke (call_of i p) ∷ []) sectors depth base_sectors base_depth flies' base_flies
-    broke-coherent number flies' takes =
-        close-coherent co i p there issuing t has (broken-next number) refl (Broke (call_of i p)) fresh flies' refl
+    pub broke-coherent : (number : ℕ) (flying' : List Ticket → Type 0) → Takes t flying flying' → IsCoherent shape fresh places (slice_set passes i (after_spending 1 0 (after_fault (fault.Store number) p))) (history ++ Broke (call_id i p) ∷ []) sectors depth base_sectors base_depth flying' base_flying
+    broke-coherent number flying' takes =
+        close-coherent co i p there issuing t has (broken-next number) refl (Broke (call_id i p)) fresh flying' refl
         (subst (λ id. IsRegular (shape.block * shape.blocks) (history ++ Broke id ∷ [])) (sym last-is) (regular-broke i _ co.regular serves some-open))
-        (λ s. subst (λ ws. Closes (call_of i p) (writes history s) ws) (sym (writes-more history (Broke (call_of i p)) s (last-write s) refl)) (broke-closes s (last-write s) (call_of i p)))
+        (λ s. subst (λ ws. Closes (call_id i p) (writes history s) ws) (sym (writes-more history (Broke (call_id i p)) s (last-write s) refl)) (broke-closes s (last-write s) (call_id i p)))
         refl (λ b ne. refl)
         (λ j q at ne. co.each j q at)
-        (subst (λ h. StandsAs shape fresh places h (broken-next number)) (sym (standing-own history (Broke (call_of i p)) i last-is tt)) (failed number))
+        (subst (λ h. IsAsHistorySays shape fresh places h (broken-next number)) (sym (standing-own history (Broke (call_id i p)) i last-is tt)) (failed number))
         refl refl takes
 
     module _ {start : List Sector} {rest : ℕ → Sector} {disk disk' : Disk} {last : ℕ} (fa : IsFaithful start rest shape fresh places passes history disk last) where
-      pub done-faithful : Adds (Done (ticket_id t)) disk disk' → IsFaithful start rest shape (slice_set fresh p.block true) places (slice_set passes i (spent 1 0 (after_piece p))) (history ++ Done (call_of i p) ∷ []) disk' last
-      done-faithful adds = close-faithful co i p there issuing t has fa (piece-next more-left) (no-region more-left) (Done (call_of i p)) (Done (ticket_id t)) (slice_set fresh p.block true) refl tt adds
+      pub done-faithful : Adds (Done (ticket_id t)) disk disk' → IsFaithful start rest shape (slice_set fresh p.block true) places (slice_set passes i (after_spending 1 0 (after_piece p))) (history ++ Done (call_id i p) ∷ []) disk' last
+      done-faithful adds = close-faithful co i p there issuing t has fa (piece-next more-left) (no-region more-left) (Done (call_id i p)) (Done (ticket_id t)) (slice_set fresh p.block true) refl tt adds
           (λ s. done-closes s _ _) (λ a. done-closes a _ _)
           (done-stands co i p there issuing t has fa)
           (λ a w ne v among. elim w.source [
-            | inl own ↦ subst (λ cs. Contains cs v) (sym (done-other w.sector _ (call_of i p) (call_of w.by w.pass) w.content own (other-call co i p there issuing t has w.pass w.by ne)).0) among
-            | inr fill ↦ subst (λ cs. Contains cs v) (sym (done-none w.sector _ (call_of i p) fill.0).0) among
+            | inl own ↦ subst (λ cs. Contains cs v) (sym (done-other w.sector _ (call_id i p) (call_id w.by w.pass) w.content own (other-call co i p there issuing t has w.pass w.by ne)).0) among
+            | inr fill ↦ subst (λ cs. Contains cs v) (sym (done-none w.sector _ (call_id i p) fill.0).0) among
           ])
 
-      pub broke-faithful : (number : ℕ) → Adds (Broke (ticket_id t)) disk disk' → IsFaithful start rest shape fresh places (slice_set passes i (spent 1 0 (after_fault (fault.Store number) p))) (history ++ Broke (call_of i p) ∷ []) disk' last
-      broke-faithful number adds = close-faithful co i p there issuing t has fa (broken-next number) refl (Broke (call_of i p)) (Broke (ticket_id t)) fresh refl tt adds
+      pub broke-faithful : (number : ℕ) → Adds (Broke (ticket_id t)) disk disk' → IsFaithful start rest shape fresh places (slice_set passes i (after_spending 1 0 (after_fault (fault.Store number) p))) (history ++ Broke (call_id i p) ∷ []) disk' last
+      broke-faithful number adds = close-faithful co i p there issuing t has fa (broken-next number) refl (Broke (call_id i p)) (Broke (ticket_id t)) fresh refl tt adds
           (λ s. broke-closes s _ _) (λ a. broke-closes a _ _)
           (broke-stands co i p there issuing t has fa)
-          (λ a w ne v among. subst (λ cs. Contains cs v) (sym (broke-contents w.sector _ (call_of i p))) among)
+          (λ a w ne v among. subst (λ cs. Contains cs v) (sym (broke-contents w.sector _ (call_id i p))) among)
 
 -- A write that is late leaves all as it was.
-pub late-coherent : {shape : Shape} {fresh : List Bool} {places : ℕ → Option ℕ} {passes : List Pass} {history : List Entry} {sectors depth base_sectors base_depth : ℕ} {flies flies' base_flies : List Ticket → Type 0}
-    → IsCoherent shape fresh places passes history sectors depth base_sectors base_depth flies base_flies → Keeps flies flies' → IsCoherent shape fresh places passes history sectors depth base_sectors base_depth flies' base_flies
-late-coherent {shape} {fresh} {places} {passes} {history} {sectors} {depth} {base_sectors} {base_depth} {flies} {flies'} {base_flies} co keeps = record {
+pub late-coherent : {shape : Shape} {fresh : List Bool} {places : ℕ → Option ℕ} {passes : List Pass} {history : List Entry} {sectors depth base_sectors base_depth : ℕ} {flying flying' base_flying : List Ticket → Type 0}
+    → IsCoherent shape fresh places passes history sectors depth base_sectors base_depth flying base_flying → KeepsFlight flying flying' → IsCoherent shape fresh places passes history sectors depth base_sectors base_depth flying' base_flying
+late-coherent {shape} {fresh} {places} {passes} {history} {sectors} {depth} {base_sectors} {base_depth} {flying} {flying'} {base_flying} co keeps = record {
   shaped = co.shaped;
   size = co.size;
   placed = co.placed;
@@ -234,12 +234,12 @@ late-faithful {start} {rest} {shape} {fresh} {places} {passes} {history} {disk} 
 }
 
 -- the ticket of a pass is in flight
-pub in-flight : (passes : List Pass) {flies : List Ticket → Type 0} → flies (tickets_of passes) → (i : ℕ) (p : Pass) (t : Ticket) → slice_get passes i ≡ Some p → p.ticket ≡ Some t → IsInFlight flies t
-in-flight passes {flies} flight i p t there has = (tickets_of (slice_set passes i (record p { ticket = None })), tickets_of passes, tickets-taken passes i p (record p { ticket = None }) t there has refl, flight)
+pub in-flight : (passes : List Pass) {flying : List Ticket → Type 0} → flying (tickets_of passes) → (i : ℕ) (p : Pass) (t : Ticket) → slice_get passes i ≡ Some p → p.ticket ≡ Some t → IsInFlight flying t
+in-flight passes {flying} flight i p t there has = (tickets_of (slice_set passes i (record p { ticket = None })), tickets_of passes, tickets-taken passes i p (record p { ticket = None }) t there has refl, flight)
 
-pub waiting-write : {shape : Shape} {fresh : List Bool} {places : ℕ → Option ℕ} {passes : List Pass} {history : List Entry} {sectors depth base_sectors base_depth : ℕ} {flies base_flies : List Ticket → Type 0}
-    → IsCoherent shape fresh places passes history sectors depth base_sectors base_depth flies base_flies → (i : ℕ) → IsAt passes i (λ p. p.phase ≡ Issuing) → IsAt passes i (IsWaiting WriteKind shape flies)
-waiting-write {shape} {fresh} {places} {passes} {history} {sectors} {depth} {base_sectors} {base_depth} {flies} {base_flies} co i at =
+pub waiting-write : {shape : Shape} {fresh : List Bool} {places : ℕ → Option ℕ} {passes : List Pass} {history : List Entry} {sectors depth base_sectors base_depth : ℕ} {flying base_flying : List Ticket → Type 0}
+    → IsCoherent shape fresh places passes history sectors depth base_sectors base_depth flying base_flying → (i : ℕ) → IsAt passes i (λ p. p.phase ≡ Issuing) → IsAt passes i (IsWaiting WriteKind shape flying)
+waiting-write {shape} {fresh} {places} {passes} {history} {sectors} {depth} {base_sectors} {base_depth} {flying} {base_flying} co i at =
     let stands = co.each i at.0 at.1 in
     let has = write-ticket stands at.2 in (
       at.0,
@@ -255,17 +255,17 @@ waiting-write {shape} {fresh} {places} {passes} {history} {sectors} {depth} {bas
       },
     )
 
-module _ {shape : Shape} {fresh fresh' : List Bool} {places : ℕ → Option ℕ} {passes passes' : List Pass} {history history' : List Entry} {sectors depth base_sectors base_depth i last last' : ℕ} {flies flies' base_flies : List Ticket → Type 0}
-    {tells tells' : Type 0} {disk disk' : Disk} (co : IsCoherent shape fresh places passes history sectors depth base_sectors base_depth flies base_flies) (at : IsAt passes i (λ p. p.phase ≡ Issuing)) where
-  issues : {answer : Settled} → (step : WriteSettled answer i fresh fresh' passes passes' history history' flies flies' tells tells' disk disk' last last') → step.pass.phase ≡ Issuing
+module _ {shape : Shape} {fresh fresh' : List Bool} {places : ℕ → Option ℕ} {passes passes' : List Pass} {history history' : List Entry} {sectors depth base_sectors base_depth i last last' : ℕ} {flying flying' base_flying : List Ticket → Type 0}
+    {tells tells' : Type 0} {disk disk' : Disk} (co : IsCoherent shape fresh places passes history sectors depth base_sectors base_depth flying base_flying) (at : IsAt passes i (λ p. p.phase ≡ Issuing)) where
+  issues : {answer : Settled} → (step : WriteSettled answer i fresh fresh' passes passes' history history' flying flying' tells tells' disk disk' last last') → step.pass.phase ≡ Issuing
   issues {answer} step = ap (λ (x : Pass). x.phase) (some-inj (sym step.there ∙ at.1)) ∙ at.2
 
-  settled-coherent : (answer : Settled) → WriteSettled answer i fresh fresh' passes passes' history history' flies flies' tells tells' disk disk' last last' → IsCoherent shape fresh' places passes' history' sectors depth base_sectors base_depth flies' base_flies
-  settled-coherent settled.Done step = let e = step.effect in rw (e.0, e.1, e.2) (done-coherent co i step.pass step.there (issues step) step.ticket step.has flies' step.settles.2)
+  settled-coherent : (answer : Settled) → WriteSettled answer i fresh fresh' passes passes' history history' flying flying' tells tells' disk disk' last last' → IsCoherent shape fresh' places passes' history' sectors depth base_sectors base_depth flying' base_flying
+  settled-coherent settled.Done step = let e = step.effect in rw (e.0, e.1, e.2) (done-coherent co i step.pass step.there (issues step) step.ticket step.has flying' step.settles.2)
   settled-coherent (settled.NotYet same) step = let e = step.effect in rw (e.0, e.1, e.2) (late-coherent co step.settles.2.2)
-  settled-coherent (settled.Failed number) step = let e = step.effect in rw (e.0, e.1, e.2) (broke-coherent co i step.pass step.there (issues step) step.ticket step.has step.ticket.number flies' step.settles.2.2)
+  settled-coherent (settled.Failed number) step = let e = step.effect in rw (e.0, e.1, e.2) (broke-coherent co i step.pass step.there (issues step) step.ticket step.has step.ticket.number flying' step.settles.2.2)
 
-  settled-faithful : {start : List Sector} {rest : ℕ → Sector} (answer : Settled) → WriteSettled answer i fresh fresh' passes passes' history history' flies flies' tells tells' disk disk' last last'
+  settled-faithful : {start : List Sector} {rest : ℕ → Sector} (answer : Settled) → WriteSettled answer i fresh fresh' passes passes' history history' flying flying' tells tells' disk disk' last last'
       → (tells → IsFaithful start rest shape fresh places passes history disk last) → tells' → IsFaithful start rest shape fresh' places passes' history' disk' last'
   settled-faithful {start} {rest} settled.Done step fa told =
       let e = step.effect in let kind = is-write co i step.pass step.there (issues step) step.ticket step.has in
@@ -277,9 +277,9 @@ module _ {shape : Shape} {fresh fresh' : List Bool} {places : ℕ → Option ℕ
       rw (e.0, e.1, e.2, step.number) (broke-faithful co i step.pass step.there (issues step) step.ticket step.has (fa (step.told_before told)) step.ticket.number
       (subst (λ k. Adds (failed_entry k step.ticket) disk disk') kind (step.told told).grows))
 
-  pub write_settled-coherent : {answer : Settled} → WriteSettled answer i fresh fresh' passes passes' history history' flies flies' tells tells' disk disk' last last' → IsCoherent shape fresh' places passes' history' sectors depth base_sectors base_depth flies' base_flies
+  pub write_settled-coherent : {answer : Settled} → WriteSettled answer i fresh fresh' passes passes' history history' flying flying' tells tells' disk disk' last last' → IsCoherent shape fresh' places passes' history' sectors depth base_sectors base_depth flying' base_flying
   write_settled-coherent {answer} step = settled-coherent answer step
 
-  pub write_settled-faithful : {start : List Sector} {rest : ℕ → Sector} {answer : Settled} → WriteSettled answer i fresh fresh' passes passes' history history' flies flies' tells tells' disk disk' last last'
+  pub write_settled-faithful : {start : List Sector} {rest : ℕ → Sector} {answer : Settled} → WriteSettled answer i fresh fresh' passes passes' history history' flying flying' tells tells' disk disk' last last'
       → (tells → IsFaithful start rest shape fresh places passes history disk last) → tells' → IsFaithful start rest shape fresh' places passes' history' disk' last'
   write_settled-faithful {start} {rest} {answer} step fa told = settled-faithful answer step fa told

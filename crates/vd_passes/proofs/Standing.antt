@@ -7,8 +7,8 @@ use Rattle.std.proofs.lemmas.List.Elements.{All-nil}
 use Rattle.vd_law.specs.declared.entry.Sector.{Sector}
 use Rattle.vd_law.specs.declared.entry.CallId.{CallId}
 use Rattle.vd_law.specs.declared.entry.Answer.{Answer}
-use Rattle.vd_law.specs.Entries.{Asked, Read, Write, Entry, Ask, Issue, Done, Broke, Seen, Reply, call_of, same_call, Past, ◌▸◌, past}
-use Rattle.vd_law.specs.Calls.{Progress, unasked, progress, last_call, gone_on}
+use Rattle.vd_law.specs.Entries.{Asked, Read, Write, Entry, Ask, Issue, Done, Broke, Seen, Reply, call_of, same_call, Past, ◌▸◌, past, IsNoAsk}
+use Rattle.vd_law.specs.Calls.{Progress, no_progress, progress, last_call, progress_after}
 use Rattle.vd_law.specs.Contents.{Open, open_writes}
 use Rattle.vd_law.specs.Rules.{Each, IsInTurn, IsUnderWay, IssueFits, SeenFits, ReplyFits, IsInside, IsReply, IsRegular, IsShown}
 use Rattle.vd_law.proofs.Appending.{past-push}
@@ -24,10 +24,6 @@ last_of log i = record { pass = i; call = (standing log i).call }
 
 abbrev pub next_of : List Entry → ℕ → CallId
 next_of log i = record { pass = i; call = (standing log i).call + 1 }
-
-abbrev pub IsNoAsk : Entry → Type 0
-IsNoAsk (Ask id request) = ⊥
-IsNoAsk _ = Unit {0}
 
 -- Where a pass stands after one more entry of a history.
 
@@ -69,32 +65,32 @@ last-own p (Broke id) i not_asked = refl
 last-own p (Seen id first content) i not_asked = refl
 last-own p (Reply id answer) i not_asked = refl
 
-stand-own : (p : Past) (e : Entry) (i : ℕ) → call_of e ≡ record { pass = i; call = last_call p i } → IsNoAsk e → stand (p ▸ e) i ≡ record (stand p i) { progress = gone_on (stand p i).progress e }
+stand-own : (p : Past) (e : Entry) (i : ℕ) → call_of e ≡ record { pass = i; call = last_call p i } → IsNoAsk e → stand (p ▸ e) i ≡ record (stand p i) { progress = progress_after (stand p i).progress e }
 stand-own p e i mine not_asked =
     ap (λ (n : ℕ). record { call = n; progress = progress (p ▸ e) (record { pass = i; call = n }) }) (last-own p e i not_asked)
     ∙ ap (λ (c : Progress). record { call = last_call p i; progress = c })
-    (subst (λ (id : CallId). progress (p ▸ e) id ≡ gone_on (progress p id) e) mine (progress-own p e))
+    (subst (λ (id : CallId). progress (p ▸ e) id ≡ progress_after (progress p id) e) mine (progress-own p e))
 
-stand-ask : (size : ℕ) (p : Past) (i : ℕ) (request : Asked) → Each (IsInTurn size) p → stand (p ▸ Ask (record { pass = i; call = last_call p i + 1 }) request) i ≡ record { call = last_call p i + 1; progress = record unasked { asked = Some request } }
+stand-ask : (size : ℕ) (p : Past) (i : ℕ) (request : Asked) → Each (IsInTurn size) p → stand (p ▸ Ask (record { pass = i; call = last_call p i + 1 }) request) i ≡ record { call = last_call p i + 1; progress = record no_progress { asked = Some request } }
 stand-ask size p i request each =
     let id : CallId = record { pass = i; call = last_call p i + 1 } in
     ap (λ (b : Bool). let n = if b then last_call p i + 1 else last_call p i in record { call = n; progress = progress (p ▸ Ask id request) (record { pass = i; call = n }) }) (eq-eqb i i refl)
     ∙ ap (λ (c : Progress). record { call = last_call p i + 1; progress = c })
-    (progress-own p (Ask id request) ∙ ap (λ (c : Progress). gone_on c (Ask id request)) (fresh-call size p each id (omega arith)))
+    (progress-own p (Ask id request) ∙ ap (λ (c : Progress). progress_after c (Ask id request)) (fresh-call size p each id (omega arith)))
 
 pub standing-other : (log : List Entry) (e : Entry) (j : ℕ) → ((call_of e).pass ≡ j → ⊥) → standing (log ++ e ∷ []) j ≡ standing log j
 standing-other log e j other = stand-more log e j ∙ stand-other (past log) e j other ∙ sym (stand-is log j)
 
-pub standing-own : (log : List Entry) (e : Entry) (i : ℕ) → call_of e ≡ last_of log i → IsNoAsk e → standing (log ++ e ∷ []) i ≡ record (standing log i) { progress = gone_on (standing log i).progress e }
+pub standing-own : (log : List Entry) (e : Entry) (i : ℕ) → call_of e ≡ last_of log i → IsNoAsk e → standing (log ++ e ∷ []) i ≡ record (standing log i) { progress = progress_after (standing log i).progress e }
 unfolding standing
 standing-own log e i mine not_asked = stand-more log e i ∙ stand-own (past log) e i mine not_asked
 
-pub standing-ask : (size : ℕ) (log : List Entry) (i : ℕ) (request : Asked) → IsRegular size log → standing (log ++ Ask (next_of log i) request ∷ []) i ≡ record { call = (standing log i).call + 1; progress = record unasked { asked = Some request } }
+pub standing-ask : (size : ℕ) (log : List Entry) (i : ℕ) (request : Asked) → IsRegular size log → standing (log ++ Ask (next_of log i) request ∷ []) i ≡ record { call = (standing log i).call + 1; progress = record no_progress { asked = Some request } }
 unfolding standing
 standing-ask size log i request regular = stand-more log (Ask (next_of log i) request) i ∙ stand-ask size (past log) i request regular.in_turn
 
 -- a history of no entries
-pub standing-nothing : (i : ℕ) → standing [] i ≡ record { call = 0; progress = unasked }
+pub standing-nothing : (i : ℕ) → standing [] i ≡ record { call = 0; progress = no_progress }
 unfolding standing
 standing-nothing i = refl
 

@@ -10,16 +10,16 @@ use Rattle.vd_device.specs.declared.ticket.Ticket.{Ticket}
 use Rattle.vd_device.specs.declared.ticket.Kind.{Kind}
 use Rattle.vd_device.specs.declared.ticket.Kind.TheVariants as kind
 use Rattle.vd_device.specs.Calls.{failed_entry}
-use Rattle.vd_reading.proofs.BackgroundLaws.{slice_get_front}
 use Rattle.vd_passes.specs.declared.pass.Pass.{Pass}
 use Rattle.vd_passes.specs.declared.pass.Phase.{Phase}
 use Rattle.vd_passes.specs.declared.pass.Phase.TheVariants.{Idle, Asked as HasAsked, Issuing, Looking, Ready}
 use Rattle.vd_passes.specs.declared.pass.Fault.TheVariants as fault
-use Rattle.vd_passes.specs.Passes.{call_of, IsRequestOf, IsNew, after_piece, spent}
+use Rattle.vd_passes.specs.Passes.{call_id, IsRequestOf, IsNew, after_piece, after_spending}
 use Rattle.vd_passes.specs.Tracing.{IsFailure, FailsBetween, IsReadIn, IsIssueAt, IsLastIssue, IsTicketOf, IsTraced, AreTraced}
 use Rattle.vd_passes.specs.Following.{IsAsked, IsFollowedPass, IsFollowed}
 use Rattle.vd_passes.proofs.Lists.{some-inj, at-set}
 use Rattle.vd_passes.proofs.Regions.{request-kept}
+use Rattle.vd_law.proofs.Lists.{slice_get_front}
 
 -- Lists that grow at their ends.
 
@@ -157,7 +157,7 @@ are_traced-pushed {log} {history} {numbers} many was e n new to id ticket done n
 
 -- A pass keeps what is known of it where no Issue of its call is added while it issues or has failed.
 pub grown-pass : {log log' history history' : List Entry} {numbers numbers' : List ℕ} {i : ℕ} {p : Pass} → IsFront log log' → IsFront history history' → IsFront numbers numbers'
-    → ((p.phase ≡ Issuing) ⊎ (p.phase ≡ Ready) → KeepsIssues (call_of i p) history history' (length history) (length history')) → IsFollowedPass i p history numbers log → IsFollowedPass i p history' numbers' log'
+    → ((p.phase ≡ Issuing) ⊎ (p.phase ≡ Ready) → KeepsIssues (call_id i p) history history' (length history) (length history')) → IsFollowedPass i p history numbers log → IsFollowedPass i p history' numbers' log'
 grown-pass {log} {log'} {history} {history'} {numbers} {numbers'} {i} {p} told added numbered keeps was = record {
   asked = λ busy. let a = was.asked busy in record {
     at = a.at;
@@ -179,16 +179,16 @@ module _ {passes : List Pass} {history : List Entry} {numbers : List ℕ} {log :
   pub less-followed : {log' : List Entry} (more : List Entry) → log' ≡ log ++ more → IsFollowed passes history numbers log'
   less-followed {log'} more is = let told : IsFront log log' = record { rest = more; is = is } in record {
     many = followed.many;
-    each = λ j q there. grown-pass told (front-itself history) (front-itself numbers) (λ busy. issues-below (front-itself history) (call_of j q) (length history) (omega arith)) (followed.each j q there);
+    each = λ j q there. grown-pass told (front-itself history) (front-itself numbers) (λ busy. issues-below (front-itself history) (call_id j q) (length history) (omega arith)) (followed.each j q there);
     replied = are_traced-told told followed.replied;
   }
 
   -- One more entry, which is no Issue of a pass that issues or has failed, and which is traced where it tells a store fault.
-  pub pushed-followed : (e : Entry) (n : ℕ) → ((j : ℕ) (q : Pass) → slice_get passes j ≡ Some q → (q.phase ≡ Issuing) ⊎ (q.phase ≡ Ready) → IsNoIssueOf (call_of j q) e)
+  pub pushed-followed : (e : Entry) (n : ℕ) → ((j : ℕ) (q : Pass) → slice_get passes j ≡ Some q → (q.phase ≡ Issuing) ⊎ (q.phase ≡ Ready) → IsNoIssueOf (call_id j q) e)
       → ((id : CallId) (ticket done : ℕ) → e ≡ Reply id (StoreFault ticket done) → IsTraced log history numbers id ticket (length history) n) → IsFollowed passes (history ++ e ∷ []) (numbers ++ n ∷ []) log
   pushed-followed e n none new = record {
     many = let m = followed.many in omega (arith, length-pushed history e, length-pushed numbers n);
-    each = λ j q there. grown-pass (front-itself log) (front-pushed history e) (front-pushed numbers n) (λ busy. issues-pushed history e (call_of j q) (none j q there busy)) (followed.each j q there);
+    each = λ j q there. grown-pass (front-itself log) (front-pushed history e) (front-pushed numbers n) (λ busy. issues-pushed history e (call_id j q) (none j q there busy)) (followed.each j q there);
     replied = are_traced-pushed followed.many followed.replied e n new;
   }
 
@@ -243,14 +243,14 @@ module _ {history : List Entry} {numbers : List ℕ} {log : List Entry} {i : ℕ
     failed = λ is ticket why. absurd (fails_not is ticket why);
   }
 
-  pub fails-on : (ticket : ℕ) → p'.phase ≡ Ready → p'.fault ≡ Some (fault.Store ticket) → IsTraced log history numbers (call_of i p) ticket (length history) (length log) → IsFollowedPass i p' history numbers log
+  pub fails-on : (ticket : ℕ) → p'.phase ≡ Ready → p'.fault ≡ Some (fault.Store ticket) → IsTraced log history numbers (call_id i p) ticket (length history) (length log) → IsFollowedPass i p' history numbers log
   fails-on ticket ready why traced = record {
     asked = λ b. asked-on;
     issuing = λ is. absurd (cc);
     looking = λ is. absurd (cc);
     failed = λ is other names.
         let same : ticket ≡ other = cc in
-        subst (λ (t : ℕ). IsTraced log history numbers (call_of i p') t (length history) (length log)) same
+        subst (λ (t : ℕ). IsTraced log history numbers (call_id i p') t (length history) (length log)) same
         (subst (λ (c : ℕ). IsTraced log history numbers (record { pass = i; call = c }) ticket (length history) (length log)) (sym call) traced);
   }
 
@@ -261,10 +261,10 @@ ended-not false ph asked ready = ready
 
 -- A pass whose piece has ended, whatever it has used of its room.
 pub piece-ended : {history : List Entry} {numbers : List ℕ} {log : List Entry} {i : ℕ} {p : Pass} → IsFollowedPass i p history numbers log → p.phase ≢ Idle → p.fault ≡ None → (events sectors : ℕ)
-    → IsFollowedPass i (spent events sectors (after_piece p)) history numbers log
+    → IsFollowedPass i (after_spending events sectors (after_piece p)) history numbers log
 piece-ended {history} {numbers} {log} {i} {p} was busy whole events sectors =
     let left = nat_lt (p.done + p.piece) p.count in
-    goes-on was busy (spent events sectors (after_piece p)) refl refl refl refl refl (ended-not left Issuing (λ e. cc) (λ e. cc)) (ended-not left Looking (λ e. cc) (λ e. cc)) (λ is ticket why. cc)
+    goes-on was busy (after_spending events sectors (after_piece p)) refl refl refl refl refl (ended-not left Issuing (λ e. cc) (λ e. cc)) (ended-not left Looking (λ e. cc) (λ e. cc)) (λ is ticket why. cc)
 
 pub idle-pass : {history : List Entry} {numbers : List ℕ} {log : List Entry} {i : ℕ} {p : Pass} → p.phase ≡ Idle → IsFollowedPass i p history numbers log
 idle-pass {history} {numbers} {log} {i} {p} idle = record {
@@ -282,7 +282,7 @@ failure kind.Write t = refl
 failure kind.Flush t = (refl, refl)
 
 pub traced-now : {history : List Entry} {numbers : List ℕ} {log log' : List Entry} {i : ℕ} {p : Pass} → IsFollowedPass i p history numbers log → p.phase ≢ Idle → (ticket : ℕ) (e : Entry) → log' ≡ log ++ e ∷ [] → IsFailure ticket e
-    → ((request : Asked) → IsRequestOf p request → IsTicketOf request log history numbers (call_of i p) ticket (length history)) → IsTraced log' history numbers (call_of i p) ticket (length history) (length log')
+    → ((request : Asked) → IsRequestOf p request → IsTicketOf request log history numbers (call_id i p) ticket (length history)) → IsTraced log' history numbers (call_id i p) ticket (length history) (length log')
 traced-now {history} {numbers} {log} {log'} {i} {p} was busy ticket e is fails ticket_is =
     let a = was.asked busy in
     record {
@@ -299,5 +299,5 @@ traced-now {history} {numbers} {log} {log'} {i} {p} was busy ticket e is fails t
         after = a.passed;
         before = omega (arith, ap length is, length-pushed log e);
       };
-      ticket_is = ticket-kept (record { rest = e ∷ []; is = is }) (front-itself history) (front-itself numbers) (issues-below (front-itself history) (call_of i p) (length history) (omega arith)) a.request ticket (ticket_is a.request a.of_pass);
+      ticket_is = ticket-kept (record { rest = e ∷ []; is = is }) (front-itself history) (front-itself numbers) (issues-below (front-itself history) (call_id i p) (length history) (omega arith)) a.request ticket (ticket_is a.request a.of_pass);
     }

@@ -9,22 +9,22 @@ use Rattle.vd_device.specs.declared.ticket.Ticket.{Ticket}
 use Rattle.vd_device.specs.declared.settled.Settled.{Settled}
 use Rattle.vd_device.specs.declared.settled.Settled.TheVariants as settled
 use Rattle.vd_device.specs.Disks.{Disk, Adds, IsRunning}
-use Rattle.vd_device.specs.Calls.{Tells, settle_entries, asked_read, issued, failed_entry}
-use Rattle.vd_reading.specs.Background.{zero_sector}
+use Rattle.vd_device.specs.Calls.{Tells, settle_entries, ask_read_entry, issue_entry, failed_entry}
 use Rattle.vd_passes.specs.declared.shape.Shape.{Shape}
 use Rattle.vd_passes.specs.declared.pass.Pass.{Pass}
 use Rattle.vd_passes.specs.declared.pass.Phase.{Phase}
 use Rattle.vd_passes.specs.declared.pass.Phase.TheVariants.{Idle, Asked as HasAsked, Held, Fetching, Filled, Issuing, Looking, Ready}
 use Rattle.vd_passes.specs.declared.pass.Fault.{Fault}
 use Rattle.vd_passes.specs.declared.pass.Fault.TheVariants as fault
-use Rattle.vd_passes.specs.Passes.{call_of, IsRequestOf, after_ask, after_enter, after_fetch, after_filled, after_issue, after_look, after_base_look, after_fault, answer_by, answer_of, spent}
+use Rattle.vd_passes.specs.Passes.{call_id, IsRequestOf, after_ask, after_enter, after_fetch, after_filled, after_issue, after_look, after_base_look, after_fault, answer_by, answer_of, after_spending}
 use Rattle.vd_passes.specs.Coherent.{IsCoherent}
-use Rattle.vd_passes.specs.Steps.{IsAt, Asks, AsksFull, Enters, Fetches, FillsZeros, fetched, FetchSettled, Issues, EndsWrite, WriteSettled, Looks, LooksAtBase, Sees, SeesZeros, EndsRead, LookSettled, BaseLookSettled, Replies}
+use Rattle.vd_passes.specs.Steps.{IsAt, Asks, AsksFull, Enters, Fetches, FillsZeros, after_base_read, FetchSettled, Issues, EndsWrite, WriteSettled, Looks, LooksAtBase, Sees, SeesZeros, EndsRead, LookSettled, BaseLookSettled, Replies}
 use Rattle.vd_passes.specs.Tracing.{IsReadIn, IsTicketOf, IsTraced}
 use Rattle.vd_passes.specs.Following.{IsFollowedPass, IsFollowed}
 use Rattle.vd_passes.proofs.Lists.{some-inj}
 use Rattle.vd_passes.proofs.Regions.{held-ticket}
 use Rattle.vd_passes.proofs.Tracing.{length-pushed, last-pushed, asked-on, goes-on, fails-on, piece-ended, idle-pass, failure, traced-now, less-followed, pushed-followed, set-followed}
+use Rattle.vd_format.specs.Background.{zero_sector}
 
 -- the pass that a step names is the one that was found
 found : (passes : List Pass) (i : ℕ) (P : Pass → Type 0) {p : Pass} → IsAt passes i P → slice_get passes i ≡ Some p → P p
@@ -35,12 +35,12 @@ phase-found passes i phase {p} at there = found passes i (λ q. q.phase ≡ phas
 
 -- A pass whose request was asked last.
 asked-last : (history : List Entry) (numbers : List ℕ) {log : List Entry} {i : ℕ} (p : Pass) (request : Asked) (events : ℕ) → length numbers ≡ length history → events ≤ length log → p.phase ≡ HasAsked → IsRequestOf p request
-    → IsFollowedPass i p (history ++ Ask (call_of i p) request ∷ []) (numbers ++ events ∷ []) log
+    → IsFollowedPass i p (history ++ Ask (call_id i p) request ∷ []) (numbers ++ events ∷ []) log
 asked-last history numbers {log} {i} p request events many passed is of_pass = record {
   asked = λ busy. record {
     at = length history;
     request = request;
-    asked = last-pushed history (Ask (call_of i p) request);
+    asked = last-pushed history (Ask (call_id i p) request);
     of_pass = of_pass;
     number = events;
     numbered = ap (slice_get (numbers ++ events ∷ [])) (sym many) ∙ last-pushed numbers events;
@@ -53,7 +53,7 @@ asked-last history numbers {log} {i} p request events many passed is of_pass = r
 
 -- A pass that is asking.
 asks-pass : (history : List Entry) (numbers : List ℕ) {log : List Entry} {i : ℕ} (p : Pass) (request : Asked) (events events_left sectors_left : ℕ) → length numbers ≡ length history → events ≤ length log
-    → IsFollowedPass i (after_ask p request events_left sectors_left) (history ++ Ask (call_of i (after_ask p request events_left sectors_left)) request ∷ []) (numbers ++ events ∷ []) log
+    → IsFollowedPass i (after_ask p request events_left sectors_left) (history ++ Ask (call_id i (after_ask p request events_left sectors_left)) request ∷ []) (numbers ++ events ∷ []) log
 asks-pass history numbers {log} {i} p (Read first count) events events_left sectors_left many passed = asked-last history numbers (after_ask p (Read first count) events_left sectors_left) (Read first count) events many passed refl (refl, refl, refl, refl)
 asks-pass history numbers {log} {i} p (Write first content) events events_left sectors_left many passed = asked-last history numbers (after_ask p (Write first content) events_left sectors_left) (Write first content) events many passed refl (refl, refl, refl, refl)
 asks-pass history numbers {log} {i} p Flush events events_left sectors_left many passed = asked-last history numbers (after_ask p Flush events_left sectors_left) Flush events many passed refl (refl, refl, refl, refl)
@@ -65,12 +65,12 @@ module _ {passes passes' : List Pass} {history : List Entry} {numbers : List ℕ
   set-on p' busy after call write first count flush issues_not looks_not fails_not =
       rw after (set-followed followed there (goes-on (followed.each i p there) busy p' call write first count flush issues_not looks_not fails_not))
 
-  fetched-followed : (answer : Settled) → p.phase ≡ Fetching → (ticket : Ticket) (block : ℕ) (content : List Sector) → passes' ≡ slice_set passes i (fetched answer p ticket block content) → IsFollowed passes' history numbers log
+  fetched-followed : (answer : Settled) → p.phase ≡ Fetching → (ticket : Ticket) (block : ℕ) (content : List Sector) → passes' ≡ slice_set passes i (after_base_read answer p ticket block content) → IsFollowed passes' history numbers log
   fetched-followed settled.Done is ticket block content after =
-      set-on (fetched settled.Done p ticket block content) (λ e. cc) after refl refl refl refl refl (λ e. cc) (λ e. cc) (λ e. absurd (cc))
+      set-on (after_base_read settled.Done p ticket block content) (λ e. cc) after refl refl refl refl refl (λ e. cc) (λ e. cc) (λ e. absurd (cc))
   fetched-followed (settled.NotYet same) is ticket block content after = set-on p (λ e. cc) after refl refl refl refl refl (λ e. cc) (λ e. cc) (λ e. absurd (cc))
   fetched-followed (settled.Failed number) is ticket block content after =
-      set-on (fetched (settled.Failed number) p ticket block content) (λ e. cc) after refl refl refl refl refl (λ e. cc) (λ e. cc) (λ e other why. cc)
+      set-on (after_base_read (settled.Failed number) p ticket block content) (λ e. cc) after refl refl refl refl refl (λ e. cc) (λ e. cc) (λ e other why. cc)
 
 -- The steps, as their records say them. First those that add no entry and leave the store as it is.
 module _ {passes passes' : List Pass} {history : List Entry} {numbers : List ℕ} {log : List Entry} {i : ℕ} (followed : IsFollowed passes history numbers log) where
@@ -79,8 +79,8 @@ module _ {passes passes' : List Pass} {history : List Entry} {numbers : List ℕ
       let is = phase-found passes i HasAsked at step.there in
       set-on followed i step.there (after_enter step.pass step.block step.piece step.at) (λ e. cc) step.after refl refl refl refl refl (λ e. cc) (λ e. cc) (λ e. absurd (cc))
 
-  pub fetches-followed : {shape : Shape} {base_flies base_flies' : List Ticket → Type 0} → IsAt passes i (λ p. p.phase ≡ Held) → Fetches shape i passes passes' base_flies base_flies' → IsFollowed passes' history numbers log
-  fetches-followed {shape} {base_flies} {base_flies'} at step =
+  pub fetches-followed : {shape : Shape} {base_flight base_flight' : List Ticket → Type 0} → IsAt passes i (λ p. p.phase ≡ Held) → Fetches shape i passes passes' base_flight base_flight' → IsFollowed passes' history numbers log
+  fetches-followed {shape} {base_flight} {base_flight'} at step =
       let is = phase-found passes i Held at step.there in
       set-on followed i step.there (after_fetch step.pass step.ticket) (λ e. cc) step.after refl refl refl refl refl (λ e. cc) (λ e. cc) (λ e. absurd (cc))
 
@@ -89,9 +89,9 @@ module _ {passes passes' : List Pass} {history : List Entry} {numbers : List ℕ
       let is = phase-found passes i Held at step.there in
       set-on followed i step.there (after_filled step.pass (replicate shape.block zero_sector)) (λ e. cc) step.after refl refl refl refl refl (λ e. cc) (λ e. cc) (λ e. absurd (cc))
 
-  pub fetch_settled-followed : {answer : Settled} {shape : Shape} {base_flies base_flies' : List Ticket → Type 0} {base_tells : Type 0} {base : List Sector} → IsAt passes i (λ p. p.phase ≡ Fetching)
-      → FetchSettled answer shape i passes passes' base_flies base_flies' base_tells base → IsFollowed passes' history numbers log
-  fetch_settled-followed {answer} {shape} {base_flies} {base_flies'} {base_tells} {base} at step =
+  pub fetch_settled-followed : {answer : Settled} {shape : Shape} {base_flight base_flight' : List Ticket → Type 0} {base_tells : Type 0} {base : List Sector} → IsAt passes i (λ p. p.phase ≡ Fetching)
+      → FetchSettled answer shape i passes passes' base_flight base_flight' base_tells base → IsFollowed passes' history numbers log
+  fetch_settled-followed {answer} {shape} {base_flight} {base_flight'} {base_tells} {base} at step =
       fetched-followed followed i step.there answer (phase-found passes i Fetching at step.there) step.ticket shape.block step.content step.after
 
 -- Then the ask and the reply, at which the store runs: it has as many events as its log.
@@ -104,17 +104,17 @@ fault-told (Some (fault.Worn generation)) done ticket said is = cc
 
 -- a store fault that a pass replies is traced, as its failure was
 reply-traced : {history : List Entry} {numbers : List ℕ} {log : List Entry} {i : ℕ} {p : Pass} → IsFollowedPass i p history numbers log → p.phase ≡ Ready → (answer : Answer) → answer ≡ answer_of p → (events : ℕ) → events ≡ length log
-    → (id : CallId) (ticket done : ℕ) → Reply (call_of i p) answer ≡ Reply id (StoreFault ticket done) → IsTraced log history numbers id ticket (length history) events
+    → (id : CallId) (ticket done : ℕ) → Reply (call_id i p) answer ≡ Reply id (StoreFault ticket done) → IsTraced log history numbers id ticket (length history) events
 reply-traced {history} {numbers} {log} {i} {p} was ready answer tells events running id ticket done is =
-    let own : call_of i p ≡ id = cc in let told : answer ≡ StoreFault ticket done = cc in
+    let own : call_id i p ≡ id = cc in let told : answer ≡ StoreFault ticket done = cc in
     subst (λ (c : CallId). IsTraced log history numbers c ticket (length history) events) own
-    (subst (IsTraced log history numbers (call_of i p) ticket (length history)) (sym running) (was.failed ready ticket (fault-told p.fault p.done ticket done (sym tells ∙ told))))
+    (subst (IsTraced log history numbers (call_id i p) ticket (length history)) (sym running) (was.failed ready ticket (fault-told p.fault p.done ticket done (sym tells ∙ told))))
 
 module _ {passes passes' : List Pass} {history history' : List Entry} {numbers numbers' : List ℕ} {log : List Entry} {i : ℕ} (followed : IsFollowed passes history numbers log) where
   pub asks-followed : {request : Asked} {events_left sectors_left events : ℕ} → Asks request events_left sectors_left i passes passes' history history' → numbers' ≡ numbers ++ events ∷ [] → events ≡ length log
       → IsFollowed passes' history' numbers' log
   asks-followed {request} {events_left} {sectors_left} {events} step numbered running =
-      let p = step.pass in let e : Entry = Ask (call_of i (after_ask p request events_left sectors_left)) request in
+      let p = step.pass in let e : Entry = Ask (call_id i (after_ask p request events_left sectors_left)) request in
       let pushed = pushed-followed followed e events (λ j q at busy. tt) (λ id ticket done is. absurd (cc)) in
       rw (step.after, step.event, numbered) (set-followed pushed step.there (asks-pass history numbers p request events events_left sectors_left followed.many (omega (arith, running))))
 
@@ -132,12 +132,12 @@ module _ {passes passes' : List Pass} {history history' : List Entry} {numbers n
   replies-followed {answer} {events} at step numbered running =
       let p = step.pass in let ready = phase-found passes i Ready at step.there in
       let traced = reply-traced (followed.each i p step.there) ready answer step.is events running in
-      rw (step.after, step.event, numbered) (set-followed (pushed-followed followed (Reply (call_of i p) answer) events (λ j q there busy. tt) traced) step.there (idle-pass refl))
+      rw (step.after, step.event, numbered) (set-followed (pushed-followed followed (Reply (call_id i p) answer) events (λ j q there busy. tt) traced) step.there (idle-pass refl))
 
 -- The Issue of a piece, at which the store runs too: the store's Issue stands in its log at the number of the history's.
 
 issue-ticket : (log' history : List Entry) (numbers : List ℕ) (events : ℕ) (id : CallId) (first : ℕ) (part stored : List Sector) (ticket : Ticket) (p : Pass) → length numbers ≡ length history → p.write ≡ true
-    → slice_get log' events ≡ Some (issued ticket stored) → (request : Asked) → IsRequestOf p request
+    → slice_get log' events ≡ Some (issue_entry ticket stored) → (request : Asked) → IsRequestOf p request
     → IsTicketOf request log' (history ++ Issue id first part ∷ []) (numbers ++ events ∷ []) id ticket.number (length (history ++ Issue id first part ∷ []))
 issue-ticket log' history numbers events id first part stored ticket p many write there (Read from count) is = absurd (let reads = is.0 in cc)
 issue-ticket log' history numbers events id first part stored ticket p many write there (Write from whole) is = (
@@ -159,14 +159,14 @@ issue-ticket log' history numbers events id first part stored ticket p many writ
 at-end : (old : List Entry) {new : List Entry} (e : Entry) → new ≡ old ++ e ∷ [] → (events : ℕ) → events ≡ length old → slice_get new events ≡ Some e
 at-end old {new} e is events running = ap (λ (l : List Entry). slice_get l events) is ∙ ap (slice_get (old ++ e ∷ [])) running ∙ last-pushed old e
 
-module _ {passes passes' : List Pass} {history history' : List Entry} {numbers : List ℕ} {i last last' : ℕ} {shape : Shape} {fresh : List Bool} {content : List Sector} {flies flies' : List Ticket → Type 0}
+module _ {passes passes' : List Pass} {history history' : List Entry} {numbers : List ℕ} {i last last' : ℕ} {shape : Shape} {fresh : List Bool} {content : List Sector} {flight flight' : List Ticket → Type 0}
     {tells tells' : Type 0} {disk disk' : Disk} (followed : IsFollowed passes history numbers disk.log) (at : IsAt passes i (λ p. ((p.phase ≡ Held) ⊎ (p.phase ≡ Filled)) × (p.write ≡ true)))
-    (step : Issues shape fresh content i passes passes' history history' flies flies' tells tells' disk disk' last last') where
+    (step : Issues shape fresh content i passes passes' history history' flight flight' tells tells' disk disk' last last') where
   abbrev issuer : Pass
   issuer = step.pass
 
   abbrev issue : Entry
-  issue = Issue (call_of i issuer) (issuer.first + issuer.done) (slice_range content issuer.done (issuer.done + issuer.piece))
+  issue = Issue (call_id i issuer) (issuer.first + issuer.done) (slice_range content issuer.done (issuer.done + issuer.piece))
 
   holds : ((issuer.phase ≡ Held) ⊎ (issuer.phase ≡ Filled)) × (issuer.write ≡ true)
   holds = found passes i (λ p. ((p.phase ≡ Held) ⊎ (p.phase ≡ Filled)) × (p.write ≡ true)) at step.there
@@ -175,7 +175,7 @@ module _ {passes passes' : List Pass} {history history' : List Entry} {numbers :
   holds-not ph held filled is = elim holds.0 [ inl h ↦ held (sym h ∙ is) | inr f ↦ filled (sym f ∙ is) ]
 
   -- a pass that issues or has failed is another one
-  none-own : (j : ℕ) (q : Pass) → slice_get passes j ≡ Some q → (q.phase ≡ Issuing) ⊎ (q.phase ≡ Ready) → call_of i issuer ≢ call_of j q
+  none-own : (j : ℕ) (q : Pass) → slice_get passes j ≡ Some q → (q.phase ≡ Issuing) ⊎ (q.phase ≡ Ready) → call_id i issuer ≢ call_id j q
   none-own j q there busy same =
       let own : issuer ≡ q = some-inj (sym step.there ∙ ap (slice_get passes) (ap (λ (id : CallId). id.pass) same) ∙ there) in
       elim busy [
@@ -183,15 +183,15 @@ module _ {passes passes' : List Pass} {history history' : List Entry} {numbers :
         | inr ready ↦ holds-not Ready (λ e. cc) (λ e. cc) (ap (λ (x : Pass). x.phase) own ∙ ready)
       ]
 
-  pub issues-followed : {numbers' : List ℕ} {events : ℕ} → numbers' ≡ numbers ++ events ∷ [] → IsRunning events disk → Adds (issued step.ticket step.stored) disk disk' → IsFollowed passes' history' numbers' disk'.log
+  pub issues-followed : {numbers' : List ℕ} {events : ℕ} → numbers' ≡ numbers ++ events ∷ [] → IsRunning events disk → Adds (issue_entry step.ticket step.stored) disk disk' → IsFollowed passes' history' numbers' disk'.log
   issues-followed {numbers'} {events} numbered running told =
-      let grown = less-followed (pushed-followed followed issue events none-own (λ id ticket done is. absurd (cc))) (issued step.ticket step.stored ∷ []) told.log in
+      let grown = less-followed (pushed-followed followed issue events none-own (λ id ticket done is. absurd (cc))) (issue_entry step.ticket step.stored ∷ []) told.log in
       let p' = after_issue issuer step.ticket step.buffer in
       let now : IsFollowedPass i p' (history ++ issue ∷ []) (numbers ++ events ∷ []) disk'.log = record {
         asked = λ busy. asked-on (grown.each i issuer step.there) (holds-not Idle (λ e. cc) (λ e. cc)) p' refl refl refl refl refl;
         issuing = λ is t has request of_pass.
-            subst (λ (u : Ticket). IsTicketOf request disk'.log (history ++ issue ∷ []) (numbers ++ events ∷ []) (call_of i p') u.number (length (history ++ issue ∷ []))) (some-inj has)
-            (issue-ticket disk'.log history numbers events (call_of i issuer) _ _ step.stored step.ticket p' followed.many holds.1 (at-end disk.log (issued step.ticket step.stored) told.log events running) request of_pass);
+            subst (λ (u : Ticket). IsTicketOf request disk'.log (history ++ issue ∷ []) (numbers ++ events ∷ []) (call_id i p') u.number (length (history ++ issue ∷ []))) (some-inj has)
+            (issue-ticket disk'.log history numbers events (call_id i issuer) _ _ step.stored step.ticket p' followed.many holds.1 (at-end disk.log (issue_entry step.ticket step.stored) told.log events running) request of_pass);
         looking = λ is. absurd (cc);
         failed = λ is. absurd (cc);
       } in
@@ -200,13 +200,13 @@ module _ {passes passes' : List Pass} {history history' : List Entry} {numbers :
 -- The reads of the store and of the base.
 
 -- a look in the store has its read's Ask in the log
-module _ {passes passes' : List Pass} {history : List Entry} {numbers : List ℕ} {i last last' : ℕ} {shape : Shape} {flies flies' : List Ticket → Type 0} {tells tells' : Type 0} {disk disk' : Disk}
-    (followed : IsFollowed passes history numbers disk.log) (at : IsAt passes i (λ p. p.phase ≡ Held)) (step : Looks shape i passes passes' flies flies' tells tells' disk disk' last last') where
-  pub looks-followed : Adds (asked_read step.ticket) disk disk' → IsFollowed passes' history numbers disk'.log
+module _ {passes passes' : List Pass} {history : List Entry} {numbers : List ℕ} {i last last' : ℕ} {shape : Shape} {flight flight' : List Ticket → Type 0} {tells tells' : Type 0} {disk disk' : Disk}
+    (followed : IsFollowed passes history numbers disk.log) (at : IsAt passes i (λ p. p.phase ≡ Held)) (step : Looks shape i passes passes' flight flight' tells tells' disk disk' last last') where
+  pub looks-followed : Adds (ask_read_entry step.ticket) disk disk' → IsFollowed passes' history numbers disk'.log
   looks-followed told =
       let p = step.pass in let t = step.ticket in let is = phase-found passes i Held at step.there in
-      let grown = less-followed followed (asked_read t ∷ []) told.log in
-      let read : IsReadIn disk'.log t.number = (length disk.log, t.first, t.count, at-end disk.log (asked_read t) told.log (length disk.log) refl) in
+      let grown = less-followed followed (ask_read_entry t ∷ []) told.log in
+      let read : IsReadIn disk'.log t.number = (length disk.log, t.first, t.count, at-end disk.log (ask_read_entry t) told.log (length disk.log) refl) in
       rw step.after (set-followed grown step.there (record {
         asked = λ busy. asked-on (grown.each i p step.there) (λ e. cc) (after_look p t) refl refl refl refl refl;
         issuing = λ e. absurd (cc);
@@ -231,7 +231,7 @@ sees-followed : {passes passes' : List Pass} {history history' : List Entry} {nu
 sees-followed {passes} {passes'} {history} {history'} {numbers} {numbers'} {log} {i} {content} {out} {out'} followed events step busy whole numbered =
     let p = step.pass in
     rw (step.after, step.event, numbered)
-    (pushed-followed (set-followed followed step.there (piece-ended (followed.each i p step.there) busy whole 1 p.piece)) (Seen (call_of i p) (p.first + p.done) content) events (λ j q there b. tt) (λ id ticket done is. absurd (cc)))
+    (pushed-followed (set-followed followed step.there (piece-ended (followed.each i p step.there) busy whole 1 p.piece)) (Seen (call_id i p) (p.first + p.done) content) events (λ j q there b. tt) (λ id ticket done is. absurd (cc)))
 
 -- a call that is late leaves all as it was
 late-followed : {passes passes' : List Pass} {history history' : List Entry} {numbers numbers' : List ℕ} {log log' : List Entry} → IsFollowed passes history numbers log → passes' ≡ passes → history' ≡ history → numbers' ≡ numbers ++ []
@@ -246,8 +246,8 @@ look-ticket log history numbers id p ticket read reads (Write first content) is 
 look-ticket log history numbers id p ticket read reads Flush is = tt
 
 -- Where the pass has served its request so far, as the history says.
-module _ {shape : Shape} {fresh : List Bool} {places : ℕ → Option ℕ} {passes : List Pass} {history : List Entry} {sectors depth base_sectors base_depth : ℕ} {flies base_flies : List Ticket → Type 0}
-    (co : IsCoherent shape fresh places passes history sectors depth base_sectors base_depth flies base_flies) (i : ℕ) where
+module _ {shape : Shape} {fresh : List Bool} {places : ℕ → Option ℕ} {passes : List Pass} {history : List Entry} {sectors depth base_sectors base_depth : ℕ} {flight base_flight : List Ticket → Type 0}
+    (co : IsCoherent shape fresh places passes history sectors depth base_sectors base_depth flight base_flight) (i : ℕ) where
   unfailed : {p : Pass} → slice_get passes i ≡ Some p → p.phase ≢ Idle → p.phase ≢ Ready → p.fault ≡ None
   unfailed {p} there busy ready_not = ((co.each i p there).whole busy ready_not).1
 
@@ -257,13 +257,13 @@ module _ {shape : Shape} {fresh : List Bool} {places : ℕ → Option ℕ} {pass
       write-ended settled.Done ends numbered told =
           let grown = less-followed followed _ told in
           rw (ends.1, ends.2, numbered)
-          (pushed-followed (set-followed grown there (piece-ended (grown.each i p there) (λ e. cc) (unfailed there (λ e. cc) (λ e. cc)) 1 0)) (Done (call_of i p)) events (λ j q at b. tt) (λ id other done is. absurd (cc)))
+          (pushed-followed (set-followed grown there (piece-ended (grown.each i p there) (λ e. cc) (unfailed there (λ e. cc) (λ e. cc)) 1 0)) (Done (call_id i p)) events (λ j q at b. tt) (λ id other done is. absurd (cc)))
       write-ended (settled.NotYet same) ends numbered told = late-followed followed ends.1 ends.2 numbered [] told
       write-ended (settled.Failed number) ends numbered told =
-          let e = failed_entry ticket.kind ticket in let grown = less-followed followed (e ∷ []) told in let p' = spent 1 0 (after_fault (fault.Store ticket.number) p) in
+          let e = failed_entry ticket.kind ticket in let grown = less-followed followed (e ∷ []) told in let p' = after_spending 1 0 (after_fault (fault.Store ticket.number) p) in
           let traced = traced-now (followed.each i p there) (λ e. cc) ticket.number e told (failure ticket.kind ticket) ((followed.each i p there).issuing issuing ticket has) in
           rw (ends.1, ends.2, numbered)
-          (pushed-followed (set-followed grown there (fails-on (grown.each i p there) (λ e. cc) p' refl refl refl refl refl ticket.number refl refl traced)) (Broke (call_of i p)) events (λ j q at b. tt) (λ id other done is. absurd (cc)))
+          (pushed-followed (set-followed grown there (fails-on (grown.each i p there) (λ e. cc) p' refl refl refl refl refl ticket.number refl refl traced)) (Broke (call_id i p)) events (λ j q at b. tt) (λ id other done is. absurd (cc)))
 
     module _ {passes' : List Pass} {history' : List Entry} {log log' : List Entry} (followed : IsFollowed passes history numbers log) (looking : p.phase ≡ Looking) where
       look-ended : (content out out' : List Sector) (answer : Settled) → EndsRead answer p (fault.Store ticket.number) content i passes passes' history history' out out' → numbers' ≡ numbers ++ read_numbers_of answer events
@@ -274,7 +274,7 @@ module _ {shape : Shape} {fresh : List Bool} {places : ℕ → Option ℕ} {pass
       look-ended content out out' (settled.NotYet same) ends numbered told = late-followed followed ends.0 ends.1 numbered [] told
       look-ended content out out' (settled.Failed number) ends numbered told =
           let e = failed_entry ticket.kind ticket in let grown = less-followed followed (e ∷ []) told in let p' = after_fault (fault.Store ticket.number) p in
-          let ticket_is = look-ticket log history numbers (call_of i p) p ticket.number ((followed.each i p there).looking looking ticket has) ((co.each i p there).read looking) in
+          let ticket_is = look-ticket log history numbers (call_id i p) p ticket.number ((followed.each i p there).looking looking ticket has) ((co.each i p there).read looking) in
           let traced = traced-now (followed.each i p there) (λ e. cc) ticket.number e told (failure ticket.kind ticket) ticket_is in
           rw (ends.0, ends.1, numbered ∙ append-nil numbers) (set-followed grown there (fails-on (grown.each i p there) (λ e. cc) p' refl refl refl refl refl ticket.number refl refl traced))
 
@@ -289,24 +289,24 @@ module _ {shape : Shape} {fresh : List Bool} {places : ℕ → Option ℕ} {pass
       (set-followed followed there (goes-on (followed.each i p there) (λ e. cc) (after_fault (fault.Base number) p) refl refl refl refl refl (λ e. cc) (λ e. cc) (λ e ticket why. cc)))
 
 -- The ends of what is in flight, as their records say them. `events` is the number that their entry has, if they add one.
-module _ {shape : Shape} {fresh : List Bool} {places : ℕ → Option ℕ} {passes passes' : List Pass} {history history' : List Entry} {numbers numbers' : List ℕ} {sectors depth base_sectors base_depth i : ℕ} {flies base_flies : List Ticket → Type 0}
-    (co : IsCoherent shape fresh places passes history sectors depth base_sectors base_depth flies base_flies) (events : ℕ) where
-  pub write_settled-followed : {answer : Settled} {fresh' : List Bool} {flies' : List Ticket → Type 0} {tells tells' : Type 0} {disk disk' : Disk} {last last' : ℕ} → IsFollowed passes history numbers disk.log
-      → IsAt passes i (λ p. p.phase ≡ Issuing) → (step : WriteSettled answer i fresh fresh' passes passes' history history' flies flies' tells tells' disk disk' last last') → numbers' ≡ numbers ++ numbers_of answer events
+module _ {shape : Shape} {fresh : List Bool} {places : ℕ → Option ℕ} {passes passes' : List Pass} {history history' : List Entry} {numbers numbers' : List ℕ} {sectors depth base_sectors base_depth i : ℕ} {flight base_flight : List Ticket → Type 0}
+    (co : IsCoherent shape fresh places passes history sectors depth base_sectors base_depth flight base_flight) (events : ℕ) where
+  pub write_settled-followed : {answer : Settled} {fresh' : List Bool} {flight' : List Ticket → Type 0} {tells tells' : Type 0} {disk disk' : Disk} {last last' : ℕ} → IsFollowed passes history numbers disk.log
+      → IsAt passes i (λ p. p.phase ≡ Issuing) → (step : WriteSettled answer i fresh fresh' passes passes' history history' flight flight' tells tells' disk disk' last last') → numbers' ≡ numbers ++ numbers_of answer events
       → Tells answer step.ticket [] disk disk' → IsFollowed passes' history' numbers' disk'.log
-  write_settled-followed {answer} {fresh'} {flies'} {tells} {tells'} {disk} {disk'} {last} {last'} followed at step numbered told =
+  write_settled-followed {answer} {fresh'} {flight'} {tells} {tells'} {disk} {disk'} {last} {last'} followed at step numbered told =
       write-ended co i events step.there step.ticket step.has fresh' followed (phase-found passes i Issuing at step.there) answer step.effect numbered told.grows.log
 
-  pub look_settled-followed : {answer : Settled} {flies' : List Ticket → Type 0} {tells tells' : Type 0} {disk disk' : Disk} {last last' : ℕ} {out out' : List Sector} → IsFollowed passes history numbers disk.log
-      → IsAt passes i (λ p. p.phase ≡ Looking) → (step : LookSettled answer i passes passes' history history' flies flies' tells tells' disk disk' last last' out out') → numbers' ≡ numbers ++ read_numbers_of answer events
+  pub look_settled-followed : {answer : Settled} {flight' : List Ticket → Type 0} {tells tells' : Type 0} {disk disk' : Disk} {last last' : ℕ} {out out' : List Sector} → IsFollowed passes history numbers disk.log
+      → IsAt passes i (λ p. p.phase ≡ Looking) → (step : LookSettled answer i passes passes' history history' flight flight' tells tells' disk disk' last last' out out') → numbers' ≡ numbers ++ read_numbers_of answer events
       → Tells answer step.ticket step.content disk disk' → IsFollowed passes' history' numbers' disk'.log
-  look_settled-followed {answer} {flies'} {tells} {tells'} {disk} {disk'} {last} {last'} {out} {out'} followed at step numbered told =
+  look_settled-followed {answer} {flight'} {tells} {tells'} {disk} {disk'} {last} {last'} {out} {out'} followed at step numbered told =
       look-ended co i events step.there step.ticket step.has followed (phase-found passes i Looking at step.there) step.content out out' answer step.effect numbered told.grows.log
 
-  pub base_look_settled-followed : {answer : Settled} {base_flies' : List Ticket → Type 0} {base_tells : Type 0} {base out out' : List Sector} {log : List Entry} → IsFollowed passes history numbers log
-      → IsAt passes i (λ p. p.phase ≡ Looking) → BaseLookSettled answer shape i passes passes' history history' base_flies base_flies' base_tells base out out' → numbers' ≡ numbers ++ read_numbers_of answer events
+  pub base_look_settled-followed : {answer : Settled} {base_flight' : List Ticket → Type 0} {base_tells : Type 0} {base out out' : List Sector} {log : List Entry} → IsFollowed passes history numbers log
+      → IsAt passes i (λ p. p.phase ≡ Looking) → BaseLookSettled answer shape i passes passes' history history' base_flight base_flight' base_tells base out out' → numbers' ≡ numbers ++ read_numbers_of answer events
       → IsFollowed passes' history' numbers' log
-  base_look_settled-followed {answer} {base_flies'} {base_tells} {base} {out} {out'} {log} followed at step numbered =
+  base_look_settled-followed {answer} {base_flight'} {base_tells} {base} {out} {out'} {log} followed at step numbered =
       base_look-ended co i events step.there step.ticket.number followed (phase-found passes i Looking at step.there) _ out out' answer step.effect numbered
 
   pub sees_zeros-followed : {out out' : List Sector} {log : List Entry} → IsFollowed passes history numbers log → IsAt passes i (λ p. p.phase ≡ Held) → SeesZeros shape i passes passes' history history' out out' → numbers' ≡ numbers ++ events ∷ []
@@ -316,9 +316,9 @@ module _ {shape : Shape} {fresh : List Bool} {places : ℕ → Option ℕ} {pass
       sees-followed followed events step.sees (λ e. cc) (unfailed co i step.sees.there (λ e. cc) (λ e. cc)) numbered
 
 -- a look in the base has nothing in flight on the store
-module _ {shape : Shape} {fresh : List Bool} {places : ℕ → Option ℕ} {passes passes' : List Pass} {history : List Entry} {numbers : List ℕ} {sectors depth base_sectors base_depth i : ℕ} {flies base_flies base_flies' : List Ticket → Type 0}
-    (co : IsCoherent shape fresh places passes history sectors depth base_sectors base_depth flies base_flies) {log : List Entry} (followed : IsFollowed passes history numbers log) where
-  pub base_looks-followed : IsAt passes i (λ p. p.phase ≡ Held) → LooksAtBase shape i passes passes' base_flies base_flies' → IsFollowed passes' history numbers log
+module _ {shape : Shape} {fresh : List Bool} {places : ℕ → Option ℕ} {passes passes' : List Pass} {history : List Entry} {numbers : List ℕ} {sectors depth base_sectors base_depth i : ℕ} {flight base_flight base_flight' : List Ticket → Type 0}
+    (co : IsCoherent shape fresh places passes history sectors depth base_sectors base_depth flight base_flight) {log : List Entry} (followed : IsFollowed passes history numbers log) where
+  pub base_looks-followed : IsAt passes i (λ p. p.phase ≡ Held) → LooksAtBase shape i passes passes' base_flight base_flight' → IsFollowed passes' history numbers log
   base_looks-followed at step =
       let p = step.pass in let is = phase-found passes i Held at step.there in
       let none = (held-ticket (co.each i p step.there) is).ticket in

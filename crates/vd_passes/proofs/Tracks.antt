@@ -10,13 +10,13 @@ use Rattle.vd_law.specs.declared.entry.Sector.{Sector}
 use Rattle.vd_law.specs.declared.entry.CallId.{CallId}
 use Rattle.vd_law.specs.declared.entry.Answer.{Answer}
 use Rattle.vd_law.specs.Entries.{Asked, Entry, Ask, Issue, Done, Broke, Seen, Reply, same_call, Past, ◌▸◌, past}
-use Rattle.vd_law.specs.Contents.{sector_in, written, Open, opened, is_of, is_of_another, open_write, could, could_after, open_writes, looked_at}
+use Rattle.vd_law.specs.Contents.{sector_in, issued_contents, Open, open_after_issue, is_of, is_of_another, open_write, could, could_after, open_writes, contents_after_seen}
 use Rattle.vd_law.specs.Contents as contents
 use Rattle.vd_law.proofs.Appending.{past-push}
 use Rattle.vd_law.proofs.Opening.{same_call-refl, same_call-is, case}
 use Rattle.vd_law.proofs.Sectors.{slice_get-inside, sector_in-place}
 use Rattle.vd_device.specs.Disks.{Disk, Adds, GrowsBy}
-use Rattle.vd_passes.specs.Tracks.{Track, content_by, track, writes, closed, settled, seen, begun, looked, follow}
+use Rattle.vd_passes.specs.Tracks.{Track, content_by, track, writes, writes_without, contents_with_done, contents_with_seen, track_after_issue, track_after_seen, follow}
 
 -- what is known of a sector after p
 after : List Sector → Past → ℕ → Track
@@ -28,21 +28,21 @@ known contents writes = record { contents = contents; writes = writes }
 same-track : {contents contents' : List Sector} {writes writes' : List (CallId × Sector)} → contents ≡ contents' → writes ≡ writes' → known contents writes ≡ known contents' writes'
 same-track {contents} {contents'} {writes} {writes'} c w = ap (λ (x : List Sector). known x writes) c ∙ ap (λ (x : List (CallId × Sector)). known contents' x) w
 
-map-closed : (id : CallId) (ws : List Open) → map content_by (filter (is_of_another id) ws) ≡ closed id (map content_by ws)
+map-closed : (id : CallId) (ws : List Open) → map content_by (filter (is_of_another id) ws) ≡ writes_without id (map content_by ws)
 map-closed id [] = refl
 map-closed id (w ∷ ws) = elim (case (same_call w.call id)) [
   | inl own ↦ rw own (map-closed id ws)
   | inr other ↦ rw other (ap (λ (x : List (CallId × Sector)). (w.call, w.content) ∷ x) (map-closed id ws))
 ]
 
-map-settled : (id : CallId) (ws : List Open) (cs : List Sector) → contents.settled (find (is_of id) ws) cs ≡ settled id (map content_by ws) cs
+map-settled : (id : CallId) (ws : List Open) (cs : List Sector) → contents.contents_after_done (find (is_of id) ws) cs ≡ contents_with_done id (map content_by ws) cs
 map-settled id [] cs = refl
 map-settled id (w ∷ ws) cs = elim (case (same_call w.call id)) [
   | inl own ↦ rw own refl
   | inr other ↦ rw other (map-settled id ws cs)
 ]
 
-map-seen : (id : CallId) (v : Sector) (ws : List Open) (cs : List Sector) → (if list_any (is_of_another id) ws then cs else v ∷ []) ≡ seen v (closed id (map content_by ws)) cs
+map-seen : (id : CallId) (v : Sector) (ws : List Open) (cs : List Sector) → (if list_any (is_of_another id) ws then cs else v ∷ []) ≡ contents_with_seen v (writes_without id (map content_by ws)) cs
 map-seen id v [] cs = refl
 map-seen id v (w ∷ ws) cs = elim (case (same_call w.call id)) [
   | inl own ↦ rw own (map-seen id v ws cs)
@@ -50,13 +50,13 @@ map-seen id v (w ∷ ws) cs = elim (case (same_call w.call id)) [
 ]
 
 follow-issue : (id : CallId) (number : ℕ) (o : Option Sector) (cs : List Sector) (ws : List Open)
-    → known (cs ++ option_to_list o) (map content_by (opened id number o ++ ws)) ≡ begun id o (known cs (map content_by ws))
+    → known (cs ++ option_to_list o) (map content_by (open_after_issue id number o ++ ws)) ≡ track_after_issue id o (known cs (map content_by ws))
 unfolding known
 follow-issue id number None cs ws = same-track (append-nil cs) refl
 follow-issue id number (Some v) cs ws = refl
 
 follow-seen : (id : CallId) (o : Option Sector) (cs : List Sector) (ws : List Open)
-    → known (looked_at o (list_any (is_of_another id) ws) cs) (map content_by ws) ≡ looked id o (known cs (map content_by ws))
+    → known (contents_after_seen o (list_any (is_of_another id) ws) cs) (map content_by ws) ≡ track_after_seen id o (known cs (map content_by ws))
 unfolding known
 follow-seen id None cs ws = refl
 follow-seen id (Some v) cs ws = same-track (map-seen id v ws cs) refl
@@ -64,21 +64,21 @@ follow-seen id (Some v) cs ws = same-track (map-seen id v ws cs) refl
 after-more : (start : List Sector) (p : Past) (e : Entry) (s : ℕ) → after start (p ▸ e) s ≡ follow s (after start p s) e
 unfolding after follow known
 after-more start p (Ask id request) s = refl
-after-more start p (Issue id first content) s = follow-issue id (length (written p s) + 1) (sector_in first content s) (could_after start p s) (open_writes p s)
+after-more start p (Issue id first content) s = follow-issue id (length (issued_contents p s) + 1) (sector_in first content s) (could_after start p s) (open_writes p s)
 after-more start p (Done id) s = same-track (map-settled id (open_writes p s) (could_after start p s)) (map-closed id (open_writes p s))
 after-more start p (Broke id) s = same-track refl (map-closed id (open_writes p s))
 after-more start p (Seen id first content) s = follow-seen id (sector_in first content s) (could_after start p s) (open_writes p s)
 after-more start p (Reply id answer) s = refl
 
-begun-writes : (id : CallId) (o : Option Sector) (t u : Track) → t.writes ≡ u.writes → (begun id o t).writes ≡ (begun id o u).writes
+begun-writes : (id : CallId) (o : Option Sector) (t u : Track) → t.writes ≡ u.writes → (track_after_issue id o t).writes ≡ (track_after_issue id o u).writes
 begun-writes id None t u same = same
 begun-writes id (Some c) t u same = ap (λ (ws : List (CallId × Sector)). (id, c) ∷ ws) same
 
-looked-alike : (id : CallId) (o : Option Sector) (t u : Track) → t.writes ≡ u.writes → (looked id o t).writes ≡ (looked id o u).writes
+looked-alike : (id : CallId) (o : Option Sector) (t u : Track) → t.writes ≡ u.writes → (track_after_seen id o t).writes ≡ (track_after_seen id o u).writes
 looked-alike id None t u same = same
 looked-alike id (Some v) t u same = same
 
-looked-writes : (id : CallId) (o : Option Sector) (t : Track) → (looked id o t).writes ≡ t.writes
+looked-writes : (id : CallId) (o : Option Sector) (t : Track) → (track_after_seen id o t).writes ≡ t.writes
 looked-writes id None t = refl
 looked-writes id (Some v) t = refl
 
@@ -87,8 +87,8 @@ pub same-writes : (s : ℕ) (e : Entry) (t u : Track) → t.writes ≡ u.writes 
 unfolding follow
 same-writes s (Ask id request) t u same = same
 same-writes s (Issue id first content) t u same = begun-writes id (sector_in first content s) t u same
-same-writes s (Done id) t u same = ap (closed id) same
-same-writes s (Broke id) t u same = ap (closed id) same
+same-writes s (Done id) t u same = ap (writes_without id) same
+same-writes s (Broke id) t u same = ap (writes_without id) same
 same-writes s (Seen id first content) t u same = looked-alike id (sector_in first content s) t u same
 same-writes s (Reply id answer) t u same = same
 
@@ -173,29 +173,29 @@ reply-same s t id answer = refl
 
 pub issue-at : (s : ℕ) (t : Track) (id : CallId) (first : ℕ) (content : List Sector) (c : Sector) → sector_in first content s ≡ Some c → follow s t (Issue id first content) ≡ record { contents = t.contents ++ c ∷ []; writes = (id, c) ∷ t.writes }
 unfolding follow
-issue-at s t id first content c h = ap (λ (o : Option Sector). begun id o t) h
+issue-at s t id first content c h = ap (λ (o : Option Sector). track_after_issue id o t) h
 
 pub issue-off : (s : ℕ) (t : Track) (id : CallId) (first : ℕ) (content : List Sector) → sector_in first content s ≡ None → follow s t (Issue id first content) ≡ t
 unfolding follow
-issue-off s t id first content h = ap (λ (o : Option Sector). begun id o t) h
+issue-off s t id first content h = ap (λ (o : Option Sector). track_after_issue id o t) h
 
 -- a write is done, or has failed, where none is open, where it is the one that is open, and where another is
 pub done-none : (s : ℕ) (t : Track) (id : CallId) → t.writes ≡ [] → ((follow s t (Done id)).contents ≡ t.contents) × ((follow s t (Done id)).writes ≡ [])
 unfolding follow
-done-none s t id h = (ap (λ (ws : List (CallId × Sector)). settled id ws t.contents) h, ap (closed id) h)
+done-none s t id h = (ap (λ (ws : List (CallId × Sector)). contents_with_done id ws t.contents) h, ap (writes_without id) h)
 
 pub done-own : (s : ℕ) (t : Track) (id : CallId) (c : Sector) → t.writes ≡ (id, c) ∷ [] → ((follow s t (Done id)).contents ≡ c ∷ []) × ((follow s t (Done id)).writes ≡ [])
 unfolding follow
 done-own s t id c h = (
-  ap (λ (ws : List (CallId × Sector)). settled id ws t.contents) h ∙ ap (λ (b : Bool). if b then c ∷ [] else t.contents) (same-itself id),
-  ap (closed id) h ∙ ap (λ (b : Bool). if b then [] else ((id, c) ∷ [])) (same-itself id),
+  ap (λ (ws : List (CallId × Sector)). contents_with_done id ws t.contents) h ∙ ap (λ (b : Bool). if b then c ∷ [] else t.contents) (same-itself id),
+  ap (writes_without id) h ∙ ap (λ (b : Bool). if b then [] else ((id, c) ∷ [])) (same-itself id),
 )
 
 pub done-other : (s : ℕ) (t : Track) (id other : CallId) (c : Sector) → t.writes ≡ (other, c) ∷ [] → same_call other id ≡ false → ((follow s t (Done id)).contents ≡ t.contents) × ((follow s t (Done id)).writes ≡ t.writes)
 unfolding follow
 done-other s t id other c h ne = (
-  ap (λ (ws : List (CallId × Sector)). settled id ws t.contents) h ∙ ap (λ (b : Bool). if b then c ∷ [] else t.contents) ne,
-  ap (closed id) h ∙ ap (λ (b : Bool). if b then [] else ((other, c) ∷ [])) ne ∙ sym h,
+  ap (λ (ws : List (CallId × Sector)). contents_with_done id ws t.contents) h ∙ ap (λ (b : Bool). if b then c ∷ [] else t.contents) ne,
+  ap (writes_without id) h ∙ ap (λ (b : Bool). if b then [] else ((other, c) ∷ [])) ne ∙ sym h,
 )
 
 pub broke-contents : (s : ℕ) (t : Track) (id : CallId) → (follow s t (Broke id)).contents ≡ t.contents
@@ -204,15 +204,15 @@ broke-contents s t id = refl
 
 pub broke-none : (s : ℕ) (t : Track) (id : CallId) → t.writes ≡ [] → (follow s t (Broke id)).writes ≡ []
 unfolding follow
-broke-none s t id h = ap (closed id) h
+broke-none s t id h = ap (writes_without id) h
 
 pub broke-own : (s : ℕ) (t : Track) (id : CallId) (c : Sector) → t.writes ≡ (id, c) ∷ [] → (follow s t (Broke id)).writes ≡ []
 unfolding follow
-broke-own s t id c h = ap (closed id) h ∙ ap (λ (b : Bool). if b then [] else ((id, c) ∷ [])) (same-itself id)
+broke-own s t id c h = ap (writes_without id) h ∙ ap (λ (b : Bool). if b then [] else ((id, c) ∷ [])) (same-itself id)
 
 pub broke-other : (s : ℕ) (t : Track) (id other : CallId) (c : Sector) → t.writes ≡ (other, c) ∷ [] → same_call other id ≡ false → (follow s t (Broke id)).writes ≡ t.writes
 unfolding follow
-broke-other s t id other c h ne = ap (closed id) h ∙ ap (λ (b : Bool). if b then [] else ((other, c) ∷ [])) ne ∙ sym h
+broke-other s t id other c h ne = ap (writes_without id) h ∙ ap (λ (b : Bool). if b then [] else ((other, c) ∷ [])) ne ∙ sym h
 
 pub seen-writes : (s : ℕ) (t : Track) (id : CallId) (first : ℕ) (content : List Sector) → (follow s t (Seen id first content)).writes ≡ t.writes
 unfolding follow
@@ -220,11 +220,11 @@ seen-writes s t id first content = looked-writes id (sector_in first content s) 
 
 pub seen-at : (s : ℕ) (t : Track) (id : CallId) (first : ℕ) (content : List Sector) (v : Sector) → sector_in first content s ≡ Some v → t.writes ≡ [] → (follow s t (Seen id first content)).contents ≡ v ∷ []
 unfolding follow
-seen-at s t id first content v h none = ap (λ (o : Option Sector). (looked id o t).contents) h ∙ ap (λ (ws : List (CallId × Sector)). seen v (closed id ws) t.contents) none
+seen-at s t id first content v h none = ap (λ (o : Option Sector). (track_after_seen id o t).contents) h ∙ ap (λ (ws : List (CallId × Sector)). contents_with_seen v (writes_without id ws) t.contents) none
 
 pub seen-off : (s : ℕ) (t : Track) (id : CallId) (first : ℕ) (content : List Sector) → sector_in first content s ≡ None → follow s t (Seen id first content) ≡ t
 unfolding follow
-seen-off s t id first content h = ap (λ (o : Option Sector). looked id o t) h
+seen-off s t id first content h = ap (λ (o : Option Sector). track_after_seen id o t) h
 
 -- the one content of a list
 pub only-one : (v w : Sector) → Contains (w ∷ []) v → v ≡ w

@@ -13,8 +13,8 @@ use Rattle.vd_passes.specs.declared.pass.Pass.{Pass}
 use Rattle.vd_passes.specs.declared.pass.Phase.TheVariants.{Issuing}
 use Rattle.vd_passes.specs.Tracks.{Track, track, follow}
 use Rattle.vd_passes.specs.Places.{IsIn}
-use Rattle.vd_passes.specs.Passes.{call_of, IsWriting, IsFilling}
-use Rattle.vd_passes.specs.Coherent.{IsCoherent, IsFaithful, StandsFor, IsFilled}
+use Rattle.vd_passes.specs.Passes.{call_id, IsWriting, IsFilling}
+use Rattle.vd_passes.specs.Coherent.{IsCoherent, IsFaithful, AgreesInSector, IsFilled}
 use Rattle.vd_passes.proofs.Lists.{some-inj}
 use Rattle.vd_passes.proofs.Places.{same-block, same-place}
 use Rattle.vd_passes.proofs.Tracks.{track-writes, done-none, done-own, done-other, broke-contents, only-one, is-one}
@@ -26,8 +26,8 @@ in-place : (block b x s : ℕ) → IsIn block b s → (x ≤ x + (s - block * b)
 in-place block b x s in_b = let f = in_b.0 in let g = in_b.1 in (omega arith, omega arith)
 
 -- A write is done: what this pass wrote is all that may stand there, and its block is fresh.
-module _ {shape : Shape} {fresh : List Bool} {places : ℕ → Option ℕ} {passes : List Pass} {history : List Entry} {sectors depth base_sectors base_depth : ℕ} {flies base_flies : List Ticket → Type 0}
-    (co : IsCoherent shape fresh places passes history sectors depth base_sectors base_depth flies base_flies) (i : ℕ) (p : Pass) (there : slice_get passes i ≡ Some p)
+module _ {shape : Shape} {fresh : List Bool} {places : ℕ → Option ℕ} {passes : List Pass} {history : List Entry} {sectors depth base_sectors base_depth : ℕ} {flight base_flight : List Ticket → Type 0}
+    (co : IsCoherent shape fresh places passes history sectors depth base_sectors base_depth flight base_flight) (i : ℕ) (p : Pass) (there : slice_get passes i ≡ Some p)
     (issuing : p.phase ≡ Issuing) (t : Ticket) (has : p.ticket ≡ Some t) where
   abbrev fresh-next : List Bool
   fresh-next = slice_set fresh p.block true
@@ -68,7 +68,7 @@ module _ {shape : Shape} {fresh : List Bool} {places : ℕ → Option ℕ} {pass
     store-of a = track disk.start disk.log a
 
     abbrev done-guest : ℕ → Track
-    done-guest s = follow s (guest-of s) (Done (call_of i p))
+    done-guest s = follow s (guest-of s) (Done (call_id i p))
 
     abbrev done-store : ℕ → Track
     done-store a = follow a (store-of a) (Done (ticket_id t))
@@ -86,17 +86,17 @@ module _ {shape : Shape} {fresh : List Bool} {places : ℕ → Option ℕ} {pass
     -- and so where it doesn't write the guest's sector
     guest-same : (s : ℕ) → (IsWriting p s → ⊥) → (done-guest s).contents ≡ (guest-of s).contents
     guest-same s not = elim (co.guest s) [
-      | inl none ↦ (done-none s (guest-of s) (call_of i p) (track-writes start history s ∙ none.none)).0
+      | inl none ↦ (done-none s (guest-of s) (call_id i p) (track-writes start history s ∙ none.none)).0
       | inr w ↦ elim (cases_eq w.by i) [
         | inl e ↦ absurd (not (subst (λ x. IsWriting x s) (is-this co i p there issuing t has w.pass w.by w.there e) w.writing))
-        | inr ne ↦ (done-other s (guest-of s) (call_of i p) (call_of w.by w.pass) w.content (track-writes start history s ∙ w.one) (other-call co i p there issuing t has w.pass w.by ne)).0
+        | inr ne ↦ (done-other s (guest-of s) (call_id i p) (call_id w.by w.pass) w.content (track-writes start history s ∙ w.one) (other-call co i p there issuing t has w.pass w.by ne)).0
       ]
     ]
 
     -- what may stand in the guest's sector after this pass's write of the content there is done
-    now-there : (s : ℕ) (c : Sector) → ((guest-of s).writes ≡ (call_of i p, c) ∷ []) ⊎ (((guest-of s).writes ≡ []) × Contains (guest-of s).contents c) → Contains (done-guest s).contents c
-    now-there s c (inl own) = subst (λ cs. Contains cs c) (sym (done-own s (guest-of s) (call_of i p) c own).0) (is-one c)
-    now-there s c (inr fill) = subst (λ cs. Contains cs c) (sym (done-none s (guest-of s) (call_of i p) fill.0).0) fill.1
+    now-there : (s : ℕ) (c : Sector) → ((guest-of s).writes ≡ (call_id i p, c) ∷ []) ⊎ (((guest-of s).writes ≡ []) × Contains (guest-of s).contents c) → Contains (done-guest s).contents c
+    now-there s c (inl own) = subst (λ cs. Contains cs c) (sym (done-own s (guest-of s) (call_id i p) c own).0) (is-one c)
+    now-there s c (inr fill) = subst (λ cs. Contains cs c) (sym (done-none s (guest-of s) (call_id i p) fill.0).0) fill.1
 
     -- this pass wrote the place of the sector
     filled-there : (s a : ℕ) (v : Sector) → a + block * p.block ≡ p.at + s → (w : IsFilled block passes a (track start history) (store-of a)) → w.by ≡ i → Contains (done-store a).contents v → Contains (done-guest s).contents v
@@ -105,10 +105,10 @@ module _ {shape : Shape} {fresh : List Bool} {places : ℕ → Option ℕ} {pass
         let same = is-this co i p there issuing t has w.pass w.by w.there e in
         let its : a + block * p.block ≡ p.at + w.sector = subst (λ (x : Pass). a + block * x.block ≡ x.at + w.sector) same w.place in
         let sector : w.sector ≡ s = omega arith in
-        let source : ((guest-of s).writes ≡ (call_of i p, w.content) ∷ []) ⊎ (((guest-of s).writes ≡ []) × Contains (guest-of s).contents w.content) =
-        subst (λ k. ((guest-of k).writes ≡ (call_of i p, w.content) ∷ []) ⊎ (((guest-of k).writes ≡ []) × Contains (guest-of k).contents w.content)) sector
-        (subst (λ x. ((guest-of w.sector).writes ≡ (call_of i x, w.content) ∷ []) ⊎ (((guest-of w.sector).writes ≡ []) × Contains (guest-of w.sector).contents w.content)) same
-        (subst (λ k. ((guest-of w.sector).writes ≡ (call_of k w.pass, w.content) ∷ []) ⊎ (((guest-of w.sector).writes ≡ []) × Contains (guest-of w.sector).contents w.content)) e w.source)) in
+        let source : ((guest-of s).writes ≡ (call_id i p, w.content) ∷ []) ⊎ (((guest-of s).writes ≡ []) × Contains (guest-of s).contents w.content) =
+        subst (λ k. ((guest-of k).writes ≡ (call_id i p, w.content) ∷ []) ⊎ (((guest-of k).writes ≡ []) × Contains (guest-of k).contents w.content)) sector
+        (subst (λ x. ((guest-of w.sector).writes ≡ (call_id i x, w.content) ∷ []) ⊎ (((guest-of w.sector).writes ≡ []) × Contains (guest-of w.sector).contents w.content)) same
+        (subst (λ k. ((guest-of w.sector).writes ≡ (call_id k w.pass, w.content) ∷ []) ⊎ (((guest-of w.sector).writes ≡ []) × Contains (guest-of w.sector).contents w.content)) e w.source)) in
         subst (λ c. Contains (done-guest s).contents c) (sym is) (now-there s w.content source)
 
     -- the sector lies in the block that this pass wrote
@@ -139,7 +139,7 @@ module _ {shape : Shape} {fresh : List Bool} {places : ℕ → Option ℕ} {pass
         let not : IsFilling p a → ⊥ = λ f. let own = filling-range (stands co i p there issuing t has) f in ne (same-place co.placed b p.block x p.at a at (placed co i p there issuing t has) range.0 range.1 own.0 own.1) in
         subst (λ cs. Contains cs v) (sym (other-guest s b in_b ne)) ((fa.stands s inside).local b x in_b is at v (subst (λ cs. Contains cs v) (store-same a low not) among))
 
-    pub done-stands : (s : ℕ) → s < length start → StandsFor shape.block fresh-next places rest s (follow s (track start history s) (Done (call_of i p))) (λ a. follow a (track disk.start disk.log a) (Done (ticket_id t)))
+    pub done-stands : (s : ℕ) → s < length start → AgreesInSector shape.block fresh-next places rest s (follow s (track start history s) (Done (call_id i p))) (λ a. follow a (track disk.start disk.log a) (Done (ticket_id t)))
     done-stands s inside = record {
       local = λ b x in_b is at v among. elim (cases_eq b p.block) [
         | inl e ↦
@@ -151,9 +151,9 @@ module _ {shape : Shape} {fresh : List Bool} {places : ℕ → Option ℕ} {pass
     }
 
     -- a failed write: what may stand there is as before
-    pub broke-stands : (s : ℕ) → s < length start → StandsFor shape.block fresh places rest s (follow s (track start history s) (Broke (call_of i p))) (λ a. follow a (track disk.start disk.log a) (Broke (ticket_id t)))
+    pub broke-stands : (s : ℕ) → s < length start → AgreesInSector shape.block fresh places rest s (follow s (track start history s) (Broke (call_id i p))) (λ a. follow a (track disk.start disk.log a) (Broke (ticket_id t)))
     broke-stands s inside = let old = fa.stands s inside in record {
-      local = λ b x in_b is at v among. subst (λ cs. Contains cs v) (sym (broke-contents s (guest-of s) (call_of i p)))
+      local = λ b x in_b is at v among. subst (λ cs. Contains cs v) (sym (broke-contents s (guest-of s) (call_id i p)))
           (old.local b x in_b is at v (subst (λ cs. Contains cs v) (broke-contents (x + (s - shape.block * b)) (store-of (x + (s - shape.block * b))) (ticket_id t)) among));
-      other = λ b in_b is. subst (λ cs. Contains cs (rest s)) (sym (broke-contents s (guest-of s) (call_of i p))) (old.other b in_b is);
+      other = λ b in_b is. subst (λ cs. Contains cs (rest s)) (sym (broke-contents s (guest-of s) (call_id i p))) (old.other b in_b is);
     }

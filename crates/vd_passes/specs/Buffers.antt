@@ -6,7 +6,7 @@ use Rattle.vd_device.specs.declared.ticket.Ticket.{Ticket}
 use Rattle.vd_device.specs.declared.settled.Settled.{Settled}
 use Rattle.vd_device.specs.declared.settled.Settled.TheVariants.{Done, NotYet, Failed}
 use Rattle.vd_device.specs.Bases.{SettlesInBase}
-use Rattle.vd_reading.specs.Background.{zero_sector}
+use Rattle.vd_format.specs.Background.{zero_sector}
 
 -- what was read comes first, and zeros behind it; else the buffer stays
 abbrev pub buffer_after : Settled → (content old : List Sector) → List Sector

@@ -3,15 +3,15 @@ use Rattle.std.specs.Prelude.{ℕ, ◌≡◌, ◌+◌, ◌-◌, ◌*◌, ◌<◌
 use Rattle.vd_law.specs.declared.entry.Sector.{Sector}
 use Rattle.vd_law.specs.Contents.{sector_in}
 use Rattle.vd_device.specs.Calls.{IsHeld}
-use Rattle.vd_reading.specs.Background.{zero_sector}
+use Rattle.vd_format.specs.Background.{zero_sector}
 
 -- a content of which the sectors from `at` on are these instead
-abbrev pub laid : (at : ℕ) (part content : List Sector) → List Sector
-laid at part content = take at content ++ part ++ drop (at + length part) content
+abbrev pub content_with_part : (at : ℕ) (part content : List Sector) → List Sector
+content_with_part at part content = take at content ++ part ++ drop (at + length part) content
 
 -- of `count` sectors from `first` on those that lie below the limit
-abbrev pub below : (limit first count : ℕ) → ℕ
-below limit first count = min (limit - first) count
+abbrev pub count_below : (limit first count : ℕ) → ℕ
+count_below limit first count = min (limit - first) count
 
 -- each sector of the content, which begins at sector `first`, is the one of `rest`
 abbrev pub IsRest : (rest : ℕ → Sector) (first : ℕ) (content : List Sector) → Type 0
@@ -19,7 +19,7 @@ IsRest rest first content = (s : ℕ) (v : Sector) → sector_in first content s
 
 -- what is read of the base, with zeros behind it, is the rest of so many sectors
 abbrev pub Backs : (rest : ℕ → Sector) (limit : ℕ) (base : List Sector) → Type 0
-Backs rest limit base = (first count : ℕ) (front : List Sector) → length front ≡ below limit first count → (0 < length front → IsHeld first front base)
+Backs rest limit base = (first count : ℕ) (front : List Sector) → length front ≡ count_below limit first count → (0 < length front → IsHeld first front base)
     → IsRest rest first (front ++ replicate (count - length front) zero_sector)
 
 -- What the store is given for a piece of block b, whose place begins at its sector `at`: the piece's sectors, and round them the rest where the whole block is written.

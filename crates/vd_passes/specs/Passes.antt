@@ -15,7 +15,7 @@ use Rattle.vd_passes.specs.declared.pass.Phase.{Phase}
 use Rattle.vd_passes.specs.declared.pass.Phase.TheVariants.{Idle, Asked as HasAsked, Held, Fetching, Filled, Issuing, Looking, Flushing, Ready}
 use Rattle.vd_passes.specs.declared.pass.Fault.{Fault}
 use Rattle.vd_passes.specs.declared.pass.Fault.TheVariants as fault
-use Rattle.vd_passes.specs.Laying.{below}
+use Rattle.vd_passes.specs.Laying.{count_below}
 use Rattle.vd_passes.specs.Standings.{Standing}
 
 -- the pass holds the region of its block
@@ -34,13 +34,13 @@ has_region Ready = false
 abbrev pub region_of : Pass → Option Region
 region_of p = if has_region p.phase then Some (record { first = p.block; last = p.block; mode = if p.write then Own else Shared }) else None
 
-abbrev pub call_of : ℕ → Pass → CallId
-call_of i p = record { pass = i; call = p.call }
+abbrev pub call_id : ℕ → Pass → CallId
+call_id i p = record { pass = i; call = p.call }
 
 -- the ticket covers sector `a` of the store
-abbrev pub Covers : Option Ticket → ℕ → Type 0
-Covers None a = ⊥
-Covers (Some t) a = (t.first ≤ a) × (a < t.first + t.count)
+abbrev pub TicketCovers : Option Ticket → ℕ → Type 0
+TicketCovers None a = ⊥
+TicketCovers (Some t) a = (t.first ≤ a) × (a < t.first + t.count)
 
 -- the pass is writing the piece in which the guest's sector s lies
 pub record IsWriting (p : Pass) (s : ℕ) : Type 0 where
@@ -51,7 +51,7 @@ pub record IsWriting (p : Pass) (s : ℕ) : Type 0 where
 -- the pass has a write in flight that covers sector `a` of the store
 pub record IsFilling (p : Pass) (a : ℕ) : Type 0 where
   pub phase : p.phase ≡ Issuing
-  pub covers : Covers p.ticket a
+  pub covers : TicketCovers p.ticket a
 
 abbrev pub ticket_of : Option Ticket → List Ticket
 ticket_of None = []
@@ -92,7 +92,7 @@ IsStored block fresh p t =
 pub record IsFetch (shape : Shape) (p : Pass) (t : Ticket) : Type 0 where
   pub kind : t.kind ≡ ReadKind
   pub first : t.first ≡ shape.block * p.block
-  pub count : t.count ≡ below shape.limit (shape.block * p.block) shape.block
+  pub count : t.count ≡ count_below shape.limit (shape.block * p.block) shape.block
 
 -- the piece is read from its place in the store
 pub record IsStoreLook (shape : Shape) (fresh : List Bool) (p : Pass) (t : Ticket) : Type 0 where
@@ -109,7 +109,7 @@ pub record IsBaseLook (shape : Shape) (fresh : List Bool) (p : Pass) (t : Ticket
   pub none : p.ticket ≡ None
   pub kind : t.kind ≡ ReadKind
   pub first : t.first ≡ p.first + p.done
-  pub count : t.count ≡ below shape.limit (p.first + p.done) p.piece
+  pub count : t.count ≡ count_below shape.limit (p.first + p.done) p.piece
   pub not_fresh : slice_get fresh p.block ≡ Some false
 
 -- a call of a flush: one that makes durable what is done, or a write below the storage
@@ -121,16 +121,16 @@ pub record HasNone (p : Pass) : Type 0 where
   pub fetch : p.fetch ≡ None
 
 -- What a pass has in flight. The block of a piece that is read from the base, or laid into the base's content, isn't fresh.
-abbrev pub HasTicket : Phase → Shape → List Bool → Pass → Type 0
-HasTicket Idle shape fresh p = HasNone p
-HasTicket HasAsked shape fresh p = HasNone p
-HasTicket Held shape fresh p = HasNone p
-HasTicket Fetching shape fresh p = (t : Ticket) × (p.fetch ≡ Some t) × (p.ticket ≡ None) × IsFetch shape p t × (slice_get fresh p.block ≡ Some false)
-HasTicket Filled shape fresh p = HasNone p × (slice_get fresh p.block ≡ Some false)
-HasTicket Issuing shape fresh p = (t : Ticket) × (p.ticket ≡ Some t) × (p.fetch ≡ None) × (t.kind ≡ WriteKind) × IsStored shape.block fresh p t
-HasTicket Looking shape fresh p = (t : Ticket) × (IsStoreLook shape fresh p t ⊎ IsBaseLook shape fresh p t)
-HasTicket Flushing shape fresh p = (p.fetch ≡ None) × ((t : Ticket) → p.ticket ≡ Some t → IsMeta shape t)
-HasTicket Ready shape fresh p = HasNone p
+abbrev pub HasInFlight : Phase → Shape → List Bool → Pass → Type 0
+HasInFlight Idle shape fresh p = HasNone p
+HasInFlight HasAsked shape fresh p = HasNone p
+HasInFlight Held shape fresh p = HasNone p
+HasInFlight Fetching shape fresh p = (t : Ticket) × (p.fetch ≡ Some t) × (p.ticket ≡ None) × IsFetch shape p t × (slice_get fresh p.block ≡ Some false)
+HasInFlight Filled shape fresh p = HasNone p × (slice_get fresh p.block ≡ Some false)
+HasInFlight Issuing shape fresh p = (t : Ticket) × (p.ticket ≡ Some t) × (p.fetch ≡ None) × (t.kind ≡ WriteKind) × IsStored shape.block fresh p t
+HasInFlight Looking shape fresh p = (t : Ticket) × (IsStoreLook shape fresh p t ⊎ IsBaseLook shape fresh p t)
+HasInFlight Flushing shape fresh p = (p.fetch ≡ None) × ((t : Ticket) → p.ticket ≡ Some t → IsMeta shape t)
+HasInFlight Ready shape fresh p = HasNone p
 
 -- how many sectors the open write has
 abbrev pub pending_of : Phase → ℕ → ℕ
@@ -168,7 +168,7 @@ abbrev pub AllPlaced : Shape → (ℕ → Option ℕ) → Pass → Type 0
 AllPlaced shape places p = (b : ℕ) → shape.block * b < p.first + p.count → p.first < shape.block * b + shape.block → (x : ℕ) × (places b ≡ Some x)
 
 -- The pass stands where the history says.
-pub record StandsAs (shape : Shape) (fresh : List Bool) (places : ℕ → Option ℕ) (t : Standing) (p : Pass) : Type 0 where
+pub record IsAsHistorySays (shape : Shape) (fresh : List Bool) (places : ℕ → Option ℕ) (t : Standing) (p : Pass) : Type 0 where
   pub call : t.call ≡ p.call
   pub idle : p.phase ≡ Idle → 0 < p.call → t.progress.answered ≡ true
   pub busy : p.phase ≢ Idle → (r : Asked) × (t.progress.asked ≡ Some r) × IsRequestOf p r
@@ -188,7 +188,7 @@ pub record StandsAs (shape : Shape) (fresh : List Bool) (places : ℕ → Option
   pub placed : p.phase ≢ Idle → p.write ≡ true → AllPlaced shape places p
   pub piece : has_region p.phase ≡ true → IsPiece shape p
   pub at : has_region p.phase ≡ true → (p.write ≡ true) ⊎ (slice_get fresh p.block ≡ Some true) → places p.block ≡ Some p.at
-  pub ticket : HasTicket p.phase shape fresh p
+  pub ticket : HasInFlight p.phase shape fresh p
   pub buffer : length p.buffer ≡ shape.block
 
 -- a pass that has asked nothing yet
@@ -204,8 +204,8 @@ pub record IsNew (buffer : List Sector) (p : Pass) : Type 0 where
 -- The pass after a step.
 
 -- it has used this much of its room in the history
-abbrev pub spent : (events sectors : ℕ) → Pass → Pass
-spent events sectors p = record p { events = p.events - events; sectors = p.sectors - sectors }
+abbrev pub after_spending : (events sectors : ℕ) → Pass → Pass
+after_spending events sectors p = record p { events = p.events - events; sectors = p.sectors - sectors }
 
 -- it has asked a request, for which this room was left to it
 abbrev pub after_ask : Pass → Asked → (events sectors : ℕ) → Pass
@@ -224,7 +224,7 @@ abbrev pub after_filled : Pass → (buffer : List Sector) → Pass
 after_filled p buffer = record p { phase = Filled; fetch = None; buffer = buffer }
 
 abbrev pub after_issue : Pass → Ticket → (buffer : List Sector) → Pass
-after_issue p ticket buffer = spent 1 p.piece (record p { phase = Issuing; ticket = Some ticket; buffer = buffer })
+after_issue p ticket buffer = after_spending 1 p.piece (record p { phase = Issuing; ticket = Some ticket; buffer = buffer })
 
 abbrev pub after_look : Pass → Ticket → Pass
 after_look p ticket = record p { phase = Looking; ticket = Some ticket }

@@ -21,8 +21,8 @@ pub record ArePlaces (block low sectors : ℕ) (places : ℕ → Option ℕ) : T
   pub inside : (b x : ℕ) → places b ≡ Some x → (low ≤ x) × (x + block ≤ sectors)
 
 -- the blocks that have a place keep it
-abbrev pub Extends : (places places' : ℕ → Option ℕ) → Type 0
-Extends places places' = (b x : ℕ) → places b ≡ Some x → places' b ≡ Some x
+abbrev pub KeepsPlaces : (places places' : ℕ → Option ℕ) → Type 0
+KeepsPlaces places places' = (b x : ℕ) → places b ≡ Some x → places' b ≡ Some x
 
 -- A shape whose numbers are within their limits, over devices of so many sectors.
 pub record IsShape (shape : Shape) (sectors base_sectors : ℕ) : Type 0 where

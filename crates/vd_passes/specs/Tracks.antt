@@ -20,33 +20,33 @@ unfoldable pub track : List Sector → List Entry → ℕ → Track
 track start log s = record { contents = could start log s; writes = writes log s }
 
 -- the open writes without those of one call
-abbrev pub closed : CallId → List (CallId × Sector) → List (CallId × Sector)
-closed id [] = []
-closed id (w ∷ ws) = if same_call w.0 id then closed id ws else (w ∷ closed id ws)
+abbrev pub writes_without : CallId → List (CallId × Sector) → List (CallId × Sector)
+writes_without id [] = []
+writes_without id (w ∷ ws) = if same_call w.0 id then writes_without id ws else (w ∷ writes_without id ws)
 
 -- the contents after a call's open write is done
-abbrev pub settled : CallId → List (CallId × Sector) → List Sector → List Sector
-settled id [] contents = contents
-settled id (w ∷ ws) contents = if same_call w.0 id then (w.1 ∷ []) else settled id ws contents
+abbrev pub contents_with_done : CallId → List (CallId × Sector) → List Sector → List Sector
+contents_with_done id [] contents = contents
+contents_with_done id (w ∷ ws) contents = if same_call w.0 id then (w.1 ∷ []) else contents_with_done id ws contents
 
 -- a content that was seen is the only one, unless another call's write is open
-abbrev pub seen : Sector → List (CallId × Sector) → List Sector → List Sector
-seen v [] contents = v ∷ []
-seen v (w ∷ ws) contents = contents
+abbrev pub contents_with_seen : Sector → List (CallId × Sector) → List Sector → List Sector
+contents_with_seen v [] contents = v ∷ []
+contents_with_seen v (w ∷ ws) contents = contents
 
-abbrev pub begun : CallId → Option Sector → Track → Track
-begun id None t = t
-begun id (Some c) t = record { contents = t.contents ++ c ∷ []; writes = (id, c) ∷ t.writes }
+abbrev pub track_after_issue : CallId → Option Sector → Track → Track
+track_after_issue id None t = t
+track_after_issue id (Some c) t = record { contents = t.contents ++ c ∷ []; writes = (id, c) ∷ t.writes }
 
-abbrev pub looked : CallId → Option Sector → Track → Track
-looked id None t = t
-looked id (Some v) t = record { contents = seen v (closed id t.writes) t.contents; writes = t.writes }
+abbrev pub track_after_seen : CallId → Option Sector → Track → Track
+track_after_seen id None t = t
+track_after_seen id (Some v) t = record { contents = contents_with_seen v (writes_without id t.writes) t.contents; writes = t.writes }
 
 -- how an entry changes what is known of sector s
 unfoldable pub follow : ℕ → Track → Entry → Track
 follow s t (Ask id request) = t
-follow s t (Issue id first content) = begun id (sector_in first content s) t
-follow s t (Done id) = record { contents = settled id t.writes t.contents; writes = closed id t.writes }
-follow s t (Broke id) = record { contents = t.contents; writes = closed id t.writes }
-follow s t (Seen id first content) = looked id (sector_in first content s) t
+follow s t (Issue id first content) = track_after_issue id (sector_in first content s) t
+follow s t (Done id) = record { contents = contents_with_done id t.writes t.contents; writes = writes_without id t.writes }
+follow s t (Broke id) = record { contents = t.contents; writes = writes_without id t.writes }
+follow s t (Seen id first content) = track_after_seen id (sector_in first content s) t
 follow s t (Reply id answer) = t

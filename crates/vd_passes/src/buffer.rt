@@ -1,15 +1,16 @@
 //! The buffer of a pass: room for the sectors of one block.
 
 ghost use Rattle.std.specs.Prelude.{◌≡◌, ◌+◌, ◌-◌, ◌≤◌, IfOk, length, replicate};
-ghost use Rattle.vd_reading.specs.Background.{zero_sector};
 ghost use Rattle.vd_device.specs.declared.ticket.Kind.TheVariants.{Read};
 ghost use Rattle.vd_device.specs.Tickets.{IsInFlight};
-ghost use Rattle.vd_passes.specs.Laying.{laid};
+ghost use Rattle.vd_passes.specs.Laying.{content_with_part};
 ghost use Rattle.vd_passes.specs.Buffers.{BufferSettled};
+ghost use Rattle.vd_format.specs.Background.{zero_sector};
 
 use std::alloc::{AllocError, Global};
 use std::marker::Model;
 use vd_device::{Base, Settled, Ticket};
+use vd_format::zeros::{clear, zero};
 use vd_law::entry::Sector;
 
 /// The sectors of a block, which clauses see as a list.
@@ -25,19 +26,6 @@ impl Model for Buffer {
     ghost Value = { List Sector };
 
     ghost view = { λ buffer. buffer.sectors.items };
-}
-
-fn zero() -> Sector
-    ensures { result ≡ zero_sector }
-{
-    Sector::filled(0)
-}
-
-/// Makes all sectors zeros.
-pub fn clear(sectors: &mut [Sector])
-    ensures { sectors.new ≡ replicate (length sectors.old) zero_sector }
-{
-    sectors.fill(zero());
 }
 
 impl Buffer {
@@ -64,14 +52,14 @@ impl Buffer {
     /// Puts these sectors in the place of those from `at` on.
     pub fn lay(&mut self, at: usize, part: &[Sector])
         requires { at + length part.now ≤ length self.old }
-        ensures { self.new ≡ laid at part.now self.old }
+        ensures { self.new ≡ content_with_part at part.now self.old }
     {
         self.sectors[at..at + part.len()].copy_from_slice(part);
     }
 
     /// Settles a base read. What was read comes to stand at the front, with zeros behind it.
     pub fn settle<B: Base>(&mut self, base: &mut B, ticket: Ticket) -> Settled
-        requires mine { IsInFlight (B.flies base.old) ticket }
+        requires mine { IsInFlight (B.flight base.old) ticket }
         requires kind { ticket.kind ≡ Read }
         requires fits { ticket.count ≤ length self.old }
         ensures { BufferSettled B.Base result ticket self.old self.new base.old base.new }

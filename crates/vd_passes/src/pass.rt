@@ -90,7 +90,7 @@ fn take(slot: &mut Option<Ticket>) -> Ticket
 impl Pass {
     ghost use Rattle.vd_law.specs.Entries.{asked_of};
     ghost use Rattle.vd_passes.specs.declared.pass.Phase.TheVariants.{Idle};
-    ghost use Rattle.vd_passes.specs.Passes.{spent, after_ask, after_enter, after_fetch, after_filled, after_issue, after_look, after_base_look, after_piece, after_fault, after_meta, after_flush, after_reply, answer_of, IsNew};
+    ghost use Rattle.vd_passes.specs.Passes.{after_spending, after_ask, after_enter, after_fetch, after_filled, after_issue, after_look, after_base_look, after_piece, after_fault, after_meta, after_flush, after_reply, answer_of, IsNew};
 
     /// A pass that has asked nothing yet, with the buffer of a block.
     pub fn new(buffer: Buffer) -> Pass
@@ -277,7 +277,7 @@ impl Pass {
 
     /// Uses so much of its room in the history.
     pub fn spend(&mut self, events: u64, sectors: u64)
-        ensures { self.new ≡ spent events sectors self.old }
+        ensures { self.new ≡ after_spending events sectors self.old }
     {
         self.events = self.events.saturating_sub(events);
         self.sectors = self.sectors.saturating_sub(sectors);

@@ -6,7 +6,7 @@ use Rattle.std.proofs.Math.Bool.{and_assoc}
 use Rattle.std.proofs.lemmas.List.{drop-drop, drop_all}
 use Rattle.vd_law.specs.declared.entry.Sector.{Sector}
 use Rattle.vd_format.specs.Numbers.{are_zeros}
-use Rattle.vd_reading.specs.Quiet.{sectors_from}
+use Rattle.vd_device.specs.Quiet.{sectors_from}
 use Rattle.vd_replay.specs.Fresh.{are_empty}
 use Rattle.vd_replay.specs.Looking.{IsEmptyPiece}
 

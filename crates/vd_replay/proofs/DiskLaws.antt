@@ -1,8 +1,8 @@
 -- The guest's disk, run by run.
 use Rattle.std.proofs.Common.{ℕ, ◌≡◌, ◌+◌, ◌-◌, ◌/◌, ◌<◌, ◌≤◌, inl, inr, Bool, true, false, List, length, replicate, take, drop, Option, Some, refl, ap, sym, ◌∙◌, subst, arith}
-use Rattle.std.specs.Prelude.{slice_get, nat_lt, if◌then◌else◌}
+use Rattle.std.specs.Prelude.{slice_get, if◌then◌else◌}
 use Rattle.std.proofs.lemmas.Bool.{cases_lt}
-use Rattle.std.proofs.lemmas.Option.{slice_get_within, unwrap_or-slice_get, get_or_from_slice_get}
+use Rattle.std.proofs.lemmas.Option.{slice_get_within, get_or_from_slice_get}
 use Rattle.std.proofs.lemmas.List.{length-append, length-take, length-drop}
 use Rattle.std.proofs.lemmas.Slice.{take-put_mid, take-put_mid_below}
 use borrow.Rule.Slice.PartMut.{put_mid}
@@ -12,46 +12,44 @@ use Rattle.vd_format.specs.Headers.{IsValid}
 use Rattle.vd_format.specs.Layouts.{chunks_of, need_of}
 use Rattle.vd_format.specs.Entries.{empty_entry}
 use Rattle.vd_table.proofs.Links.{none_some}
-use Rattle.vd_reading.specs.Background.{background, background_run, count_in_base, zero_sector as read_zero}
-use Rattle.vd_reading.proofs.BackgroundLaws.{slice_get_run}
-use Rattle.vd_image.specs.Image.{Header, DiskHas, Maps, IsLocalBy, background as image_background}
+use Rattle.vd_image.specs.Image.{Header, DiskHas, Maps, IsLocalBy}
 use Rattle.vd_image.specs.Layouts.{layout_of}
 use Rattle.vd_image.specs.Decoders.{Entry, mapping_in, format_of}
-use Rattle.vd_image.specs.CrashImages.{base_at}
-use Rattle.vd_image.specs.Made.{zero_sector}
 use Rattle.vd_image.proofs.Layouts.{parts_inside}
 use Rattle.vd_replay.specs.Images.{image_of}
-use Rattle.vd_replay.specs.States.{IsSized, IsState, IsOldState, Says}
-use Rattle.vd_replay.specs.Disks.{IsAway, IsSource, further, IsInside, IsFrom, ReadRun, AreShown, IsDisk, ForDevice, ForSource, HasLocal, HasOfBase, IsWanted, NeedsBase, Spares}
+use Rattle.vd_replay.specs.States.{IsSized, IsState, IsOldState, StateSays}
+use Rattle.vd_replay.specs.Disks.{IsNotLocal, IsSource, source_further_on, FitsInTicket, IsFrom, ReadRun, AreShown, AreDiskSectors, ForDevice, ForSource, HasLocal, HasOfBase, HasSectorOfRange, NeedsBase, Spares}
 use Rattle.vd_replay.specs.declared.state.State.{State}
 use Rattle.vd_replay.specs.declared.disk.DiskFault.{DiskFault}
 use Rattle.vd_replay.specs.declared.disk.DiskFault.TheVariants as fault
 use Rattle.vd_replay.specs.declared.disk.Source.{Source}
 use Rattle.vd_replay.specs.declared.disk.Source.TheVariants.{Local, Background, Zeros}
-use Rattle.vd_replay.proofs.ListLaws.{get_copies, get_right, get_take}
+use Rattle.vd_replay.proofs.ListLaws.{get_copies, get_take}
 use Rattle.vd_replay.proofs.StateLaws.{storage_is, storage_from}
+use Rattle.vd_format.specs.Background.{zero_sector, base_at, background, background_of, background_run, count_in_base}
+use Rattle.vd_law.proofs.Lists.{slice_get_run, slice_get_back}
 
 -- ---- runs
 
-pub further_none : (source : Source) → further source 0 ≡ source
+pub further_none : (source : Source) → source_further_on source 0 ≡ source
 further_none (Local at) = ap Local (omega arith)
 further_none Background = refl
 further_none Zeros = refl
 
-pub first_of_run : (s : State) (first : ℕ) (source : Source) → IsSource s first source → (i : ℕ) → i < 1 → IsSource s (first + i) (further source i)
+pub first_of_run : (s : State) (first : ℕ) (source : Source) → IsSource s first source → (i : ℕ) → i < 1 → IsSource s (first + i) (source_further_on source i)
 first_of_run s first source is i less =
     let none : 0 ≡ i = omega (arith, less) in
     let here : first ≡ first + 0 = omega arith in
-    subst (λ (k : ℕ). IsSource s (first + k) (further source k)) none (subst (λ (x : Source). IsSource s (first + 0) x) (sym (further_none source)) (subst (λ (k : ℕ). IsSource s k source) here is))
+    subst (λ (k : ℕ). IsSource s (first + k) (source_further_on source k)) none (subst (λ (x : Source). IsSource s (first + 0) x) (sym (further_none source)) (subst (λ (k : ℕ). IsSource s k source) here is))
 
-pub next_of_run : (s : State) (first n : ℕ) (source next : Source) → ((i : ℕ) → i < n → IsSource s (first + i) (further source i)) → next ≡ further source n → IsSource s (first + n) next → (i : ℕ) → i < n + 1 → IsSource s (first + i) (further source i)
+pub next_of_run : (s : State) (first n : ℕ) (source next : Source) → ((i : ℕ) → i < n → IsSource s (first + i) (source_further_on source i)) → next ≡ source_further_on source n → IsSource s (first + n) next → (i : ℕ) → i < n + 1 → IsSource s (first + i) (source_further_on source i)
 next_of_run s first n source next run same is i less = elim (cases_lt i n) [
   | inl below ↦ run i below
-  | inr above ↦ (let e : n ≡ i = omega arith in subst (λ (k : ℕ). IsSource s (first + k) (further source k)) e (subst (IsSource s (first + n)) same is))
+  | inr above ↦ (let e : n ≡ i = omega arith in subst (λ (k : ℕ). IsSource s (first + k) (source_further_on source k)) e (subst (IsSource s (first + n)) same is))
 ]
 
 -- a run lies in the store
-pub run_inside : (s : State) (first n sectors : ℕ) (source : Source) → 0 < n → n ≤ 2048 → IsValid s.header → need_of s.header ≤ sectors → ((i : ℕ) → i < n → IsSource s (first + i) (further source i)) → IsInside source n sectors
+pub run_inside : (s : State) (first n sectors : ℕ) (source : Source) → 0 < n → n ≤ 2048 → IsValid s.header → need_of s.header ≤ sectors → ((i : ℕ) → i < n → IsSource s (first + i) (source_further_on source i)) → FitsInTicket source n sectors
 run_inside s first n sectors (Local at) some most valid room run =
     let last = run (n - 1) (omega arith) in
     let p = last.1.0 in
@@ -75,7 +73,7 @@ fault_of_run Zeros (fault.Base ticket) p q is = absurd is
 
 -- the device that failed has the first sector of the run
 pub wanted_by_run : (P Q : ℕ → Type 0) (s : State) (now sectors first count n k : ℕ) (source : Source) (e : DiskFault) → now ≡ sectors → n < count → IsSource s (first + n) source → ForSource source P Q e
-    → NeedsBase (count_in_base now s.header.tracked (first + n) k) e → IsWanted (HasLocal s first count) (HasOfBase s sectors first count) e
+    → NeedsBase (count_in_base now s.header.tracked (first + n) k) e → HasSectorOfRange (HasLocal s first count) (HasOfBase s sectors first count) e
 wanted_by_run P Q s now sectors first count n k (Local at) (fault.Store ticket) same within is failed needs = record { place = n; at = at; within = within; source = is }
 wanted_by_run P Q s now sectors first count n k (Local at) (fault.Base ticket) same within is failed needs = absurd failed
 wanted_by_run P Q s now sectors first count n k Background (fault.Store ticket) same within is failed needs = absurd failed
@@ -105,10 +103,10 @@ pub read_background_run : (held content : List Sector) (tracked first n : ℕ) (
 unfolding background_run
 read_background_run held content tracked first n source out is read = subst (λ (x : Source). ReadRun held content tracked x first out) (sym is) (record { each = each })
   where
-    each : (i : ℕ) (v : Sector) → slice_get out i ≡ Some v → v ≡ background content tracked (first + i)
+    each : (i : ℕ) (v : Sector) → slice_get out i ≡ Some v → v ≡ background_of content tracked (first + i)
     each i v at =
-        let less : i < n = (let k = slice_get_within out i v at in let m = ap length read ∙ length-map-range_with_len (background content tracked) first n in omega arith) in
-        let there = slice_get_run (background content tracked) first n i less in
+        let less : i < n = (let k = slice_get_within out i v at in let m = ap length read ∙ length-map-range_with_len (background_of content tracked) first n in omega arith) in
+        let there = slice_get_run (background_of content tracked) first n i less in
         let here = ap (λ (xs : List Sector). slice_get xs i) (sym read) ∙ at in
         cc
 
@@ -122,7 +120,7 @@ none_shown held content s first out = record { each = λ i v less. absurd (omega
 -- one more run, put in its place
 pub more_shown : (held held' content content' : List Sector) (s : State) (first n count : ℕ) (out part out' : List Sector) (source : Source) → held' ≡ held → content' ≡ content
     → ((i : ℕ) → i < n → slice_get out' i ≡ slice_get out i) → ((i : ℕ) → i < count → slice_get out' (n + i) ≡ slice_get part i)
-    → ((i : ℕ) → i < count → IsSource s (first + n + i) (further source i)) → ReadRun held' content' s.header.tracked source (first + n) part → AreShown held content s first n out → AreShown held' content' s first (n + count) out'
+    → ((i : ℕ) → i < count → IsSource s (first + n + i) (source_further_on source i)) → ReadRun held' content' s.header.tracked source (first + n) part → AreShown held content s first n out → AreShown held' content' s first (n + count) out'
 more_shown held held' content content' s first n count out part out' source same also front middle run read before = record { each = each }
   where
     each : (i : ℕ) (v : Sector) → i < n + count → slice_get out' i ≡ Some v → (x : Source) × IsSource s (first + i) x × IsFrom held' content' s.header.tracked x (first + i) v
@@ -134,27 +132,19 @@ more_shown held held' content content' s first n count out part out' source same
           let there : n + (i - n) ≡ i = omega arith in
           let inside : i - n < count = omega arith in
           let here : slice_get part (i - n) ≡ Some v = sym (middle (i - n) inside) ∙ ap (slice_get out') there ∙ at in (
-            further source (i - n),
-            subst (λ (k : ℕ). IsSource s k (further source (i - n))) e (run (i - n) inside),
-            subst (λ (k : ℕ). IsFrom held' content' s.header.tracked (further source (i - n)) k v) e (read.each (i - n) v here),
+            source_further_on source (i - n),
+            subst (λ (k : ℕ). IsSource s k (source_further_on source (i - n))) e (run (i - n) inside),
+            subst (λ (k : ℕ). IsFrom held' content' s.header.tracked (source_further_on source (i - n)) k v) e (read.each (i - n) v here),
           ))
     ]
 
 -- ---- the disk
-
-pub zero_filled : (x : Sector) → x.bytes ≡ replicate 512 0 → x ≡ zero_sector
-zero_filled x e = let f : List ℕ → Sector = λ b. record { bytes = b } in ap f e
 
 pub part_length : (out : List Sector) (n count : ℕ) → n + count ≤ length out → length (take (n + count - n) (drop n out)) ≡ count
 part_length out n count inside =
     let a = length-take (n + count - n) (drop n out) in
     let b = length-drop n out in
     omega arith
-
--- what a base gives as the background is that of the image
-background_same : (content : List Sector) (tracked n : ℕ) → background content tracked n ≡ image_background (base_at zero_sector content) zero_sector tracked n
-unfolding read_zero
-background_same content tracked n = ap (λ (x : Sector). if nat_lt n tracked then x else zero_sector) (unwrap_or-slice_get content n zero_sector)
 
 same_entry : (e x : Entry) (o : Option Entry) → o ≡ Some e → o ≡ Some x → e ≡ x
 same_entry e x o is also = cc
@@ -178,18 +168,18 @@ disk_has held content s n v source sized is = by_source source
         let w = is.entries c within in
         subst (λ (x : Entry). Maps (format_of s.header) (layout_of s.header) (image_of held) s.header.generation c (mapping_in s.header c x)) (same_entry w.entry e (slice_get s.map c) w.stands at) w.maps
 
-    not_local : (e : Entry) → slice_get s.map c ≡ Some e → IsAway s n → (p : ℕ) → IsLocalBy (mapping_in s.header c e) b p → ⊥
+    not_local : (e : Entry) → slice_get s.map c ≡ Some e → IsNotLocal s n → (p : ℕ) → IsLocalBy (mapping_in s.header c e) b p → ⊥
     not_local e at (inl down) p local = absurd (let up = (is.fresh b false down).1 (e, at, local.1) in cc)
     not_local e at (inr none) p local = absurd (let some = (is.table c p).1 (e, at, storage_is e.storage p local.0) in none_some (sym none ∙ some))
 
-    away : (e : Entry) (zeros : Bool) → slice_get s.map c ≡ Some e → e.zeros ≡ zeros → IsAway s n → v ≡ (if zeros then zero_sector else image_background (base_at zero_sector content) zero_sector s.header.tracked n)
+    away : (e : Entry) (zeros : Bool) → slice_get s.map c ≡ Some e → e.zeros ≡ zeros → IsNotLocal s n → v ≡ (if zeros then zero_sector else background (base_at zero_sector content) zero_sector s.header.tracked n)
         → DiskHas (format_of s.header) (layout_of s.header) (base_at zero_sector content) zero_sector (image_of held) n v
     away e zeros at kind not v_is = record {
       header = s.header;
       reads = is.opens.reads;
       mapping = mapping_in s.header c e;
       maps = maps e at;
-      has = inr (not_local e at not, v_is ∙ ap (λ (z : Bool). if z then zero_sector else image_background (base_at zero_sector content) zero_sector s.header.tracked n) (sym kind));
+      has = inr (not_local e at not, v_is ∙ ap (λ (z : Bool). if z then zero_sector else background (base_at zero_sector content) zero_sector s.header.tracked n) (sym kind));
     }
 
     by_source : (source : Source) → IsSource s n source → IsFrom held content s.header.tracked source n v → DiskHas (format_of s.header) (layout_of s.header) (base_at zero_sector content) zero_sector (image_of held) n v
@@ -205,19 +195,19 @@ disk_has held content s n v source sized is = by_source source
           maps = maps mask.0 mask.1;
           has = inl (p, (storage_from mask.0.storage p (ap (λ (e : Entry). e.storage) (sym same) ∙ store.2), mask.2), sym (ap (image_of held) (sym where_is.1.3) ∙ get_or_from_slice_get held at v zero_sector from));
         }
-    by_source Background where_is from = away where_is.1.0 false where_is.1.1 where_is.1.2 where_is.0 (from ∙ background_same content s.header.tracked n)
+    by_source Background where_is from = away where_is.1.0 false where_is.1.1 where_is.1.2 where_is.0 from
     by_source Zeros where_is from = away where_is.1.0 true where_is.1.1 where_is.1.2 where_is.0 from
 
-old_has : (held content : List Sector) (s : State) (n : ℕ) (v : Sector) (source : Source) → IsOldState held s.header s → IsSource s n source → IsFrom held content s.header.tracked source n v → v ≡ image_background (base_at zero_sector content) zero_sector s.header.tracked n
+old_has : (held content : List Sector) (s : State) (n : ℕ) (v : Sector) (source : Source) → IsOldState held s.header s → IsSource s n source → IsFrom held content s.header.tracked source n v → v ≡ background (base_at zero_sector content) zero_sector s.header.tracked n
 old_has held content s n v (Local at) is where_is from = absurd (is.table (n / s.header.block / s.header.chunk) where_is.1.0 where_is.1.1)
-old_has held content s n v Background is where_is from = from ∙ background_same content s.header.tracked n
+old_has held content s n v Background is where_is from = from
 old_has held content s n v Zeros is where_is from =
     let e = where_is.1.0 in
     let same : empty_entry ≡ e = get_copies (chunks_of s.header) empty_entry e (n / s.header.block / s.header.chunk) (ap (λ (es : List Entry). slice_get es (n / s.header.block / s.header.chunk)) (sym is.map) ∙ where_is.1.1) in
     let k : false ≡ true = ap (λ (x : Entry). x.zeros) same ∙ where_is.1.2 in
     absurd cc
 
-pub disk_is : (held content : List Sector) (s : State) (first n : ℕ) (out : List Sector) → IsSized s → length out ≤ n → AreShown held content s first n out → Says held s → IsDisk held content s first out
+pub disk_is : (held content : List Sector) (s : State) (first n : ℕ) (out : List Sector) → IsSized s → length out ≤ n → AreShown held content s first n out → StateSays held s → AreDiskSectors held content s first out
 disk_is held content s first n out sized all shown says = record {
   current = λ two i v at. (let k = shown.each i v (let w = slice_get_within out i v at in omega (arith, w, all)) at in disk_has held content s (first + i) v k.0 sized (says.current two) k.1 k.2);
   old = λ one i v at. (let k = shown.each i v (let w = slice_get_within out i v at in omega (arith, w, all)) at in old_has held content s (first + i) v k.0 (says.old one) k.1 k.2);
@@ -233,7 +223,7 @@ pub part_middle : (out part : List Sector) (n k count i : ℕ) → n ≤ length 
 part_middle out part n k count i inside size less =
     let front : length (take n out) ≡ n = length-take n out ∙ omega arith in
     sym (get_take (n + count) (put_mid n k out part) (n + i) (omega arith)) ∙ ap (λ (xs : List Sector). slice_get xs (n + i)) (take-put_mid n k out part (n + count) (omega arith) inside)
-    ∙ get_right (take n out) part (n + i) (omega arith) ∙ ap (slice_get part) (omega arith)
+    ∙ slice_get_back (take n out) part (n + i) (omega arith) ∙ ap (slice_get part) (omega arith)
 
 pub part_size : (out part : List Sector) (n count : ℕ) → n + count ≤ length out → length part ≡ count → length (put_mid n (n + count - n) out part) ≡ length out
 part_size out part n count fits size = simp (length-append, length-take, length-drop) (omega (arith, fits, size))

@@ -21,9 +21,9 @@ use Rattle.vd_replay.specs.Images.{image_of}
 use Rattle.vd_replay.specs.Pages.{area_at, Judged, AreEntries}
 use Rattle.vd_replay.specs.Journal.{Replayed}
 use Rattle.vd_replay.specs.Finding.{Found}
-use Rattle.vd_replay.specs.Filling.{AreApplied, IsSettled, AreDouble}
+use Rattle.vd_replay.specs.Filling.{AreApplied, AgreesWithEntries, AreDouble}
 use Rattle.vd_replay.specs.Fresh.{is_fresh}
-use Rattle.vd_replay.specs.States.{IsSized, Says}
+use Rattle.vd_replay.specs.States.{IsSized, StateSays}
 use Rattle.vd_replay.specs.Refusals.{IsValueOf, Unfilled}
 use Rattle.vd_replay.proofs.StateLaws.{bad_entry, bad_record, double_chunk, state_is, old_state_is, no_twins}
 
@@ -52,8 +52,8 @@ bad_record_read h before held shape from slots_at pages map map' read all r slot
 
 -- ---- version 2
 
-pub current_says : (T : Type 0) (r : Result ⊤ OpenError) (held : List Sector) (s : State) (h : Header) (pages map : List Entry) (next : ℕ) → s.header ≡ h → s.pages ≡ pages → s.map ≡ map → OnOk r (IsSettled s next) → IsSized s → h.version ≡ 2
-    → (T → AreApplied h held pages map next) → AreEntries (shape_of h) (chunks_of h) map → OnOk r (T → Found held s.header → Says held s)
+pub current_says : (T : Type 0) (r : Result ⊤ OpenError) (held : List Sector) (s : State) (h : Header) (pages map : List Entry) (next : ℕ) → s.header ≡ h → s.pages ≡ pages → s.map ≡ map → OnOk r (AgreesWithEntries s next) → IsSized s → h.version ≡ 2
+    → (T → AreApplied h held pages map next) → AreEntries (shape_of h) (chunks_of h) map → OnOk r (T → Found held s.header → StateSays held s)
 current_says T (Err e) held s h pages map next header pages_is map_is settled sized version applied grammar = tt
 current_says T (Ok done) held s h pages map next header pages_is map_is settled sized version applied grammar = λ told found. record {
   current = λ two.
@@ -85,8 +85,8 @@ current_wrong T (Err error.NoMemory) held s h pages map next header map_is twins
 
 -- ---- version 1
 
-pub old_says : (T : Type 0) (r : Result ⊤ OpenError) (held : List Sector) (s : State) (h : Header) (n : ℕ) (b : Bool) → s.header ≡ h → n ≡ chunks_of h → s.pages ≡ replicate n empty_entry → s.map ≡ replicate n empty_entry → OnOk r (IsSettled s 0) → IsSized s
-    → h.version ≡ 1 → b ≡ true → (T → b ≡ is_fresh h held) → OnOk r (T → Found held s.header → Says held s)
+pub old_says : (T : Type 0) (r : Result ⊤ OpenError) (held : List Sector) (s : State) (h : Header) (n : ℕ) (b : Bool) → s.header ≡ h → n ≡ chunks_of h → s.pages ≡ replicate n empty_entry → s.map ≡ replicate n empty_entry → OnOk r (AgreesWithEntries s 0) → IsSized s
+    → h.version ≡ 1 → b ≡ true → (T → b ≡ is_fresh h held) → OnOk r (T → Found held s.header → StateSays held s)
 old_says T (Err e) held s h n b header chunks pages map settled sized version is_true new = tt
 old_says T (Ok done) held s h n b header chunks pages map settled sized version is_true new = λ told found. record {
   current = λ two. (let k : s.header.version ≡ 1 = ap (λ (g : Header). g.version) header ∙ version in absurd (omega arith));
@@ -110,13 +110,13 @@ old_fine T (Err error.NoMemory) held s n map twins = absurd twins
 
 -- ---- whether it is void
 
-pub says_anyway : (held : List Sector) (s : State) (b : Bool) → Says held s → Says held (record s { void = b })
+pub says_anyway : (held : List Sector) (s : State) (b : Bool) → StateSays held s → StateSays held (record s { void = b })
 says_anyway held s b says = record {
   current = λ two. (let w = says.current two in record { opens = w.opens; header_is = w.header_is; entries = w.entries; table = w.table; fresh = w.fresh; more = w.more; next = w.next; none_later = w.none_later });
   old = λ one. (let w = says.old one in record { reads = w.reads; room = w.room; is_fresh = w.is_fresh; header_is = w.header_is; map = w.map; table = w.table; fresh = w.fresh; more = w.more; next = w.next });
 }
 
-pub says_void : (T : Type 0) (r : Result ⊤ OpenError) (held : List Sector) (s : State) (b : Bool) → OnOk r (T → Found held s.header → Says held s) → OnOk r (T → Found held s.header → Says held (record s { void = b }))
+pub says_void : (T : Type 0) (r : Result ⊤ OpenError) (held : List Sector) (s : State) (b : Bool) → OnOk r (T → Found held s.header → StateSays held s) → OnOk r (T → Found held s.header → StateSays held (record s { void = b }))
 says_void T (Ok done) held s b says = λ told found. says_anyway held s b (says told found)
 says_void T (Err e) held s b says = tt
 
@@ -177,6 +177,6 @@ sized_again s h b z valid none =
 pub found_again : (held held' : List Sector) (h g : Header) → held' ≡ held → g ≡ h → Found held h → Found held' g
 found_again held held' h g same also found = subst (λ (x : Header). Found held' x) (sym also) (subst (λ (xs : List Sector). Found xs h) (sym same) found)
 
-pub says_found : (T : Type 0) (r : Result ⊤ OpenError) (held : List Sector) (s : State) → OnOk r (T → Found held s.header → Says held s) → (T → Found held s.header) → OnOk r (T → Says held s)
+pub says_found : (T : Type 0) (r : Result ⊤ OpenError) (held : List Sector) (s : State) → OnOk r (T → Found held s.header → StateSays held s) → (T → Found held s.header) → OnOk r (T → StateSays held s)
 says_found T (Ok done) held s says found = λ told. says told (found told)
 says_found T (Err e) held s says found = tt

@@ -5,7 +5,7 @@ use Rattle.vd_law.specs.declared.entry.Sector.{Sector}
 use Rattle.vd_format.specs.declared.header.Header.{Header}
 use Rattle.vd_format.specs.declared.header.HeaderError.{HeaderError}
 use Rattle.vd_format.specs.Headers.{IsValid, header_of}
-use Rattle.vd_reading.specs.Quiet.{sectors_from}
+use Rattle.vd_device.specs.Quiet.{sectors_from}
 use Rattle.vd_image.specs.Openings.{RefusesOpening, TooSmall, No_sectors, Header_bad, Store_small, need_of}
 use Rattle.vd_replay.specs.Images.{image_of}
 use Rattle.vd_replay.specs.Finding.{Found, Agrees, IsWrong, NotFound, ForStore}

@@ -14,7 +14,7 @@ use Rattle.vd_image.specs.Decoders.{Entry, Said, IsEntry, has_kind, record_of, s
 use Rattle.vd_image.proofs.Decoders.{entry_is_mapping}
 use Rattle.vd_image.proofs.Records.{facts_fit, read_record_is_facts}
 use Rattle.vd_replay.specs.Images.{image_of}
-use Rattle.vd_replay.specs.Pages.{area_at, entry_in, IsGood}
+use Rattle.vd_replay.specs.Pages.{area_at, chunk_entry, IsEntryInGrammar}
 
 both : (x y : Bool) → (x && y) ≡ true → (x ≡ true) × (y ≡ true)
 both true true h = (refl, refl)
@@ -32,26 +32,26 @@ slots_of held h = area_at held (slots_start h)
 
 -- the mapping of an entry that has a kind
 pub mapping_read : (h : Header) (held : List Sector) (c : ℕ) → has_kind (map_of held h (c / 32)).bytes (16 * (c % 32)) ≡ true
-    → (format_of h).mapping_of (image_of held ((layout_of h).map_at c)) c ≡ Some (mapping_in h c (entry_in (map_of held h) c))
-mapping_read h held c kind = ap (λ (b : Bool). if b then Some (mapping_in h c (entry_in (map_of held h) c)) else None) kind
+    → (format_of h).mapping_of (image_of held ((layout_of h).map_at c)) c ≡ Some (mapping_in h c (chunk_entry (map_of held h) c))
+mapping_read h held c kind = ap (λ (b : Bool). if b then Some (mapping_in h c (chunk_entry (map_of held h) c)) else None) kind
 
-pub good_kind : (h : Header) (held : List Sector) (c : ℕ) → IsGood (shape_of h) (map_of held h) c → has_kind (map_of held h (c / 32)).bytes (16 * (c % 32)) ≡ true
-good_kind h held c good = (both (is_entry (shape_of h) c (entry_in (map_of held h) c)) (has_kind (map_of held h (c / 32)).bytes (16 * (c % 32))) good).1
+pub good_kind : (h : Header) (held : List Sector) (c : ℕ) → IsEntryInGrammar (shape_of h) (map_of held h) c → has_kind (map_of held h (c / 32)).bytes (16 * (c % 32)) ≡ true
+good_kind h held c good = (both (is_entry (shape_of h) c (chunk_entry (map_of held h) c)) (has_kind (map_of held h (c / 32)).bytes (16 * (c % 32))) good).1
 
-pub good_entry : (h : Header) (held : List Sector) (c : ℕ) → IsGood (shape_of h) (map_of held h) c → IsEntry (shape_of h) c (entry_in (map_of held h) c)
-good_entry h held c good = entry_grammar (shape_of h) c (entry_in (map_of held h) c) (both (is_entry (shape_of h) c (entry_in (map_of held h) c)) (has_kind (map_of held h (c / 32)).bytes (16 * (c % 32))) good).0
+pub good_entry : (h : Header) (held : List Sector) (c : ℕ) → IsEntryInGrammar (shape_of h) (map_of held h) c → IsEntry (shape_of h) c (chunk_entry (map_of held h) c)
+good_entry h held c good = entry_grammar (shape_of h) c (chunk_entry (map_of held h) c) (both (is_entry (shape_of h) c (chunk_entry (map_of held h) c)) (has_kind (map_of held h (c / 32)).bytes (16 * (c % 32))) good).0
 
-pub good_mapping : (h : Header) (held : List Sector) (c : ℕ) → IsValid h → IsGood (shape_of h) (map_of held h) c → IsGoodMapping (format_of h) (layout_of h) (image_of held) c
+pub good_mapping : (h : Header) (held : List Sector) (c : ℕ) → IsValid h → IsEntryInGrammar (shape_of h) (map_of held h) c → IsGoodMapping (format_of h) (layout_of h) (image_of held) c
 good_mapping h held c valid good =
-    (mapping_in h c (entry_in (map_of held h) c), mapping_read h held c (good_kind h held c good), (entry_is_mapping h c (entry_in (map_of held h) c) valid).0 (good_entry h held c good))
+    (mapping_in h c (chunk_entry (map_of held h) c), mapping_read h held c (good_kind h held c good), (entry_is_mapping h c (chunk_entry (map_of held h) c) valid).0 (good_entry h held c good))
 
-pub mapping_good : (h : Header) (held : List Sector) (c : ℕ) → IsValid h → IsGoodMapping (format_of h) (layout_of h) (image_of held) c → IsGood (shape_of h) (map_of held h) c
+pub mapping_good : (h : Header) (held : List Sector) (c : ℕ) → IsValid h → IsGoodMapping (format_of h) (layout_of h) (image_of held) c → IsEntryInGrammar (shape_of h) (map_of held h) c
 mapping_good h held c valid (m, reads, is) = by_kind (has_kind (map_of held h (c / 32)).bytes (16 * (c % 32))) refl
   where
     e : Entry
-    e = entry_in (map_of held h) c
+    e = chunk_entry (map_of held h) c
 
-    by_kind : (b : Bool) → has_kind (map_of held h (c / 32)).bytes (16 * (c % 32)) ≡ b → IsGood (shape_of h) (map_of held h) c
+    by_kind : (b : Bool) → has_kind (map_of held h (c / 32)).bytes (16 * (c % 32)) ≡ b → IsEntryInGrammar (shape_of h) (map_of held h) c
     by_kind false none = absurd (let k : (format_of h).mapping_of (image_of held ((layout_of h).map_at c)) c ≡ None = ap (λ (b : Bool). if b then Some (mapping_in h c e) else None) none in cc)
     by_kind true some =
         let k = mapping_read h held c some in

@@ -1,3 +1,4 @@
+pub mod Sent
 pub mod AreaLaws
 pub mod SlotLaws
 pub mod PageLaws

@@ -2,16 +2,6 @@
 use Rattle.std.proofs.Common.{ℕ, zero, suc, ◌≡◌, ◌+◌, ◌-◌, ◌<◌, ◌≤◌, List, [], ◌∷◌, ◌++◌, length, take, drop, replicate, Some, refl, ap, sym, ◌∙◌, arith}
 use Rattle.std.specs.Prelude.{slice_get}
 
-pub get_left : {X : Type 0} (xs ys : List X) (i : ℕ) → i < length xs → slice_get (xs ++ ys) i ≡ slice_get xs i
-get_left [] ys i h = absurd (omega (arith, h))
-get_left (x ∷ xs) ys zero h = refl
-get_left (x ∷ xs) ys (suc i) h = get_left xs ys i (omega arith)
-
-pub get_right : {X : Type 0} (xs ys : List X) (i : ℕ) → length xs ≤ i → slice_get (xs ++ ys) i ≡ slice_get ys (i - length xs)
-get_right [] ys i h = ap (slice_get ys) (omega arith)
-get_right (x ∷ xs) ys zero h = absurd (omega arith)
-get_right (x ∷ xs) ys (suc i) h = get_right xs ys i (omega arith) ∙ ap (slice_get ys) (omega arith)
-
 pub get_take : {X : Type 0} (n : ℕ) (xs : List X) (i : ℕ) → i < n → slice_get (take n xs) i ≡ slice_get xs i
 get_take zero xs i h = absurd (omega (arith, h))
 get_take (suc n) [] i h = refl
@@ -28,11 +18,6 @@ pub get_copies : {X : Type 0} (n : ℕ) (x y : X) (i : ℕ) → slice_get (repli
 get_copies zero x y i h = absurd cc
 get_copies (suc n) x y zero h = cc
 get_copies (suc n) x y (suc i) h = get_copies n x y i h
-
-pub get_copy : {X : Type 0} (n : ℕ) (x : X) (i : ℕ) → i < n → slice_get (replicate n x) i ≡ Some x
-get_copy zero x i h = absurd (omega (arith, h))
-get_copy (suc n) x zero h = refl
-get_copy (suc n) x (suc i) h = get_copy n x i (omega arith)
 
 -- each place of a list has something
 pub get_some : {X : Type 0} (xs : List X) (i : ℕ) → i < length xs → (x : X) × (slice_get xs i ≡ Some x)

@@ -15,7 +15,7 @@ use Rattle.vd_image.specs.Image.{Header, Mapping, Fact, Record, Counts, IsLater,
 use Rattle.vd_image.specs.Layouts.{layout_of}
 use Rattle.vd_image.specs.Decoders.{Entry, Fact2, shape_of, mapping_in, fact_in, record_in, format_of}
 use Rattle.vd_replay.specs.Images.{image_of}
-use Rattle.vd_replay.specs.Pages.{entry_in, AreRead}
+use Rattle.vd_replay.specs.Pages.{chunk_entry, AreRead}
 use Rattle.vd_replay.specs.Journal.{facts_said, facts_to, put_facts, AreReplayed}
 use Rattle.vd_replay.proofs.JournalLaws.{put-append}
 use Rattle.vd_replay.proofs.ImageLaws.{map_of, slots_of, mapping_read, good_kind, Views, views}
@@ -178,7 +178,7 @@ maps_entry h held pages entries next c e valid within read replayed at =
       | inr w ↦ inr (
         (λ k j other counts names. (let x = counts_to h held k j other valid (replayed.good k counts.within) counts in w.0 k j x.0 counts.within x.1 (ap (λ (y : Fact). y.chunk) x.2 ∙ names))),
         within,
-        (let same : entry_in (map_of held h) c ≡ e = same_entry (entry_in (map_of held h) c) e (slice_get pages c) (read.entry c within) w.1 in
+        (let same : chunk_entry (map_of held h) c ≡ e = same_entry (chunk_entry (map_of held h) c) e (slice_get pages c) (read.entry c within) w.1 in
             mapping_read h held c (good_kind h held c (read.good c within)) ∙ ap (λ (y : Entry). Some (mapping_in h c y)) same),
       )
     ]

@@ -12,14 +12,14 @@ use Rattle.vd_format.specs.declared.map.Entry.{Entry}
 use Rattle.vd_format.specs.declared.map.Shape2.{Shape2}
 use Rattle.vd_format.specs.Entries.{IsEntry}
 use Rattle.vd_format.proofs.Bits.{below_from_bits}
-use Rattle.vd_reading.proofs.BackgroundLaws.{slice_get_run}
 use Rattle.vd_bits.specs.Masks.{bits_of}
 use Rattle.vd_bits.specs.Blocks.{Blocks, bits_in, with_mask}
 use Rattle.vd_bits.proofs.SetLaws.{set_same, set_other}
-use Rattle.vd_table.specs.Tables.{Given, Has, with_storage}
+use Rattle.vd_table.specs.Tables.{TableState, Has, with_storage}
 use Rattle.vd_table.proofs.Links.{same_some, cases_place}
 use Rattle.vd_replay.specs.Placing.{Places, IsTwin, IsPlaced, IsSpread, AreTwins}
-use Rattle.vd_replay.proofs.ListLaws.{get_left, get_right, get_take, get_drop, get_copies}
+use Rattle.vd_replay.proofs.ListLaws.{get_take, get_drop, get_copies}
+use Rattle.vd_law.proofs.Lists.{slice_get_run, slice_get_front, slice_get_back}
 
 same_entry : (e x : Entry) (o : Option Entry) → o ≡ Some e → o ≡ Some x → e ≡ x
 same_entry e x o is also = cc
@@ -37,16 +37,16 @@ none_placed entries chunks storage = record {
     none c p has = let k : None ≡ Some p = get_copies chunks None (Some p) c has in absurd cc
 
 -- a chunk that is not placed has no storage
-pub none_yet : (entries : List Entry) (n : ℕ) (table : Given) → n < length table.chunks → IsPlaced entries n table → slice_get table.chunks n ≡ Some None
+pub none_yet : (entries : List Entry) (n : ℕ) (table : TableState) → n < length table.chunks → IsPlaced entries n table → slice_get table.chunks n ≡ Some None
 none_yet entries n table within placed = elim (cases_place table.chunks n within) [ inl none ↦ none | inr some ↦ absurd (let k = (placed.given n some.0 some.1).0 in omega arith) ]
 
 -- the entry's storage is given to the next chunk
-pub placed_more : (entries : List Entry) (n : ℕ) (e : Entry) (table table' : Given) (fresh fresh' : Blocks) → n < length table.chunks → slice_get entries n ≡ Some e → IsPlaced entries n table → Places e n table fresh table' fresh' → IsPlaced entries (n + 1) table'
+pub placed_more : (entries : List Entry) (n : ℕ) (e : Entry) (table table' : TableState) (fresh fresh' : Blocks) → n < length table.chunks → slice_get entries n ≡ Some e → IsPlaced entries n table → Places e n table fresh table' fresh' → IsPlaced entries (n + 1) table'
 placed_more entries n e table table' fresh fresh' within at placed places = elim (cases_eq e.storage 0) [
   | inl none ↦ (let same : table' ≡ table = places.storage ∙ ap (λ (b : Bool). if b then table else with_storage table n (e.storage - 1)) (eq-eqb e.storage 0 none) in
-      subst (λ (t : Given). IsPlaced entries (n + 1) t) (sym same) (without none))
+      subst (λ (t : TableState). IsPlaced entries (n + 1) t) (sym same) (without none))
   | inr some ↦ (let same : table' ≡ with_storage table n (e.storage - 1) = places.storage ∙ ap (λ (b : Bool). if b then table else with_storage table n (e.storage - 1)) (ne_eqb e.storage 0 some) in
-      subst (λ (t : Given). IsPlaced entries (n + 1) t) (sym same) (given_one some))
+      subst (λ (t : TableState). IsPlaced entries (n + 1) t) (sym same) (given_one some))
 ]
   where
     without : e.storage ≡ 0 → IsPlaced entries (n + 1) table
@@ -63,7 +63,7 @@ placed_more entries n e table table' fresh fresh' within at placed places = elim
     q : ℕ
     q = e.storage - 1
 
-    more : Given
+    more : TableState
     more = with_storage table n q
 
     free : (by : ℕ) → (e.storage ≡ 0 → ⊥) → Has table by q → ⊥
@@ -102,7 +102,7 @@ placed_more entries n e table table' fresh fresh' within at placed places = elim
     }
 
 -- two chunks with one storage, the second of which comes next
-pub twins_found : (entries : List Entry) (n by : ℕ) (e : Entry) (table : Given) → slice_get entries n ≡ Some e → IsPlaced entries n table → IsTwin e n table by → AreTwins entries by n
+pub twins_found : (entries : List Entry) (n by : ℕ) (e : Entry) (table : TableState) → slice_get entries n ≡ Some e → IsPlaced entries n table → IsTwin e n table by → AreTwins entries by n
 twins_found entries n by e table at placed twin = let g = placed.given by twin.0 twin.2 in record {
   within = slice_get_within entries n e at;
   before = g.0;
@@ -128,7 +128,7 @@ masked : (fresh : Blocks) (n mask b : ℕ) → 0 < fresh.chunk → n * fresh.chu
 masked fresh n mask b some starts within = elim (cases_lt b start) [
   | inl low ↦ inr (
     (λ (same : b / fresh.chunk ≡ n). (let row : b / fresh.chunk * fresh.chunk ≡ start = ap (λ (k : ℕ). k * fresh.chunk) same in let r = rest in let s = rest_below in omega arith)),
-    get_left (front ++ middle) back b (let k = length-append front middle in let f = front_size in let m = middle_size in omega arith) ∙ get_left front middle b (let f = front_size in omega arith) ∙ get_take start fresh.bits b low,
+    slice_get_front (front ++ middle) back b (let k = length-append front middle in let f = front_size in let m = middle_size in omega arith) ∙ slice_get_front front middle b (let f = front_size in omega arith) ∙ get_take start fresh.bits b low,
   )
   | inr from_start ↦ elim (cases_lt b (start + fresh.chunk)) [
     | inl inside ↦ (let place : b - start < count = (let k = bits_count fresh n in omega arith) in
@@ -138,12 +138,12 @@ masked fresh n mask b some starts within = elim (cases_lt b start) [
         let m : b % fresh.chunk ≡ b - start = ap (λ (k : ℕ). k % fresh.chunk) e ∙ mod-mul-add n fresh.chunk (b - start) small in
         inl (
           d,
-          get_left (front ++ middle) back b (let k = length-append front middle in let f = front_size in let m = middle_size in omega arith) ∙ get_right front middle b (let f = front_size in omega arith) ∙ ap (slice_get middle) (let k = front_size in omega arith)
+          slice_get_front (front ++ middle) back b (let k = length-append front middle in let f = front_size in let m = middle_size in omega arith) ∙ slice_get_back front middle b (let f = front_size in omega arith) ∙ ap (slice_get middle) (let k = front_size in omega arith)
               ∙ in_middle (b - start) place ∙ ap (λ (k : ℕ). Some (bit_at mask k == 1)) (sym m),
         ))
     | inr past ↦ inr (
       (λ (same : b / fresh.chunk ≡ n). (let row : b / fresh.chunk * fresh.chunk ≡ start = ap (λ (k : ℕ). k * fresh.chunk) same in let r = rest in let s = rest_below in omega arith)),
-      get_right (front ++ middle) back b (let k = length-append front middle in let f = front_size in let m = middle_size in let c = bits_count fresh n in omega arith)
+      slice_get_back (front ++ middle) back b (let k = length-append front middle in let f = front_size in let m = middle_size in let c = bits_count fresh n in omega arith)
           ∙ get_drop (start + fresh.chunk) fresh.bits (b - length (front ++ middle)) ∙ ap (slice_get fresh.bits) (let k = length-append front middle in let f = front_size in let m = middle_size in let c = bits_count fresh n in omega arith),
     )
   ]
@@ -207,11 +207,11 @@ masked_size fresh n mask starts =
     let k = bits_count fresh n in omega arith)
 
 -- the sizes after a chunk was placed
-pub placed_sizes : (n : ℕ) (e : Entry) (table table' : Given) (fresh fresh' : Blocks) → Places e n table fresh table' fresh' → (length table'.chunks ≡ length table.chunks) × (table'.storage ≡ table.storage)
+pub placed_sizes : (n : ℕ) (e : Entry) (table table' : TableState) (fresh fresh' : Blocks) → Places e n table fresh table' fresh' → (length table'.chunks ≡ length table.chunks) × (table'.storage ≡ table.storage)
 placed_sizes n e table table' fresh fresh' places = by_test (e.storage == 0) refl
   where
     by_test : (b : Bool) → (e.storage == 0) ≡ b → (length table'.chunks ≡ length table.chunks) × (table'.storage ≡ table.storage)
-    by_test true is = let k : table' ≡ table = places.storage ∙ ap (λ (b : Bool). if b then table else with_storage table n (e.storage - 1)) is in (ap (λ (t : Given). length t.chunks) k, ap (λ (t : Given). t.storage) k)
+    by_test true is = let k : table' ≡ table = places.storage ∙ ap (λ (b : Bool). if b then table else with_storage table n (e.storage - 1)) is in (ap (λ (t : TableState). length t.chunks) k, ap (λ (t : TableState). t.storage) k)
     by_test false is =
         let k : table' ≡ with_storage table n (e.storage - 1) = places.storage ∙ ap (λ (b : Bool). if b then table else with_storage table n (e.storage - 1)) is in
-        (ap (λ (t : Given). length t.chunks) k ∙ length-set table.chunks n (Some (e.storage - 1)), ap (λ (t : Given). t.storage) k)
+        (ap (λ (t : TableState). length t.chunks) k ∙ length-set table.chunks n (Some (e.storage - 1)), ap (λ (t : TableState). t.storage) k)

@@ -3,7 +3,7 @@ use Rattle.std.proofs.Common.{ℕ, ◌≡◌, ◌+◌, ◌&&◌, Bool, true, Lis
 use Rattle.std.specs.Prelude.{not}
 use Rattle.std.proofs.Math.Bool.{and_assoc}
 use Rattle.vd_law.specs.declared.entry.Sector.{Sector}
-use Rattle.vd_reading.specs.Quiet.{sectors_from}
+use Rattle.vd_device.specs.Quiet.{sectors_from}
 use Rattle.vd_replay.specs.Fresh.{counts, none_counts}
 use Rattle.vd_replay.specs.Looking.{IsFreePiece}
 use Rattle.vd_replay.proofs.AreaLaws.{split_sectors}

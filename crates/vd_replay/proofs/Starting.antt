@@ -9,17 +9,17 @@ use Rattle.vd_format.proofs.Rules.{chunk_within}
 use Rattle.vd_table.specs.Tables.{Has}
 use Rattle.vd_table.proofs.Links.{none_some}
 use Rattle.vd_image.specs.Log.{Sector}
-use Rattle.vd_image.specs.Image.{Header, Mapping, Image, Maps, IsLocalBy, DiskHas, background, unmapped}
+use Rattle.vd_image.specs.Image.{Header, Mapping, Image, Maps, IsLocalBy, DiskHas, unmapped_sector}
 use Rattle.vd_image.specs.Layouts.{layout_of}
 use Rattle.vd_image.specs.Decoders.{Entry, IsEntry, header_of, shape_of, mask_has, mapping_in, format_of}
-use Rattle.vd_image.specs.Made.{zero_sector}
 use Rattle.vd_image.proofs.Deciding.{maps_one}
 use Rattle.vd_image.proofs.Layouts.{parts_apart}
 use Rattle.vd_image.proofs.Openings.{header_valid}
-use Rattle.vd_replay.specs.States.{IsWhole, IsState}
+use Rattle.vd_replay.specs.States.{IsWholeState, IsState}
 use Rattle.vd_replay.specs.declared.state.State.{State}
 use Rattle.vd_replay.proofs.ListLaws.{get_some}
 use Rattle.vd_replay.proofs.StateLaws.{storage_from, in_mask, mask_is}
+use Rattle.vd_format.specs.Background.{zero_sector, background}
 
 same_entry : (e x : Entry) (o : Option Entry) → o ≡ Some e → o ≡ Some x → e ≡ x
 same_entry e x o is also = cc
@@ -27,7 +27,7 @@ same_entry e x o is also = cc
 -- ---- whatever the store tells
 
 -- a chunk with a local block has a storage chunk
-pub whole-storage : (s : State) (b : ℕ) → IsWhole s → slice_get s.fresh.bits b ≡ Some true → (p : ℕ) × Has s.table (b / s.header.chunk) p × (p < s.header.storage)
+pub whole-storage : (s : State) (b : ℕ) → IsWholeState s → slice_get s.fresh.bits b ≡ Some true → (p : ℕ) × Has s.table (b / s.header.chunk) p × (p < s.header.storage)
 whole-storage s b whole at = (e.storage - 1, whole.placed.has (b / s.header.chunk) (e.storage - 1) within (e, m.1, stored), (let k = grammar.storage in omega arith))
   where
     m : (e : Entry) × (slice_get s.map (b / s.header.chunk) ≡ Some e) × (true ≡ mask_has (b / s.header.chunk * s.header.chunk) e.mask b)
@@ -56,7 +56,7 @@ whole-storage s b whole at = (e.storage - 1, whole.placed.has (b / s.header.chun
     ]
 
 -- a chunk has no storage chunk exactly where its entry has none
-pub whole-given : (s : State) (c : ℕ) (e : Entry) → IsWhole s → slice_get s.map c ≡ Some e → (slice_get s.table.chunks c ≡ Some None) ↔ (e.storage ≡ 0)
+pub whole-given : (s : State) (c : ℕ) (e : Entry) → IsWholeState s → slice_get s.map c ≡ Some e → (slice_get s.table.chunks c ≡ Some None) ↔ (e.storage ≡ 0)
 whole-given s c e whole at = (none_given, given_none)
   where
     within : c < length s.map
@@ -93,7 +93,7 @@ mapped sectors image h s x is less =
 -- what a sector of the disk is, by such a mapping
 abbrev IsShown : Image → Header → (base : ℕ → Sector) → Mapping → (x : ℕ) → Sector → Type 0
 IsShown image h base m x v = ((p : ℕ) × IsLocalBy m (x / h.block) p × (v ≡ image ((layout_of h).place p x)))
-    ⊎ (((p : ℕ) → IsLocalBy m (x / h.block) p → ⊥) × (v ≡ unmapped base zero_sector h.tracked m x))
+    ⊎ (((p : ℕ) → IsLocalBy m (x / h.block) p → ⊥) × (v ≡ unmapped_sector base zero_sector h.tracked m x))
 
 shown_by : (image : Image) (h : Header) (s : State) (base : ℕ → Sector) (x : ℕ) (v : Sector) → header_of (image 0) ≡ Ok h → DiskHas (format_of h) (layout_of h) base zero_sector image x v
     → (w : Mapped image h s x) → IsShown image h base (mapping_in h (x / h.block / h.chunk) w.entry) x v
@@ -110,7 +110,7 @@ shown_by image h s base x v reads disk w = subst (λ (m : Mapping). IsShown imag
 
     shown : IsShown image h base disk.mapping x v
     shown = subst (λ (g : Header). ((p : ℕ) × IsLocalBy disk.mapping (x / h.block) p × (v ≡ image ((layout_of h).place p x)))
-        ⊎ (((p : ℕ) → IsLocalBy disk.mapping (x / h.block) p → ⊥) × (v ≡ unmapped base zero_sector g.tracked disk.mapping x))) same_header disk.has
+        ⊎ (((p : ℕ) → IsLocalBy disk.mapping (x / h.block) p → ⊥) × (v ≡ unmapped_sector base zero_sector g.tracked disk.mapping x))) same_header disk.has
 
 same_storage : (o : Option ℕ) (p q : ℕ) → o ≡ Some p → o ≡ Some q → p ≡ q
 same_storage o p q is also = cc
@@ -160,7 +160,7 @@ disk-there sectors image h s base x is less = by_mask m.storage refl (m.has (x /
     m = mapping_in h (x / h.block / h.chunk) w.entry
 
     absent : ((p : ℕ) → IsLocalBy m (x / h.block) p → ⊥) → (v : Sector) × DiskHas (format_of h) (layout_of h) base zero_sector image x v
-    absent none = (unmapped base zero_sector h.tracked m x, record { header = h; reads = is.opens.reads; mapping = m; maps = w.maps; has = inr (none, refl) })
+    absent none = (unmapped_sector base zero_sector h.tracked m x, record { header = h; reads = is.opens.reads; mapping = m; maps = w.maps; has = inr (none, refl) })
 
     by_mask : (storage : Option ℕ) → m.storage ≡ storage → (has : Bool) → m.has (x / h.block) ≡ has → (v : Sector) × DiskHas (format_of h) (layout_of h) base zero_sector image x v
     by_mask None none has at = absent (λ p local. let a = local.0 in cc)

@@ -15,7 +15,7 @@ use Rattle.vd_format.proofs.Rules.{chunk_within}
 use Rattle.vd_bits.specs.Blocks.{Blocks}
 use Rattle.vd_table.specs.Tables.{Has}
 use Rattle.vd_image.specs.Log.{Sector}
-use Rattle.vd_image.specs.Image.{Header, Mapping, Gives, IsGoodMapping, IsGoodSlot}
+use Rattle.vd_image.specs.Image.{Header, Mapping, GivesStorage, IsGoodMapping, IsGoodSlot}
 use Rattle.vd_image.specs.Layouts.{layout_of}
 use Rattle.vd_image.specs.Decoders.{Entry, shape_of, storage_in, mask_has, mapping_in, record_in, format_of}
 use Rattle.vd_image.specs.Refusals.{BadEntry, BadRecord, DoubleChunk, Entry_bad, Record_bad, Chunk_double}
@@ -23,11 +23,11 @@ use Rattle.vd_image.specs.Openings.{RefusesOpening, BadImage, Image_bad}
 use Rattle.vd_image.proofs.Deciding.{maps_one}
 use Rattle.vd_image.proofs.Layouts.{parts_apart}
 use Rattle.vd_replay.specs.Images.{image_of}
-use Rattle.vd_replay.specs.Pages.{entry_in, AreRead, IsFirstBad, AreEntries}
+use Rattle.vd_replay.specs.Pages.{chunk_entry, AreRead, IsFirstBadEntry, AreEntries}
 use Rattle.vd_replay.specs.Journal.{CountsAt, AreReplayed, IsFirstOutside}
-use Rattle.vd_replay.specs.Placing.{HasStorage, AreTwins, IsSpread, Differs}
+use Rattle.vd_replay.specs.Placing.{EntryHasStorage, AreTwins, IsSpread, Differs}
 use Rattle.vd_replay.specs.Finding.{Found}
-use Rattle.vd_replay.specs.Filling.{AreApplied, IsSettled}
+use Rattle.vd_replay.specs.Filling.{AreApplied, AgreesWithEntries}
 use Rattle.vd_replay.specs.States.{IsSized, SaysMore, HasCounting, IsState, IsOldState}
 use Rattle.vd_replay.specs.Refusals.{IsValueOf}
 use Rattle.vd_replay.specs.Fresh.{is_fresh}
@@ -38,7 +38,7 @@ use Rattle.vd_replay.proofs.MapsLaws.{maps_entry, maps_within}
 
 -- ---- refusals
 
-pub bad_entry : (h : Header) (held : List Sector) (chunk value : ℕ) → IsValid h → h.version ≡ 2 → Found held h → IsFirstBad (shape_of h) (map_of held h) (chunks_of h) chunk value
+pub bad_entry : (h : Header) (held : List Sector) (chunk value : ℕ) → IsValid h → h.version ≡ 2 → Found held h → IsFirstBadEntry (shape_of h) (map_of held h) (chunks_of h) chunk value
     → RefusesOpening (length held) (image_of held) (BadImage (BadEntry chunk)) × IsValueOf held chunk value
 bad_entry h held chunk value valid version found bad = (
   Image_bad h (BadEntry chunk) found.reads version found.room (Entry_bad chunk (record {
@@ -89,12 +89,12 @@ record Applied (h : Header) (held : List Sector) (pages entries : List Entry) (n
   replayed : AreReplayed (shape_of h) (slots_of held h) h.slots pages entries next
 
 -- the entry of a chunk gives it its storage
-has_gives : (h : Header) (held : List Sector) (pages entries : List Entry) (next c p : ℕ) → Applied h held pages entries next → HasStorage entries c p → Gives (format_of h) (layout_of h) (image_of held) h.generation c p
+has_gives : (h : Header) (held : List Sector) (pages entries : List Entry) (next c p : ℕ) → Applied h held pages entries next → EntryHasStorage entries c p → GivesStorage (format_of h) (layout_of h) (image_of held) h.generation c p
 has_gives h held pages entries next c p a (e, at, storage) =
     let within : c < chunks_of h = (let k = slice_get_within entries c e at in let s = a.size in omega arith) in
     (mapping_in h c e, maps_entry h held pages entries next c e a.valid within a.read a.replayed at, storage_from e.storage p storage)
 
-gives_has : (h : Header) (held : List Sector) (pages entries : List Entry) (next c p : ℕ) → Applied h held pages entries next → Gives (format_of h) (layout_of h) (image_of held) h.generation c p → HasStorage entries c p
+gives_has : (h : Header) (held : List Sector) (pages entries : List Entry) (next c p : ℕ) → Applied h held pages entries next → GivesStorage (format_of h) (layout_of h) (image_of held) h.generation c p → EntryHasStorage entries c p
 gives_has h held pages entries next c p a (m, maps, storage) =
     let within = maps_within h held c m a.valid a.replayed.good maps in
     let e = get_some entries c (let s = a.size in omega (arith, within, s)) in
@@ -170,7 +170,7 @@ counted h held k valid (within, has) is = by_said (slot_of (shape_of h) v) is (v
     by_said (Facts facts) same w = absurd cc
     by_said Outside same w = absurd cc
 
-pub state_is : (held : List Sector) (s : State) (next : ℕ) → IsSized s → s.header.version ≡ 2 → Found held s.header → AreApplied s.header held s.pages s.map next → AreEntries (shape_of s.header) (chunks_of s.header) s.map → IsSettled s next
+pub state_is : (held : List Sector) (s : State) (next : ℕ) → IsSized s → s.header.version ≡ 2 → Found held s.header → AreApplied s.header held s.pages s.map next → AreEntries (shape_of s.header) (chunks_of s.header) s.map → AgreesWithEntries s next
     → IsState (length held) (image_of held) s.header s
 state_is held s next sized version found applied grammar settled = record {
   opens = record {
@@ -207,10 +207,10 @@ state_is held s next sized version found applied grammar settled = record {
     is : Applied s.header held s.pages s.map next
     is = record { valid = sized.valid; size = sized.map; read = applied.read; replayed = applied.replayed }
 
-    has : (c p : ℕ) → HasStorage s.map c p → Has s.table c p
+    has : (c p : ℕ) → EntryHasStorage s.map c p → Has s.table c p
     has c p w = settled.placed.has c p (slice_get_within s.map c w.0 w.1) w
 
-    chunk_of : (c : ℕ) (e : Entry) → slice_get s.map c ≡ Some e → slice_get s.pages c ≡ Some (entry_in (map_of held s.header) c)
+    chunk_of : (c : ℕ) (e : Entry) → slice_get s.map c ≡ Some e → slice_get s.pages c ≡ Some (chunk_entry (map_of held s.header) c)
     chunk_of c e at = applied.read.entry c (let k = slice_get_within s.map c e at in let n = sized.map in omega arith)
 
     says : {page : ℕ} → Differs s.map s.pages page → SaysMore s.header (image_of held) s.map page
@@ -219,7 +219,7 @@ state_is held s next sized version found applied grammar settled = record {
       on_page = d.on_page;
       entry = d.entry;
       stands = d.is;
-      other = λ same. d.other (same ∙ same_entry (entry_in (map_of held s.header) d.chunk) d.said (slice_get s.pages d.chunk) (chunk_of d.chunk d.entry d.is) d.was);
+      other = λ same. d.other (same ∙ same_entry (chunk_entry (map_of held s.header) d.chunk) d.said (slice_get s.pages d.chunk) (chunk_of d.chunk d.entry d.is) d.was);
     }
 
     said : {page : ℕ} → SaysMore s.header (image_of held) s.map page → Differs s.map s.pages page
@@ -227,7 +227,7 @@ state_is held s next sized version found applied grammar settled = record {
       chunk = w.chunk;
       on_page = w.on_page;
       entry = w.entry;
-      said = entry_in (map_of held s.header) w.chunk;
+      said = chunk_entry (map_of held s.header) w.chunk;
       is = w.stands;
       was = chunk_of w.chunk w.entry w.stands;
       other = w.other;
@@ -235,7 +235,7 @@ state_is held s next sized version found applied grammar settled = record {
 
 -- ---- an image of version 1 that is as it was made
 
-no_storage : (entries : List Entry) (n c p : ℕ) → entries ≡ replicate n empty_entry → HasStorage entries c p → ⊥
+no_storage : (entries : List Entry) (n c p : ℕ) → entries ≡ replicate n empty_entry → EntryHasStorage entries c p → ⊥
 no_storage entries n c p is (e, at, storage) =
     let same : empty_entry ≡ e = get_copies n empty_entry e c (ap (λ (es : List Entry). slice_get es c) (sym is) ∙ at) in
     let k : 0 ≡ p + 1 = ap (λ (x : Entry). x.storage) same ∙ storage in
@@ -244,7 +244,7 @@ no_storage entries n c p is (e, at, storage) =
 pub no_twins : (entries : List Entry) (n a b : ℕ) → entries ≡ replicate n empty_entry → AreTwins entries a b → ⊥
 no_twins entries n a b is twins = no_storage entries n a twins.storage is twins.first_has
 
-pub old_state_is : (held : List Sector) (s : State) → IsSized s → Found held s.header → true ≡ is_fresh s.header held → s.map ≡ replicate (chunks_of s.header) empty_entry → s.pages ≡ replicate (chunks_of s.header) empty_entry → IsSettled s 0
+pub old_state_is : (held : List Sector) (s : State) → IsSized s → Found held s.header → true ≡ is_fresh s.header held → s.map ≡ replicate (chunks_of s.header) empty_entry → s.pages ≡ replicate (chunks_of s.header) empty_entry → AgreesWithEntries s 0
     → IsOldState held s.header s
 old_state_is held s sized found is_new empty also settled = record {
   reads = found.reads;

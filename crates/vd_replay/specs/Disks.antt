@@ -5,22 +5,20 @@ use Rattle.vd_device.specs.Tickets.{IsRange}
 use Rattle.vd_format.specs.declared.header.Header.{Header}
 use Rattle.vd_format.specs.Layouts.{storage_start, need_of}
 use Rattle.vd_table.specs.Tables.{Has}
-use Rattle.vd_reading.specs.Background.{background}
-use Rattle.vd_image.specs.Image.{DiskHas, background as image_background}
+use Rattle.vd_image.specs.Image.{DiskHas}
 use Rattle.vd_image.specs.Layouts.{layout_of}
 use Rattle.vd_image.specs.Decoders.{Entry, this_version, format_of}
-use Rattle.vd_image.specs.CrashImages.{base_at}
-use Rattle.vd_image.specs.Made.{zero_sector}
 use Rattle.vd_replay.specs.Images.{image_of}
 use Rattle.vd_replay.specs.declared.state.State.{State}
 use Rattle.vd_replay.specs.declared.disk.Source.{Source}
 use Rattle.vd_replay.specs.declared.disk.Source.TheVariants.{Local, Background, Zeros}
 use Rattle.vd_replay.specs.declared.disk.DiskFault.{DiskFault}
 use Rattle.vd_replay.specs.declared.disk.DiskFault.TheVariants as fault
+use Rattle.vd_format.specs.Background.{background, background_of, base_at, zero_sector}
 
 -- the sector's block is not local
-abbrev pub IsAway : State → (sector : ℕ) → Type 0
-IsAway s n = (slice_get s.fresh.bits (n / s.header.block) ≡ Some false) ⊎ (slice_get s.table.chunks (n / s.header.block / s.header.chunk) ≡ Some None)
+abbrev pub IsNotLocal : State → (sector : ℕ) → Type 0
+IsNotLocal s n = (slice_get s.fresh.bits (n / s.header.block) ≡ Some false) ⊎ (slice_get s.table.chunks (n / s.header.block / s.header.chunk) ≡ Some None)
 
 -- whether such blocks of its chunk read as zeros
 abbrev pub ReadsZeros : State → (sector : ℕ) → Bool → Type 0
@@ -30,14 +28,14 @@ ReadsZeros s n zeros = (e : Entry) × (slice_get s.map (n / s.header.block / s.h
 abbrev pub IsSource : State → (sector : ℕ) → Source → Type 0
 IsSource s n (Local at) = (slice_get s.fresh.bits (n / s.header.block) ≡ Some true)
     × ((p : ℕ) × Has s.table (n / s.header.block / s.header.chunk) p × (p < s.header.storage) × (at ≡ (layout_of s.header).place p n))
-IsSource s n Background = IsAway s n × ReadsZeros s n false
-IsSource s n Zeros = IsAway s n × ReadsZeros s n true
+IsSource s n Background = IsNotLocal s n × ReadsZeros s n false
+IsSource s n Zeros = IsNotLocal s n × ReadsZeros s n true
 
 -- the source of the sector so many places on, if it comes from one device at neighbouring places
-abbrev pub further : Source → ℕ → Source
-further (Local at) i = Local (at + i)
-further Background i = Background
-further Zeros i = Zeros
+abbrev pub source_further_on : Source → ℕ → Source
+source_further_on (Local at) i = Local (at + i)
+source_further_on Background i = Background
+source_further_on Zeros i = Zeros
 
 abbrev pub IsNear : Source → Type 0
 IsNear (Local at) = at < 2 ^ 32
@@ -45,10 +43,10 @@ IsNear Background = Unit {0}
 IsNear Zeros = Unit {0}
 
 -- so many sectors from there on are read by one ticket at the most, with a store of so many
-abbrev pub IsInside : Source → (count sectors : ℕ) → Type 0
-IsInside (Local at) count sectors = IsRange sectors at count
-IsInside Background count sectors = count ≤ 2048
-IsInside Zeros count sectors = Unit {0}
+abbrev pub FitsInTicket : Source → (count sectors : ℕ) → Type 0
+FitsInTicket (Local at) count sectors = IsRange sectors at count
+FitsInTicket Background count sectors = count ≤ 2048
+FitsInTicket Zeros count sectors = Unit {0}
 
 -- the storage of an image with this header begins at this sector
 pub record IsStorageAt (h : Header) (at : ℕ) : Type 0 where
@@ -58,21 +56,21 @@ pub record IsStorageAt (h : Header) (at : ℕ) : Type 0 where
 -- this is what the sector is, by its source
 abbrev pub IsFrom : (held content : List Sector) (tracked : ℕ) → Source → (sector : ℕ) → Sector → Type 0
 IsFrom held content tracked (Local at) n v = slice_get held at ≡ Some v
-IsFrom held content tracked Background n v = v ≡ background content tracked n
+IsFrom held content tracked Background n v = v ≡ background_of content tracked n
 IsFrom held content tracked Zeros n v = v ≡ zero_sector
 
 -- the sectors from `first` on are these, one after another from one source
 pub record ReadRun (held content : List Sector) (tracked : ℕ) (source : Source) (first : ℕ) (out : List Sector) : Type 0 where
-  pub each : (i : ℕ) (v : Sector) → slice_get out i ≡ Some v → IsFrom held content tracked (further source i) (first + i) v
+  pub each : (i : ℕ) (v : Sector) → slice_get out i ≡ Some v → IsFrom held content tracked (source_further_on source i) (first + i) v
 
 -- the first n of these are the sectors from `first` on
 pub record AreShown (held content : List Sector) (s : State) (first n : ℕ) (out : List Sector) : Type 0 where
   pub each : (i : ℕ) (v : Sector) → i < n → slice_get out i ≡ Some v → (source : Source) × IsSource s (first + i) source × IsFrom held content s.header.tracked source (first + i) v
 
 -- These are the sectors of the guest's disk from `first` on: in version 2 those of the image's disk, in version 1, where nothing is local, the background.
-pub record IsDisk (held content : List Sector) (s : State) (first : ℕ) (out : List Sector) : Type 0 where
+pub record AreDiskSectors (held content : List Sector) (s : State) (first : ℕ) (out : List Sector) : Type 0 where
   pub current : s.header.version ≡ this_version → (i : ℕ) (v : Sector) → slice_get out i ≡ Some v → DiskHas (format_of s.header) (layout_of s.header) (base_at zero_sector content) zero_sector (image_of held) (first + i) v
-  pub old : s.header.version ≡ 1 → (i : ℕ) (v : Sector) → slice_get out i ≡ Some v → v ≡ image_background (base_at zero_sector content) zero_sector s.header.tracked (first + i)
+  pub old : s.header.version ≡ 1 → (i : ℕ) (v : Sector) → slice_get out i ≡ Some v → v ≡ background (base_at zero_sector content) zero_sector s.header.tracked (first + i)
 
 -- the ticket is the store's, and then P holds of it, or the base's, and then Q does
 abbrev pub ForDevice : (P Q : ℕ → Type 0) → DiskFault → Type 0
@@ -112,13 +110,13 @@ pub record HasOfBase (s : State) (sectors first count : ℕ) : Type 0 where
   pub inside : first + place < sectors
 
 -- the device that failed has some sector of the range: the store has one, or the base
-abbrev pub IsWanted : (local of_base : Type 0) → DiskFault → Type 0
-IsWanted local of_base (fault.Store ticket) = local
-IsWanted local of_base (fault.Base ticket) = of_base
+abbrev pub HasSectorOfRange : (local of_base : Type 0) → DiskFault → Type 0
+HasSectorOfRange local of_base (fault.Store ticket) = local
+HasSectorOfRange local of_base (fault.Base ticket) = of_base
 
 module _ {S B : Type 0} where
   -- A device is asked only where it has some sector of the range: else it is as it was, and no fault of it is answered.
   pub record AsksOwn (local of_base : Type 0) (result : Result ⊤ DiskFault) (s s' : S) (b b' : B) : Type 0 where
-    pub failed : IfErr result (IsWanted local of_base)
+    pub failed : IfErr result (HasSectorOfRange local of_base)
     pub store : (local → ⊥) → s' ≡ s
     pub base : (of_base → ⊥) → b' ≡ b

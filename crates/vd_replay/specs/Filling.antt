@@ -24,7 +24,7 @@ pub record KeepsSizes (s s' : State) : Type 0 where
   pub sized : IsSized s'
 
 -- table, blocks and marks are those of the entries, and the cursor stands there
-pub record IsSettled (s : State) (next : ℕ) : Type 0 where
+pub record AgreesWithEntries (s : State) (next : ℕ) : Type 0 where
   pub placed : IsPlaced s.map (length s.map) s.table
   pub spread : IsSpread s.map (length s.map) s.fresh
   pub marked : AreMarked s.map s.pages (length s.more) s.more

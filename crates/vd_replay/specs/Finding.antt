@@ -44,12 +44,12 @@ NotFound kept held (error.Changed field) = (h : Header) × (0 < length held) × 
 NotFound kept held e = ⊥
 
 -- the errors of this search; of a store fault's ticket P holds
-abbrev pub IsOfHeader : (P : ℕ → Type 0) → OpenError → Type 0
-IsOfHeader P (error.Store ticket) = P ticket
-IsOfHeader P (error.Header e) = Unit {0}
-IsOfHeader P (error.TooSmall need have) = Unit {0}
-IsOfHeader P (error.Changed field) = Unit {0}
-IsOfHeader P e = ⊥
+abbrev pub IsHeaderSearchError : (P : ℕ → Type 0) → OpenError → Type 0
+IsHeaderSearchError P (error.Store ticket) = P ticket
+IsHeaderSearchError P (error.Header e) = Unit {0}
+IsHeaderSearchError P (error.TooSmall need have) = Unit {0}
+IsHeaderSearchError P (error.Changed field) = Unit {0}
+IsHeaderSearchError P e = ⊥
 
 -- where the answer is a store fault, P holds of its ticket
 abbrev pub ForStore : (ℕ → Type 0) → OpenError → Type 0

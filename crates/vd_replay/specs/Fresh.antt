@@ -5,8 +5,8 @@ use Rattle.vd_law.specs.declared.entry.Sector.{Sector}
 use Rattle.vd_format.specs.declared.header.Header.{Header}
 use Rattle.vd_format.specs.Numbers.{are_zeros}
 use Rattle.vd_format.specs.Layouts.{chunks_of, sectors_of, table_start, bits_start, map_start, slots_start}
-use Rattle.vd_format.specs.Records.{Record, record_of}
-use Rattle.vd_reading.specs.Quiet.{sectors_from}
+use Rattle.vd_format.specs.Records.{JournalRecord, record_of}
+use Rattle.vd_device.specs.Quiet.{sectors_from}
 
 -- the first so many bytes of these sectors are zeros
 unfoldable pub are_empty : (bytes : ℕ) → List Sector → Bool
@@ -18,7 +18,7 @@ abbrev pub is_empty_area : (held : List Sector) (from bytes : ℕ) → Bool
 is_empty_area held from bytes = are_empty bytes (sectors_from held from (sectors_of bytes))
 
 -- a slot counts where it has a record of the image's version and generation
-abbrev pub is_current : (version generation : ℕ) → Option Record → Bool
+abbrev pub is_current : (version generation : ℕ) → Option JournalRecord → Bool
 is_current version generation None = false
 is_current version generation (Some r) = (r.version == version) && (r.generation == generation)
 

@@ -3,7 +3,7 @@ use Rattle.std.specs.Prelude.{List}
 use Rattle.vd_law.specs.declared.entry.Sector.{Sector}
 use Rattle.vd_image.specs.Image.{Image}
 use Rattle.vd_image.specs.CrashImages.{sectors_or}
-use Rattle.vd_image.specs.Made.{zero_sector}
+use Rattle.vd_format.specs.Background.{zero_sector}
 
 -- past its end there are zeros
 abbrev pub image_of : List Sector → Image

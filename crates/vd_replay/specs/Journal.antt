@@ -28,7 +28,7 @@ abbrev pub CountsAt : Shape2 → Sector → Type 0
 CountsAt shape sector = slot_of shape sector ≡ Nothing → ⊥
 
 -- of the first n slots, `next` is one past the highest that counts, 0 where none does
-pub record IsNext (shape : Shape2) (at : ℕ → Sector) (n next : ℕ) : Type 0 where
+pub record IsNextSlot (shape : Shape2) (at : ℕ → Sector) (n next : ℕ) : Type 0 where
   pub within : next ≤ n
   pub counts : 0 < next → CountsAt shape (at (next - 1))
   pub none_later : (k : ℕ) → next ≤ k → k < n → CountsAt shape (at k) → ⊥
@@ -37,7 +37,7 @@ pub record IsNext (shape : Shape2) (at : ℕ → Sector) (n next : ℕ) : Type 0
 pub record AreReplayed (shape : Shape2) (at : ℕ → Sector) (n : ℕ) (pages entries : List Entry) (next : ℕ) : Type 0 where
   pub good : (k : ℕ) → k < n → slot_of shape (at k) ≡ Outside → ⊥
   pub entries_are : entries ≡ put_facts pages (facts_to shape at n)
-  pub next_is : IsNext shape at n next
+  pub next_is : IsNextSlot shape at n next
 
 -- of the first n slots, this is the first that counts and is outside the grammar
 pub record IsFirstOutside (shape : Shape2) (at : ℕ → Sector) (n slot : ℕ) : Type 0 where

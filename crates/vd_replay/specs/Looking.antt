@@ -1,7 +1,7 @@
 -- What is known while an area, or the slots, are read piece by piece.
 use Rattle.std.specs.Prelude.{ℕ, ◌≡◌, ◌+◌, ◌^◌, ◌<◌, ◌≤◌, Bool, List, length}
 use Rattle.vd_law.specs.declared.entry.Sector.{Sector}
-use Rattle.vd_reading.specs.Quiet.{sectors_from}
+use Rattle.vd_device.specs.Quiet.{sectors_from}
 use Rattle.vd_replay.specs.Fresh.{are_empty, none_counts}
 
 -- so many sectors from `from` on lie in a store of so many

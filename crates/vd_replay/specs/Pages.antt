@@ -5,8 +5,8 @@ use Rattle.vd_format.specs.declared.map.Entry.{Entry}
 use Rattle.vd_format.specs.declared.map.Shape2.{Shape2}
 use Rattle.vd_format.specs.Entries.{IsEntry, entry_at, has_entry}
 use Rattle.vd_image.specs.CrashImages.{sectors_or}
-use Rattle.vd_image.specs.Made.{zero_sector}
 use Rattle.vd_replay.specs.declared.pages.BadEntry.{BadEntry}
+use Rattle.vd_format.specs.Background.{zero_sector}
 
 -- the sectors of a store from one on, by their number in that area
 abbrev pub area_at : (held : List Sector) (from : ℕ) → ℕ → Sector
@@ -21,29 +21,29 @@ abbrev pub chunks_in : Shape2 → (pages : ℕ) → ℕ
 chunks_in shape pages = min (32 * pages) shape.chunks
 
 -- the entry of a chunk, whatever it is
-abbrev pub entry_in : (ℕ → Sector) → (chunk : ℕ) → Entry
-entry_in at chunk = entry_at (at (chunk / 32)) (chunk % 32)
+abbrev pub chunk_entry : (ℕ → Sector) → (chunk : ℕ) → Entry
+chunk_entry at chunk = entry_at (at (chunk / 32)) (chunk % 32)
 
 -- it is in the grammar
-abbrev pub IsGood : Shape2 → (ℕ → Sector) → (chunk : ℕ) → Type 0
-IsGood shape at chunk = has_entry shape chunk (at (chunk / 32)) (chunk % 32) ≡ true
+abbrev pub IsEntryInGrammar : Shape2 → (ℕ → Sector) → (chunk : ℕ) → Type 0
+IsEntryInGrammar shape at chunk = has_entry shape chunk (at (chunk / 32)) (chunk % 32) ≡ true
 
 -- the entries of the first n chunks are in the grammar, and are these
 pub record AreRead (shape : Shape2) (at : ℕ → Sector) (n : ℕ) (entries : List Entry) : Type 0 where
-  pub good : (c : ℕ) → c < n → IsGood shape at c
-  pub entry : (c : ℕ) → c < n → slice_get entries c ≡ Some (entry_in at c)
+  pub good : (c : ℕ) → c < n → IsEntryInGrammar shape at c
+  pub entry : (c : ℕ) → c < n → slice_get entries c ≡ Some (chunk_entry at c)
 
 -- of the first n chunks, this is the first whose entry is outside the grammar, and the value is its storage field
-pub record IsFirstBad (shape : Shape2) (at : ℕ → Sector) (n chunk value : ℕ) : Type 0 where
+pub record IsFirstBadEntry (shape : Shape2) (at : ℕ → Sector) (n chunk value : ℕ) : Type 0 where
   pub within : chunk < n
-  pub bad : IsGood shape at chunk → ⊥
-  pub before : (c : ℕ) → c < chunk → IsGood shape at c
-  pub value_is : value ≡ (entry_in at chunk).storage
+  pub bad : IsEntryInGrammar shape at chunk → ⊥
+  pub before : (c : ℕ) → c < chunk → IsEntryInGrammar shape at c
+  pub value_is : value ≡ (chunk_entry at chunk).storage
 
 -- the first n chunks were judged: all entries were taken, or the first bad one was found
 abbrev pub Judged : Shape2 → (ℕ → Sector) → (n : ℕ) → List Entry → Result ⊤ BadEntry → Type 0
 Judged shape at n entries (Ok all) = AreRead shape at n entries
-Judged shape at n entries (Err bad) = IsFirstBad shape at n bad.chunk bad.value
+Judged shape at n entries (Err bad) = IsFirstBadEntry shape at n bad.chunk bad.value
 
 -- each of these entries of the first n chunks is in the grammar
 pub record AreEntries (shape : Shape2) (n : ℕ) (entries : List Entry) : Type 0 where

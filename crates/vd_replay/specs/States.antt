@@ -30,7 +30,7 @@ pub record IsSized (s : State) : Type 0 where
   pub slots : s.cursor.slots ≡ s.header.slots
 
 -- What holds of a state that isn't void, whatever the store tells: its entries are in the grammar, and its table and its local blocks are theirs.
-pub record IsWhole (s : State) : Type 0 where
+pub record IsWholeState (s : State) : Type 0 where
   pub sized : IsSized s
   pub entries : AreEntries (shape_of s.header) (chunks_of s.header) s.map
   pub placed : IsPlaced s.map (length s.map) s.table
@@ -44,9 +44,9 @@ pub record IsReadable (sectors : ℕ) (s : State) : Type 0 where
   pub room : need_of s.header ≤ sectors
 
 -- What is opened, whatever the store tells.
-pub record IsOpened (sectors : ℕ) (s : State) : Type 0 where
+pub record IsOpenedState (sectors : ℕ) (s : State) : Type 0 where
   pub readable : IsReadable sectors s
-  pub whole : IsWhole s
+  pub whole : IsWholeState s
 
 -- the chunk has this entry in the state, and its mapping in the image is that of this entry
 pub record IsEntryOf (h : Header) (image : Image) (map : List Entry) (chunk : ℕ) : Type 0 where
@@ -100,6 +100,6 @@ pub record IsOldState (held : List Sector) (h : Header) (s : State) : Type 0 whe
   pub next : s.cursor.next ≡ 0
 
 -- the state is what these sectors say, by the version of their header
-pub record Says (held : List Sector) (s : State) : Type 0 where
+pub record StateSays (held : List Sector) (s : State) : Type 0 where
   pub current : s.header.version ≡ this_version → IsState (length held) (image_of held) s.header s
   pub old : s.header.version ≡ 1 → IsOldState held s.header s

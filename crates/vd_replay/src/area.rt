@@ -2,16 +2,15 @@
 
 ghost use Rattle.std.specs.Prelude.{◌≡◌, ◌+◌, ◌-◌, ◌*◌, ◌^◌, ◌<◌, ◌≤◌, [], length, take, IfOk, IfErr};
 ghost use Rattle.vd_device.specs.Tickets.{IsRange};
-ghost use Rattle.vd_reading.specs.Quiet.{IsReady, OnlyReads, IsStoreFault, sectors_from};
+ghost use Rattle.vd_device.specs.Quiet.{IsReady, OnlyReads, IsStoreFault, sectors_from};
 ghost use Rattle.vd_format.specs.Numbers.{are_zeros};
 ghost use Rattle.vd_format.specs.Layouts.{sectors_of};
 ghost use Rattle.vd_replay.specs.Fresh.{are_empty, is_empty_area};
 ghost use Rattle.vd_replay.specs.Looking.{IsArea, IsEmptyPiece};
 
-use vd_device::Store;
+use vd_device::{Store, read_only};
 use vd_format::numbers::are_zeros;
 use vd_law::entry::Sector;
-use vd_reading::read_only;
 
 /// How many sectors one ticket reads at the most.
 pub const MOST: u64 = 2048;

@@ -1,20 +1,20 @@
 //! Reading the guest's disk by a state.
 
-ghost use Rattle.std.specs.Prelude.{ℕ, ◌≡◌, ◌+◌, ◌^◌, ◌<◌, ◌≤◌, [], length, replicate, IfErr, IsTrue, OnOk};
-ghost use Rattle.vd_reading.specs.Background.{count_in_base};
-ghost use Rattle.vd_reading.specs.Quiet.{IsReady, OnlyReads, OnlyReadsBase, IsFault, IsStoreFault};
+ghost use Rattle.std.specs.Prelude.{ℕ, ◌≡◌, ◌+◌, ◌^◌, ◌<◌, ◌≤◌, [], length, IfErr, IsTrue, OnOk};
+ghost use Rattle.vd_device.specs.Quiet.{IsReady, OnlyReads, OnlyReadsBase, IsFault, IsStoreFault};
 ghost use Rattle.vd_format.specs.Headers.{IsValid};
 ghost use Rattle.vd_image.specs.Layouts.{layout_of as places};
-ghost use Rattle.vd_image.specs.Made.{zero_sector};
-ghost use Rattle.vd_replay.specs.States.{IsSized, IsReadable, Says};
-ghost use Rattle.vd_replay.specs.Disks.{IsSource, IsStorageAt, further, IsNear, IsInside, ReadRun, IsDisk};
+ghost use Rattle.vd_replay.specs.States.{IsSized, IsReadable, StateSays};
+ghost use Rattle.vd_replay.specs.Disks.{IsSource, IsStorageAt, source_further_on, IsNear, FitsInTicket, ReadRun, AreDiskSectors};
 ghost use Rattle.vd_replay.specs.Disks.{ForDevice, ForSource, HasLocal, HasOfBase, NeedsBase, Spares, AsksOwn};
+ghost use Rattle.vd_format.specs.Background.{count_in_base};
 
+use crate::background::read_background;
 use crate::state::State;
-use vd_device::{Base, Store};
+use vd_device::{Base, Store, read_only, sectors_at_rest};
+use vd_format::zeros::clear;
 use vd_header::{Header, layout_of};
 use vd_law::entry::Sector;
-use vd_reading::{read_background, read_only, sectors_at_rest};
 
 /// A device failed the ticket of this number.
 #[derive(Clone, Copy, PartialEq, Eq, Drop)]
@@ -38,7 +38,7 @@ impl Source {
     fn further(self, by: u64) -> Source
         requires near { IsNear self }
         requires few { by < 2 ^ 32 }
-        ensures { result ≡ further self by }
+        ensures { result ≡ source_further_on self by }
     {
         match self {
             Source::Local(at) => Source::Local(at + by),
@@ -103,7 +103,7 @@ fn run_from(state: &State, storage_at: u64, source: Source, first: u64, most: u6
     requires inside { first + most ≤ state.now.header.size }
     ensures some { 0 < result }
     ensures most { result ≤ most }
-    ensures run { (i : ℕ) → i < result → IsSource state.now (first + i) (further source i) }
+    ensures run { (i : ℕ) → i < result → IsSource state.now (first + i) (source_further_on source i) }
 {
     for count in 1..most {
         if !comes_from(state, storage_at, source.further(count), first + count) {
@@ -111,12 +111,6 @@ fn run_from(state: &State, storage_at: u64, source: Source, first: u64, most: u6
         }
     }
     most
-}
-
-fn clear(out: &mut [Sector])
-    ensures { out.new ≡ replicate (length out.old) zero_sector }
-{
-    out.fill(Sector::filled(0));
 }
 
 /// Fills `out` with the sectors from `first` on, which come from one source, by at most one ticket. A device from which
@@ -130,8 +124,8 @@ fn read_run<S: Store, B: Base>(
     out: &mut [Sector],
 ) -> Result<(), DiskFault>
     requires ready { IsReady S.Store store.old }
-    requires base { B.flies base.old [] }
-    requires inside { IsInside source (length out.old) (S.sectors store.old) }
+    requires base { B.flight base.old [] }
+    requires inside { FitsInTicket source (length out.old) (S.sectors store.old) }
     ensures fault { IfErr result (ForSource source (IsStoreFault S.Store store.old store.new) (IsFault B.Base base.old base.new)) }
     ensures needed { IfErr result (NeedsBase (count_in_base (B.sectors base.old) tracked first (length out.old))) }
     ensures spared { Spares source (count_in_base (B.sectors base.old) tracked first (length out.old)) (store.new ≡ store.old) (base.new ≡ base.old) }
@@ -167,8 +161,8 @@ pub fn read_disk<S: Store, B: Base>(
     first: u64,
     out: &mut [Sector],
 ) -> Result<(), DiskFault>
-    requires store { S.flies store.old [] }
-    requires base { B.flies base.old [] }
+    requires store { S.flight store.old [] }
+    requires base { B.flight base.old [] }
     requires readable { IsReadable (S.sectors store.old) state.now }
     requires range { first + length out.old ≤ state.now.header.size }
     ensures fault { IfErr result (ForDevice (IsStoreFault S.Store store.old store.new) (IsFault B.Base base.old base.new)) }
@@ -177,8 +171,8 @@ pub fn read_disk<S: Store, B: Base>(
     ensures quiet { OnlyReads S.Store store.old store.new }
     ensures base_quiet { OnlyReadsBase B.Base base.old base.new }
     ensures size { length out.new ≡ length out.old }
-    ensures read { OnOk result (S.tells store.new → B.tells base.new → Says (S.disk store.new).held state.now
-        → IsDisk (S.disk store.new).held (B.content base.new) state.now first out.new) }
+    ensures read { OnOk result (S.tells store.new → B.tells base.new → StateSays (S.disk store.new).held state.now
+        → AreDiskSectors (S.disk store.new).held (B.content base.new) state.now first out.new) }
 {
     let _sectors = sectors_at_rest(store);
     let storage_at = layout_of(&state.header).storage_at;

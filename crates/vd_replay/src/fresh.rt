@@ -1,7 +1,7 @@
 //! Whether an image of version 1 is as it was made. One that holds more is not read yet.
 
 ghost use Rattle.std.specs.Prelude.{◌≡◌, ◌≤◌, [], length, IfOk, IfErr};
-ghost use Rattle.vd_reading.specs.Quiet.{IsReady, OnlyReads, IsStoreFault};
+ghost use Rattle.vd_device.specs.Quiet.{IsReady, OnlyReads, IsStoreFault};
 ghost use Rattle.vd_format.specs.Headers.{IsValid};
 ghost use Rattle.vd_format.specs.Layouts.{need_of};
 ghost use Rattle.vd_replay.specs.Fresh.{is_map_empty, is_fresh};

@@ -1,17 +1,16 @@
 //! Finding the header of a store.
 
 ghost use Rattle.std.specs.Prelude.{◌≡◌, ◌≤◌, [], length, IfOk, IfErr};
-ghost use Rattle.vd_reading.specs.Quiet.{IsReady, OnlyReads, AddsFlush, IsStoreFault};
+ghost use Rattle.vd_device.specs.Quiet.{IsReady, OnlyReads, AddsFlush, IsStoreFault};
 ghost use Rattle.vd_format.specs.Headers.{IsValid};
 ghost use Rattle.vd_format.specs.Layouts.{need_of};
 ghost use Rattle.vd_replay.specs.Headers.{first_changed};
-ghost use Rattle.vd_replay.specs.Finding.{Agrees, IsWrong, Found, NotFound, IsOfHeader};
+ghost use Rattle.vd_replay.specs.Finding.{Agrees, IsWrong, Found, NotFound, IsHeaderSearchError};
 
 use crate::error::OpenError;
-use vd_device::Store;
+use vd_device::{Store, flush_only, read_only, sectors_at_rest};
 use vd_header::{Header, layout_of, read_header};
 use vd_law::entry::Sector;
-use vd_reading::{flush_only, read_only, sectors_at_rest};
 
 /// The first of the fields that never change which differs: the version, as field 9, then the fields 1 to 5.
 #[tactic(auto, unfolding(crate::specs::Headers::first_changed))]
@@ -62,8 +61,8 @@ fn judge(header: Header, kept: Option<Header>, have: u64) -> Result<Header, Open
 /// The header of the store, which is flushed before. A header that was kept is one from which no field that never changes may
 /// differ.
 pub fn find_header<S: Store>(store: &mut S, kept: Option<Header>) -> Result<Header, OpenError>
-    requires idle { S.flies store.old [] }
-    ensures errors { IfErr result (IsOfHeader (IsStoreFault S.Store store.old store.new)) }
+    requires idle { S.flight store.old [] }
+    ensures errors { IfErr result (IsHeaderSearchError (IsStoreFault S.Store store.old store.new)) }
     ensures quiet { OnlyReads S.Store store.old store.new }
     ensures ready { IfOk result (λ h. IsReady S.Store store.new) }
     ensures valid { IfOk result IsValid }
@@ -77,6 +76,7 @@ pub fn find_header<S: Store>(store: &mut S, kept: Option<Header>) -> Result<Head
     if have == 0 {
         return Err(OpenError::TooSmall { need: 1, have: 0 });
     }
+    // Flushed first: what a crash could still lose must be neither shown nor built on.
     if let Err(ticket) = flush_only(store) {
         return Err(OpenError::Store(ticket));
     }

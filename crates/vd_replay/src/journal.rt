@@ -8,17 +8,16 @@ ghost use Rattle.vd_format.specs.declared.map.Fact2.{Fact2 as AnyFact};
 ghost use Rattle.vd_format.specs.declared.map.Shape2.{Shape2 as AnyShape};
 ghost use Rattle.vd_format.specs.Records.{AreFacts};
 ghost use Rattle.vd_device.specs.Tickets.{IsRange};
-ghost use Rattle.vd_reading.specs.Quiet.{IsReady, OnlyReads, IsStoreFault};
-ghost use Rattle.vd_image.specs.Made.{zero_sector};
+ghost use Rattle.vd_device.specs.Quiet.{IsReady, OnlyReads, IsStoreFault};
 ghost use Rattle.vd_replay.specs.Looking.{IsArea};
 ghost use Rattle.vd_replay.specs.Pages.{area_at, AreAt, AreEntries, IsMap};
 ghost use Rattle.vd_replay.specs.Journal.{put_facts, AreReplayed, AreTaken, Replayed};
+ghost use Rattle.vd_format.specs.Background.{zero_sector};
 
 use crate::area::MOST;
-use vd_device::Store;
+use vd_device::{Store, read_only};
 use vd_law::entry::Sector;
-use vd_map2::{Facts2, Map, Shape2, Slot2, read_record2};
-use vd_reading::read_only;
+use vd_map::{Facts2, Map, Shape2, Slot2, read_record2};
 
 /// Puts the entries of these facts over those of the map.
 fn apply(facts: &Facts2, map: &mut Map)

@@ -2,6 +2,7 @@
 #![tactic(auto)]
 
 mod area;
+mod background;
 mod buffer;
 mod disk;
 mod error;
@@ -12,10 +13,6 @@ mod pages;
 mod placing;
 mod slots;
 mod state;
-#[cfg(test)]
-mod state_tests;
-#[cfg(test)]
-mod tests;
 
 pub use buffer::ReadBuffer;
 pub use disk::{DiskFault, read_disk};

@@ -3,16 +3,15 @@
 ghost use Rattle.std.specs.Prelude.{ℕ, ◌≡◌, ◌+◌, ◌-◌, ◌*◌, ◌/◌, ◌%◌, ◌^◌, ◌<◌, ◌≤◌, [], length, min, slice_index_or, IfOk, IfErr, OnOk, Ok};
 ghost use Rattle.vd_law.specs.declared.entry.Sector.{Sector as AnySector};
 ghost use Rattle.vd_device.specs.Tickets.{IsRange};
-ghost use Rattle.vd_reading.specs.Quiet.{IsReady, OnlyReads, IsStoreFault};
+ghost use Rattle.vd_device.specs.Quiet.{IsReady, OnlyReads, IsStoreFault};
 ghost use Rattle.vd_replay.specs.Looking.{IsArea};
 ghost use Rattle.vd_replay.specs.Pages.{area_at, chunks_in, AreAt, AreRead, Judged, AreEntries};
-ghost use Rattle.vd_image.specs.Made.{zero_sector};
+ghost use Rattle.vd_format.specs.Background.{zero_sector};
 
 use crate::area::MOST;
-use vd_device::Store;
+use vd_device::{Store, read_only};
 use vd_law::entry::Sector;
-use vd_map2::{Map, Shape2, read_entry};
-use vd_reading::read_only;
+use vd_map::{Map, Shape2, read_entry};
 
 /// An entry outside the grammar.
 #[derive(Clone, Copy, Drop)]

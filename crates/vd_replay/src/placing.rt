@@ -4,11 +4,11 @@ ghost use Rattle.std.specs.Prelude.{ℕ, ◌≡◌, ◌+◌, ◌-◌, ◌*◌, �
 ghost use Rattle.vd_format.specs.Entries.{empty_entry};
 ghost use Rattle.vd_bits.specs.Blocks.{bits_in};
 ghost use Rattle.vd_replay.specs.Pages.{AreEntries};
-ghost use Rattle.vd_replay.specs.Placing.{IsShape, AreSized, Places, IsTwin, Placed, AreMarked, Differs};
+ghost use Rattle.vd_replay.specs.Placing.{EachChunkHasBlocks, AreSized, Places, IsTwin, Placed, AreMarked, Differs};
 
 use vd_bits::bits::Bits;
 use vd_bits::marked::Marked;
-use vd_map2::{Entry, Map, Shape2};
+use vd_map::{Entry, Map, Shape2};
 use vd_table::table::Table;
 
 /// Two chunks that have one storage chunk.
@@ -75,7 +75,7 @@ pub fn place_all(
 ) -> Result<(), Twins>
     requires map { length map.now ≡ shape.now.chunks }
     requires entries { AreEntries shape.now shape.now.chunks map.now }
-    requires shape { IsShape shape.now }
+    requires shape { EachChunkHasBlocks shape.now }
     requires sizes { AreSized shape.now table.old fresh.old }
     ensures sizes { AreSized shape.now table.new fresh.new }
     ensures placed { Placed map.now table.new fresh.new result }

@@ -2,15 +2,14 @@
 
 ghost use Rattle.std.specs.Prelude.{◌≡◌, ◌+◌, ◌^◌, ◌<◌, ◌≤◌, ◌==◌, [], length, not, IfOk, IfErr};
 ghost use Rattle.vd_device.specs.Tickets.{IsRange};
-ghost use Rattle.vd_reading.specs.Quiet.{IsReady, OnlyReads, IsStoreFault, sectors_from};
+ghost use Rattle.vd_device.specs.Quiet.{IsReady, OnlyReads, IsStoreFault, sectors_from};
 ghost use Rattle.vd_replay.specs.Fresh.{counts, none_counts};
 ghost use Rattle.vd_replay.specs.Looking.{IsArea, IsFreePiece};
 
 use crate::area::MOST;
-use vd_device::Store;
+use vd_device::{Store, read_only};
 use vd_format::numbers::u64_at;
 use vd_law::entry::Sector;
-use vd_reading::read_only;
 
 /// Whether the slot has a record of this version and generation.
 #[tactic(auto, unfolding(crate::specs::Fresh::counts, vd_format::specs::Records::record_of, vd_format::specs::Numbers::has_magic))]

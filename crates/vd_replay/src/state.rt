@@ -1,16 +1,16 @@
 //! A state: what an image says, as a disk goes on from it.
 
 ghost use Rattle.std.specs.Prelude.{◌≡◌, ◌⊎◌, ◌^◌, ◌<◌, ◌≤◌, [], true, is_err, length, None, Some, IfOk, IfErr, OnOk, OnErr};
-ghost use Rattle.vd_reading.specs.Quiet.{IsReady, OnlyReads, AddsFlush, IsStoreFault};
+ghost use Rattle.vd_device.specs.Quiet.{IsReady, OnlyReads, AddsFlush, IsStoreFault};
 ghost use Rattle.vd_format.specs.Headers.{IsValid};
 ghost use Rattle.vd_format.specs.Layouts.{need_of};
 ghost use Rattle.vd_image.specs.Image.{geometry_of};
 ghost use Rattle.vd_image.specs.Decoders.{shape_of};
 ghost use Rattle.vd_replay.specs.Journal.{AreTaken};
-ghost use Rattle.vd_replay.specs.Placing.{IsShape};
-ghost use Rattle.vd_replay.specs.Filling.{AreApplied, KeepsSizes, IsSettled, AreDouble, IsOfReading};
+ghost use Rattle.vd_replay.specs.Placing.{EachChunkHasBlocks};
+ghost use Rattle.vd_replay.specs.Filling.{AreApplied, KeepsSizes, AgreesWithEntries, AreDouble, IsOfReading};
 ghost use Rattle.vd_replay.specs.Finding.{Found, ForStore};
-ghost use Rattle.vd_replay.specs.States.{IsSized, IsWhole, IsOpened, Says};
+ghost use Rattle.vd_replay.specs.States.{IsSized, IsWholeState, IsOpenedState, StateSays};
 ghost use Rattle.vd_replay.specs.Refusals.{Unfilled, Refused, RefusedAgain, IsOfReload};
 
 use crate::buffer::ReadBuffer;
@@ -26,7 +26,7 @@ use vd_bits::marked::Marked;
 use vd_device::Store;
 use vd_header::{Header, layout_of};
 use vd_law::entry::NoMemory;
-use vd_map2::{Map, Shape2};
+use vd_map::{Map, Shape2};
 use vd_table::table::Table;
 
 /// Where the next record goes.
@@ -60,7 +60,7 @@ pub struct State {
 fn shape_of(header: &Header) -> Shape2
     requires { IsValid header.now }
     ensures shape { result ≡ shape_of header.now }
-    ensures blocks { IsShape result }
+    ensures blocks { EachChunkHasBlocks result }
     ensures few { result.chunks < 2 ^ 27 }
 {
     let layout = layout_of(header);
@@ -105,8 +105,8 @@ impl State {
         ensures kept { KeepsSizes self.old self.new }
         ensures pages { self.new.pages ≡ self.old.pages }
         ensures map { self.new.map ≡ self.old.map }
-        ensures settled { OnOk result (IsSettled self.new next) }
-        ensures whole { OnOk result (IsWhole self.new) }
+        ensures settled { OnOk result (AgreesWithEntries self.new next) }
+        ensures whole { OnOk result (IsWholeState self.new) }
         ensures twins { IfErr result (AreDouble self.new.map) }
     {
         let shape = shape_of(&self.header);
@@ -176,8 +176,8 @@ impl State {
         ensures errors { IfErr result (IsOfReading (IsStoreFault S.Store store.old store.new)) }
         ensures quiet { OnlyReads S.Store store.old store.new }
         ensures kept { KeepsSizes self.old self.new }
-        ensures whole { OnOk result (IsWhole self.new) }
-        ensures says { OnOk result (S.tells store.new → Found (S.disk store.new).held self.new.header → Says (S.disk store.new).held self.new) }
+        ensures whole { OnOk result (IsWholeState self.new) }
+        ensures says { OnOk result (S.tells store.new → Found (S.disk store.new).held self.new.header → StateSays (S.disk store.new).held self.new) }
         ensures wrong { IfErr result (λ e. S.tells store.new → Found (S.disk store.new).held self.new.header → Unfilled (S.disk store.new).held e) }
     {
         let header = self.header;
@@ -202,8 +202,8 @@ impl State {
         ensures errors { IfErr result (IsOfReading (IsStoreFault S.Store store.old store.new)) }
         ensures quiet { OnlyReads S.Store store.old store.new }
         ensures kept { KeepsSizes self.old self.new }
-        ensures whole { OnOk result (IsWhole self.new) }
-        ensures says { OnOk result (S.tells store.new → Found (S.disk store.new).held self.new.header → Says (S.disk store.new).held self.new) }
+        ensures whole { OnOk result (IsWholeState self.new) }
+        ensures says { OnOk result (S.tells store.new → Found (S.disk store.new).held self.new.header → StateSays (S.disk store.new).held self.new) }
         ensures wrong { IfErr result (λ e. S.tells store.new → Found (S.disk store.new).held self.new.header → Unfilled (S.disk store.new).held e) }
     {
         let next = self.read_entries(store)?;
@@ -218,8 +218,8 @@ impl State {
         ensures errors { IfErr result (IsOfReading (IsStoreFault S.Store store.old store.new)) }
         ensures quiet { OnlyReads S.Store store.old store.new }
         ensures kept { KeepsSizes self.old self.new }
-        ensures whole { OnOk result (IsWhole self.new) }
-        ensures says { OnOk result (S.tells store.new → Found (S.disk store.new).held self.new.header → Says (S.disk store.new).held self.new) }
+        ensures whole { OnOk result (IsWholeState self.new) }
+        ensures says { OnOk result (S.tells store.new → Found (S.disk store.new).held self.new.header → StateSays (S.disk store.new).held self.new) }
         ensures wrong { IfErr result (λ e. S.tells store.new → Found (S.disk store.new).held self.new.header → Unfilled (S.disk store.new).held e) }
     {
         if self.header.version == 1 {
@@ -238,8 +238,8 @@ impl State {
         ensures quiet { OnlyReads S.Store store.old store.new }
         ensures kept { KeepsSizes self.old self.new }
         ensures void { self.new.void ≡ is_err result }
-        ensures whole { OnOk result (IsWhole self.new) }
-        ensures says { OnOk result (S.tells store.new → Found (S.disk store.new).held self.new.header → Says (S.disk store.new).held self.new) }
+        ensures whole { OnOk result (IsWholeState self.new) }
+        ensures says { OnOk result (S.tells store.new → Found (S.disk store.new).held self.new.header → StateSays (S.disk store.new).held self.new) }
         ensures wrong { IfErr result (λ e. S.tells store.new → Found (S.disk store.new).held self.new.header → Unfilled (S.disk store.new).held e) }
     {
         let read = self.read(store);
@@ -252,16 +252,16 @@ impl State {
     /// is void after an error, until it is read again with success. The call of the ticket that `Store` names ended in the log
     /// of a store that tells by a Reply that isn't Ok.
     pub fn reload<S: Store>(&mut self, store: &mut S) -> Result<(), OpenError>
-        requires idle { S.flies store.old [] }
+        requires idle { S.flight store.old [] }
         requires sized { IsSized self.old }
         // Neither OldVersion nor NoMemory comes.
         ensures errors { IfErr result (IsOfReload (IsStoreFault S.Store store.old store.new)) }
         ensures quiet { OnlyReads S.Store store.old store.new }
         ensures sized { IsSized self.new }
         ensures same { geometry_of self.new.header ≡ geometry_of self.old.header }
-        ensures opened { OnOk result (IsOpened (S.sectors store.new) self.new) }
+        ensures opened { OnOk result (IsOpenedState (S.sectors store.new) self.new) }
         ensures void { OnErr result (self.new.void ≡ true) }
-        ensures says { OnOk result (S.tells store.new → Says (S.disk store.new).held self.new) }
+        ensures says { OnOk result (S.tells store.new → StateSays (S.disk store.new).held self.new) }
         ensures refused { IfErr result (λ e. S.tells store.new → RefusedAgain self.old.header (S.disk store.new).held e) }
     {
         self.void = true;
@@ -286,14 +286,14 @@ impl State {
 /// all facts are applied. `Store` comes where a call fails, which ended in the log of a store that tells by a Reply that isn't
 /// Ok, and `NoMemory` may come wherever no other error does.
 pub fn recover<S: Store>(alloc: Global, store: &mut S, oldest: u32) -> Result<State, OpenError>
-    requires idle { S.flies store.old [] }
+    requires idle { S.flight store.old [] }
     requires oldest { (oldest ≡ 1) ⊎ (oldest ≡ 2) }
     ensures fault { IfErr result (ForStore (IsStoreFault S.Store store.old store.new)) }
     ensures quiet { OnlyReads S.Store store.old store.new }
-    ensures opened { IfOk result (IsOpened (S.sectors store.new)) }
+    ensures opened { IfOk result (IsOpenedState (S.sectors store.new)) }
     ensures version { IfOk result (λ state. oldest ≤ state.header.version) }
     ensures flushed { IfOk result (λ state. S.tells store.new → AddsFlush (S.disk store.old) (S.disk store.new)) }
-    ensures says { IfOk result (λ state. S.tells store.new → Says (S.disk store.new).held state) }
+    ensures says { IfOk result (λ state. S.tells store.new → StateSays (S.disk store.new).held state) }
     ensures refused { IfErr result (λ e. S.tells store.new → Refused oldest (S.disk store.new).held e) }
 {
     let header = find_header(store, None)?;

@@ -8,7 +8,7 @@ use Rattle.vd_law.specs.declared.entry.Answer.{Answer}
 use Rattle.vd_law.specs.Entries.{Entry}
 use Rattle.vd_report.specs.declared.sum.Sum.{Sum}
 use Rattle.vd_report.specs.Replies.{is_reply, replies}
-use Rattle.vd_report.specs.Sums.{one_if, Counts, CountsMore}
+use Rattle.vd_report.specs.Sums.{one_if, SumsReplies, CountsMore}
 
 replies-more : (test : Answer → Bool) (guests : ℕ) (es : List Entry) (at : ℕ) (e : Entry) → slice_get es at ≡ Some e →
     replies test guests (take (at + 1) es) ≡ replies test guests (take at es) + one_if (is_reply test guests e)
@@ -22,7 +22,7 @@ replies-more test guests es at e there =
     ]
 
 pub counts-more : (guests : ℕ) (es : List Entry) (at : ℕ) (e : Entry) (sum next : Sum) → slice_get es at ≡ Some e →
-    Counts guests (take at es) sum → CountsMore sum next (λ is_kind. is_reply is_kind guests e) → Counts guests (take (at + 1) es) next
+    SumsReplies guests (take at es) sum → CountsMore sum next (λ is_kind. is_reply is_kind guests e) → SumsReplies guests (take (at + 1) es) next
 counts-more guests es at e sum next there counts more = record {
   ok = kind _ counts.ok more.ok;
   full = kind _ counts.full more.full;

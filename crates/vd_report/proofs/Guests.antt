@@ -12,7 +12,7 @@ use Rattle.vd_law.specs.declared.entry.CallId.{CallId}
 use Rattle.vd_law.specs.declared.entry.Answer.{Answer}
 use Rattle.vd_law.specs.Entries.{Asked, Entry, Ask, Issue, Done, Broke, Seen, Reply, Past, ◌▸◌, past}
 use Rattle.vd_law.proofs.Going.{past-more}
-use Rattle.vd_io.specs.Streams.{Writes}
+use Rattle.vd_io.specs.Streams.{WritesText}
 use Rattle.vd_io.proofs.Composing.{writes-failed, writes-after}
 use Rattle.vd_report.specs.Replies.{seen_in, seen_since_ask, call_text, reply_text, guest_text, history_text}
 use Rattle.vd_report.specs.LastAsks.{asked_next}
@@ -67,7 +67,7 @@ guest_text-front guest es n =
 
 pub guest-going : {E : Type 0} {u : Unit {0}} (guest : ℕ) (es : List Entry) (at : ℕ) (before : List ℕ) {between after : List ℕ} →
     at < length es → between ≡ before ++ guest_text (past (take at es)) guest →
-    ((x : Entry) → slice_get es at ≡ Some x → Writes {E = E} (reply_text (past (take at es)) x guest) (Ok u) between after) →
+    ((x : Entry) → slice_get es at ≡ Some x → WritesText {E = E} (reply_text (past (take at es)) x guest) (Ok u) between after) →
     after ≡ before ++ guest_text (past (take (at + 1) es)) guest
 guest-going guest es at before inside wrote part =
     let there = at-entry_at es at inside in
@@ -76,7 +76,7 @@ guest-going guest es at before inside wrote part =
 
 pub guest-failed : {E : Type 0} (guest : ℕ) (es : List Entry) (at : ℕ) {result : Result (Unit {0}) E} {e : E} {before between after : List ℕ} →
     at < length es → IsErr result → between ≡ before ++ guest_text (past (take at es)) guest →
-    ((x : Entry) → slice_get es at ≡ Some x → Writes (reply_text (past (take at es)) x guest) (Err e) between after) → Writes (guest_text (past es) guest) result before after
+    ((x : Entry) → slice_get es at ≡ Some x → WritesText (reply_text (past (take at es)) x guest) (Err e) between after) → WritesText (guest_text (past es) guest) result before after
 guest-failed guest es at inside failed wrote part =
     let there = at-entry_at es at inside in
     let front = guest_text-front guest es (at + 1) in
@@ -92,7 +92,7 @@ history_text-front es n (suc m) le = elim (cases_lt m n) [
 ]
 
 pub guests-failed : {E : Type 0} (guests : ℕ) (es : List Entry) (n : ℕ) {result : Result (Unit {0}) E} {e : E} {before between after : List ℕ} →
-    n < guests → IsErr result → between ≡ before ++ history_text n es → Writes (guest_text (past es) (n + 1)) (Err e) between after → Writes (history_text guests es) result before after
+    n < guests → IsErr result → between ≡ before ++ history_text n es → WritesText (guest_text (past es) (n + 1)) (Err e) between after → WritesText (history_text guests es) result before after
 guests-failed guests es n inside failed wrote part =
     let front = history_text-front es (suc n) guests (omega arith) in
     rw front.1 (writes-failed front.0 failed (writes-after (history_text n es) wrote part))

@@ -4,3 +4,4 @@ pub mod Pieces
 pub mod Ranges
 pub mod Same
 pub mod Telling
+pub mod WritingLaws

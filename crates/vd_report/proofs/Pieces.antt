@@ -4,7 +4,7 @@ use Rattle.std.proofs.lemmas.List.{take_more, take-append-drop}
 use Rattle.std.proofs.lemmas.List.Concat.{flat_map-append}
 use Rattle.std.specs.Prelude.{IsErr}
 use Rattle.std.specs.List.{flat_map}
-use Rattle.vd_io.specs.Streams.{Writes}
+use Rattle.vd_io.specs.Streams.{WritesText}
 use Rattle.vd_io.proofs.Composing.{writes-failed, writes-after}
 
 -- the pieces of one more element
@@ -18,6 +18,6 @@ flat_map-take-drop f xs i = ap (flat_map f) (sym (take-append-drop i xs)) ∙ fl
 
 -- where the piece of one element failed after those before it, the text of all fails
 pub pieces-failed : {X E : Type 0} (f : X → List ℕ) (xs : List X) (i : ℕ) (d : X) {result : Result (Unit {0}) E} {e : E} {before between after : List ℕ} →
-    i < length xs → IsErr result → between ≡ before ++ flat_map f (take i xs) → Writes (f (get_or xs i d)) (Err e) between after → Writes (flat_map f xs) result before after
+    i < length xs → IsErr result → between ≡ before ++ flat_map f (take i xs) → WritesText (f (get_or xs i d)) (Err e) between after → WritesText (flat_map f xs) result before after
 pieces-failed f xs i d inside failed wrote part =
     rw (flat_map-take-drop f xs (i + 1), flat_map-take_more f xs i d inside) (writes-failed _ failed (writes-after _ wrote part))

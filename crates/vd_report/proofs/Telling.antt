@@ -6,7 +6,7 @@ use Rattle.std.specs.Prelude.{IsErr, slice_get, codes}
 use Rattle.std.specs.List.{flat_map, slice_range}
 use Rattle.vd_law.specs.declared.entry.Sector.{Sector}
 use Rattle.vd_law.specs.Entries.{Entry, Done}
-use Rattle.vd_io.specs.Streams.{Writes}
+use Rattle.vd_io.specs.Streams.{WritesText}
 use Rattle.vd_io.proofs.Composing.{writes-failed, writes-after}
 use Rattle.vd_report.specs.Tokens.{token, tokens}
 use Rattle.vd_report.specs.Replies.{seen_in}
@@ -43,7 +43,7 @@ shown-split guest es from mid to before after =
 -- where what one entry shows failed, all fails
 pub shown-failed : {E : Type 0} (guest : ℕ) (es : List Entry) (from at to : ℕ) {result : Result (Unit {0}) E} {e : E} {before between after : List ℕ} →
     from ≤ at → at < to → to ≤ length es → IsErr result → between ≡ before ++ shown guest es from at →
-    ((x : Entry) → slice_get es at ≡ Some x → Writes (tokens (seen_in guest x)) (Err e) between after) → Writes (shown guest es from to) result before after
+    ((x : Entry) → slice_get es at ≡ Some x → WritesText (tokens (seen_in guest x)) (Err e) between after) → WritesText (shown guest es from to) result before after
 shown-failed guest es from at to first inside within failed wrote part =
     rw (shown-split guest es from (at + 1) to (omega arith) (omega arith), shown-more guest es from at first (omega arith))
     (writes-failed _ failed (writes-after _ wrote (part (entry_at es at) (at-entry_at es at (omega arith)))))
@@ -51,7 +51,7 @@ shown-failed guest es from at to first inside within failed wrote part =
 -- where it went well, one more is written
 pub shown-going : {E : Type 0} {u : Unit {0}} (guest : ℕ) (es : List Entry) (from at : ℕ) (before : List ℕ) {between after : List ℕ} →
     from ≤ at → at < length es → between ≡ before ++ shown guest es from at →
-    ((x : Entry) → slice_get es at ≡ Some x → Writes {E = E} (tokens (seen_in guest x)) (Ok u) between after) → after ≡ before ++ shown guest es from (at + 1)
+    ((x : Entry) → slice_get es at ≡ Some x → WritesText {E = E} (tokens (seen_in guest x)) (Ok u) between after) → after ≡ before ++ shown guest es from (at + 1)
 shown-going guest es from at before first inside wrote part =
     let more = writes-after (shown guest es from at) wrote (part (entry_at es at) (at-entry_at es at inside)) in
     more.ok ∙ ap (λ (text : List ℕ). before ++ text) (sym (shown-more guest es from at first inside))

@@ -3,3 +3,8 @@ pub mod Lines
 pub mod Replies
 pub mod Sums
 pub mod Tokens
+pub mod Statuses
+pub mod Outcomes
+pub mod Streams
+pub mod Ending
+pub mod Writing

@@ -10,7 +10,7 @@ abbrev pub one_if : Bool → ℕ
 one_if b = if b then 1 else 0
 
 -- the sum counts the replies of these entries
-pub record Counts (guests : ℕ) (entries : List Entry) (sum : Sum) : Type 0 where
+pub record SumsReplies (guests : ℕ) (entries : List Entry) (sum : Sum) : Type 0 where
   pub ok : sum.ok ≡ replies is_ok guests entries
   pub full : sum.full ≡ replies is_full guests entries
   pub fault : sum.fault ≡ replies is_fault guests entries

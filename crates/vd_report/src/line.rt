@@ -1,8 +1,9 @@
 //! Lines that name what became of a command, or of a part of one.
 
 ghost use Rattle.std.specs.Prelude.{◌≡◌, ◌+◌, ◌≤◌, [], ◌∷◌, ◌++◌, length, codes, OnErr};
-ghost use Rattle.vd_io.specs.Streams.{Rose, Writes};
+ghost use Rattle.vd_io.specs.Streams.{WritesText};
 ghost use Rattle.vd_report.specs.Lines.{phrase, line_text, about_text};
+ghost use Rattle.vd_law.specs.Counts.{Rose};
 
 use crate::text::{Text, push_phrase, push_word};
 use vd_io::Failed;
@@ -155,8 +156,8 @@ fn push_line(text: &mut Text, line: Line)
 /// Writes a line about the closing, the reopening or what is shown, in one write. After Failed a front of it is written.
 pub fn put_line_about<O: Sink>(out: &mut O, about: About, line: Line) -> Result<(), Failed>
     ensures told_before { O.tells out.new → O.tells out.old }
-    ensures writes { O.tells out.new → Writes (about_text about ++ line_text line ++ codes "\n") result (O.written out.old) (O.written out.new) }
-    ensures calm { O.faults out.old ≤ O.faults out.new }
+    ensures writes { O.tells out.new → WritesText (about_text about ++ line_text line ++ codes "\n") result (O.written out.old) (O.written out.new) }
+    ensures no_fewer_faults { O.faults out.old ≤ O.faults out.new }
     ensures cause { OnErr result (Rose (O.faults out.old) (O.faults out.new)) }
 {
     let mut text = Text::new();
@@ -169,8 +170,8 @@ pub fn put_line_about<O: Sink>(out: &mut O, about: About, line: Line) -> Result<
 /// Writes a line about the command, in one write. After Failed a front of it is written.
 pub fn put_line<O: Sink>(out: &mut O, line: Line) -> Result<(), Failed>
     ensures told_before { O.tells out.new → O.tells out.old }
-    ensures writes { O.tells out.new → Writes (line_text line ++ codes "\n") result (O.written out.old) (O.written out.new) }
-    ensures calm { O.faults out.old ≤ O.faults out.new }
+    ensures writes { O.tells out.new → WritesText (line_text line ++ codes "\n") result (O.written out.old) (O.written out.new) }
+    ensures no_fewer_faults { O.faults out.old ≤ O.faults out.new }
     ensures cause { OnErr result (Rose (O.faults out.old) (O.faults out.new)) }
 {
     put_line_about(out, About::Command, line)

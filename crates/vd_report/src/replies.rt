@@ -3,18 +3,19 @@
 ghost use Rattle.std.specs.Prelude.{◌≡◌, ◌+◌, ◌<◌, ◌≤◌, ◌++◌, length, take, slice_range, slice_get, Some, OnErr, if◌then◌else◌, [], ℕ};
 ghost use Rattle.std.specs.List.{All, flat_map};
 ghost use Rattle.vd_law.specs.Entries.{Entry, entry_of, past};
-ghost use Rattle.vd_io.specs.Streams.{Rose, Writes};
+ghost use Rattle.vd_io.specs.Streams.{WritesText};
 ghost use Rattle.vd_report.specs.Tokens.{tokens};
 ghost use Rattle.vd_report.specs.Replies.{IsPrinted, HasText, answer_text, head_text, seen_in, seen_since_ask, seen_text, call_text, reply_text, guest_text, history_text};
 ghost use Rattle.vd_report.specs.LastAsks.{asked_next};
+ghost use Rattle.vd_law.specs.Counts.{Rose};
 
 use crate::sectors::put_tokens;
 use crate::text::{Text, push_number, push_phrase, push_word};
 use vd_io::Failed;
 use vd_io::sink::Sink;
 use vd_law::entry::{Answer, CallId, Event};
-use vd_law::history::History;
-use vd_law::log::Log;
+use vd_log::history::History;
+use vd_log::log::Log;
 
 fn push_answer(text: &mut Text, answer: Answer)
     requires room { length text.old.items + 53 ≤ 128 }
@@ -40,8 +41,8 @@ fn push_answer(text: &mut Text, answer: Answer)
 pub fn put_answer<O: Sink>(out: &mut O, answer: &Answer) -> Result<(), Failed>
     requires { IsPrinted answer.now }
     ensures told_before { O.tells out.new → O.tells out.old }
-    ensures writes { O.tells out.new → Writes (answer_text answer.now) result (O.written out.old) (O.written out.new) }
-    ensures calm { O.faults out.old ≤ O.faults out.new }
+    ensures writes { O.tells out.new → WritesText (answer_text answer.now) result (O.written out.old) (O.written out.new) }
+    ensures no_fewer_faults { O.faults out.old ≤ O.faults out.new }
     ensures cause { OnErr result (Rose (O.faults out.old) (O.faults out.new)) }
 {
     let mut text = Text::new();
@@ -53,8 +54,8 @@ pub fn put_answer<O: Sink>(out: &mut O, answer: &Answer) -> Result<(), Failed>
 fn put_head<O: Sink>(out: &mut O, id: CallId, answer: Answer) -> Result<(), Failed>
     requires { IsPrinted answer }
     ensures told_before { O.tells out.new → O.tells out.old }
-    ensures writes { O.tells out.new → Writes (head_text id answer) result (O.written out.old) (O.written out.new) }
-    ensures calm { O.faults out.old ≤ O.faults out.new }
+    ensures writes { O.tells out.new → WritesText (head_text id answer) result (O.written out.old) (O.written out.new) }
+    ensures no_fewer_faults { O.faults out.old ≤ O.faults out.new }
     ensures cause { OnErr result (Rose (O.faults out.old) (O.faults out.new)) }
 {
     let mut text = Text::new();
@@ -71,8 +72,8 @@ fn put_seen_at<O: Sink>(out: &mut O, log: &Log, at: u64, guest: u32) -> Result<(
     requires { at < length log.now.entries }
     ensures told_before { O.tells out.new → O.tells out.old }
     ensures writes { O.tells out.new → (e : Entry) → slice_get log.now.entries at ≡ Some e →
-        Writes (tokens (seen_in guest e)) result (O.written out.old) (O.written out.new) }
-    ensures calm { O.faults out.old ≤ O.faults out.new }
+        WritesText (tokens (seen_in guest e)) result (O.written out.old) (O.written out.new) }
+    ensures no_fewer_faults { O.faults out.old ≤ O.faults out.new }
     ensures cause { OnErr result (Rose (O.faults out.old) (O.faults out.new)) }
 {
     match log.event(at) {
@@ -91,8 +92,8 @@ fn put_seen<O: Sink>(out: &mut O, log: &Log, from: u64, to: u64, guest: u32) -> 
     requires inside { to ≤ length log.now.entries }
     ensures told_before { O.tells out.new → O.tells out.old }
     ensures writes { O.tells out.new →
-        Writes (tokens (flat_map (seen_in guest) (slice_range log.now.entries from to))) result (O.written out.old) (O.written out.new) }
-    ensures calm { O.faults out.old ≤ O.faults out.new }
+        WritesText (tokens (flat_map (seen_in guest) (slice_range log.now.entries from to))) result (O.written out.old) (O.written out.new) }
+    ensures no_fewer_faults { O.faults out.old ≤ O.faults out.new }
     ensures cause { OnErr result (Rose (O.faults out.old) (O.faults out.new)) }
 {
     for at in from..to {
@@ -114,8 +115,8 @@ fn put_seen_after<O: Sink>(
     requires inside { to ≤ length log.now.entries }
     ensures told_before { O.tells out.new → O.tells out.old }
     ensures writes { O.tells out.new →
-        Writes (seen_text answer (flat_map (seen_in guest) (slice_range log.now.entries from to))) result (O.written out.old) (O.written out.new) }
-    ensures calm { O.faults out.old ≤ O.faults out.new }
+        WritesText (seen_text answer (flat_map (seen_in guest) (slice_range log.now.entries from to))) result (O.written out.old) (O.written out.new) }
+    ensures no_fewer_faults { O.faults out.old ≤ O.faults out.new }
     ensures cause { OnErr result (Rose (O.faults out.old) (O.faults out.new)) }
 {
     match answer {
@@ -138,8 +139,8 @@ fn put_call<O: Sink>(
     requires inside { to ≤ length log.now.entries }
     ensures told_before { O.tells out.new → O.tells out.old }
     ensures writes { O.tells out.new →
-        Writes (call_text id answer (flat_map (seen_in id.pass) (slice_range log.now.entries from to))) result (O.written out.old) (O.written out.new) }
-    ensures calm { O.faults out.old ≤ O.faults out.new }
+        WritesText (call_text id answer (flat_map (seen_in id.pass) (slice_range log.now.entries from to))) result (O.written out.old) (O.written out.new) }
+    ensures no_fewer_faults { O.faults out.old ≤ O.faults out.new }
     ensures cause { OnErr result (Rose (O.faults out.old) (O.faults out.new)) }
 {
     put_head(out, id, answer)?;
@@ -155,8 +156,8 @@ fn put_reply<O: Sink>(out: &mut O, log: &Log, asked: u64, at: u64, guest: u32) -
     requires seen { flat_map (seen_in guest) (slice_range log.now.entries asked at) ≡ seen_since_ask (past (take at log.now.entries)) guest }
     ensures told_before { O.tells out.new → O.tells out.old }
     ensures writes { O.tells out.new → (e : Entry) → slice_get log.now.entries at ≡ Some e →
-        Writes (reply_text (past (take at log.now.entries)) e guest) result (O.written out.old) (O.written out.new) }
-    ensures calm { O.faults out.old ≤ O.faults out.new }
+        WritesText (reply_text (past (take at log.now.entries)) e guest) result (O.written out.old) (O.written out.new) }
+    ensures no_fewer_faults { O.faults out.old ≤ O.faults out.new }
     ensures cause { OnErr result (Rose (O.faults out.old) (O.faults out.new)) }
 {
     match log.event(at) {
@@ -184,8 +185,8 @@ fn asked_after(log: &Log, asked: u64, at: u64, guest: u32) -> u64
 fn put_guest<O: Sink>(out: &mut O, log: &Log, guest: u32) -> Result<(), Failed>
     requires { All HasText log.now.entries }
     ensures told_before { O.tells out.new → O.tells out.old }
-    ensures writes { O.tells out.new → Writes (guest_text (past log.now.entries) guest) result (O.written out.old) (O.written out.new) }
-    ensures calm { O.faults out.old ≤ O.faults out.new }
+    ensures writes { O.tells out.new → WritesText (guest_text (past log.now.entries) guest) result (O.written out.old) (O.written out.new) }
+    ensures no_fewer_faults { O.faults out.old ≤ O.faults out.new }
     ensures cause { OnErr result (Rose (O.faults out.old) (O.faults out.new)) }
 {
     let mut asked = 0;
@@ -201,8 +202,8 @@ fn put_guest<O: Sink>(out: &mut O, log: &Log, guest: u32) -> Result<(), Failed>
 pub fn put_history<O: Sink>(out: &mut O, history: &History, guests: u32) -> Result<(), Failed>
     requires { All HasText history.now.log.entries }
     ensures told_before { O.tells out.new → O.tells out.old }
-    ensures writes { O.tells out.new → Writes (history_text guests history.now.log.entries) result (O.written out.old) (O.written out.new) }
-    ensures calm { O.faults out.old ≤ O.faults out.new }
+    ensures writes { O.tells out.new → WritesText (history_text guests history.now.log.entries) result (O.written out.old) (O.written out.new) }
+    ensures no_fewer_faults { O.faults out.old ≤ O.faults out.new }
     ensures cause { OnErr result (Rose (O.faults out.old) (O.faults out.new)) }
 {
     for before in 0..guests {

@@ -2,8 +2,9 @@
 
 ghost use Rattle.std.specs.Prelude.{◌≡◌, ◌≤◌, ◌++◌, length, take, codes, OnErr};
 ghost use Rattle.hex.specs.Hex.{encode_lower};
-ghost use Rattle.vd_io.specs.Streams.{Rose, Writes};
+ghost use Rattle.vd_io.specs.Streams.{WritesText};
 ghost use Rattle.vd_report.specs.Tokens.{token, tokens, show_text};
+ghost use Rattle.vd_law.specs.Counts.{Rose};
 
 use crate::text::put_phrase;
 use vd_io::Failed;
@@ -34,8 +35,8 @@ fn long_token(sector: &Sector) -> [u8; 1025]
 /// case digits. After Failed a front of it is written.
 pub fn put_sector<O: Sink>(out: &mut O, sector: &Sector) -> Result<(), Failed>
     ensures told_before { O.tells out.new → O.tells out.old }
-    ensures writes { O.tells out.new → Writes (token sector.now.bytes) result (O.written out.old) (O.written out.new) }
-    ensures calm { O.faults out.old ≤ O.faults out.new }
+    ensures writes { O.tells out.new → WritesText (token sector.now.bytes) result (O.written out.old) (O.written out.new) }
+    ensures no_fewer_faults { O.faults out.old ≤ O.faults out.new }
     ensures cause { OnErr result (Rose (O.faults out.old) (O.faults out.new)) }
 {
     match sector.same() {
@@ -47,8 +48,8 @@ pub fn put_sector<O: Sink>(out: &mut O, sector: &Sector) -> Result<(), Failed>
 /// Writes a blank and a sector's token in one write.
 fn put_token<O: Sink>(out: &mut O, sector: &Sector) -> Result<(), Failed>
     ensures told_before { O.tells out.new → O.tells out.old }
-    ensures writes { O.tells out.new → Writes (codes " " ++ token sector.now.bytes) result (O.written out.old) (O.written out.new) }
-    ensures calm { O.faults out.old ≤ O.faults out.new }
+    ensures writes { O.tells out.new → WritesText (codes " " ++ token sector.now.bytes) result (O.written out.old) (O.written out.new) }
+    ensures no_fewer_faults { O.faults out.old ≤ O.faults out.new }
     ensures cause { OnErr result (Rose (O.faults out.old) (O.faults out.new)) }
 {
     match sector.same() {
@@ -60,8 +61,8 @@ fn put_token<O: Sink>(out: &mut O, sector: &Sector) -> Result<(), Failed>
 /// Writes the tokens of sectors, each behind a blank and in one write. After Failed a front of them is written.
 pub fn put_tokens<O: Sink>(out: &mut O, sectors: &[Sector]) -> Result<(), Failed>
     ensures told_before { O.tells out.new → O.tells out.old }
-    ensures writes { O.tells out.new → Writes (tokens sectors.now) result (O.written out.old) (O.written out.new) }
-    ensures calm { O.faults out.old ≤ O.faults out.new }
+    ensures writes { O.tells out.new → WritesText (tokens sectors.now) result (O.written out.old) (O.written out.new) }
+    ensures no_fewer_faults { O.faults out.old ≤ O.faults out.new }
     ensures cause { OnErr result (Rose (O.faults out.old) (O.faults out.new)) }
 {
     for sector in sectors {
@@ -74,8 +75,8 @@ pub fn put_tokens<O: Sink>(out: &mut O, sectors: &[Sector]) -> Result<(), Failed
 /// written.
 pub fn put_show<O: Sink>(out: &mut O, first: u64, sectors: &[Sector]) -> Result<(), Failed>
     ensures told_before { O.tells out.new → O.tells out.old }
-    ensures writes { O.tells out.new → Writes (show_text first sectors.now) result (O.written out.old) (O.written out.new) }
-    ensures calm { O.faults out.old ≤ O.faults out.new }
+    ensures writes { O.tells out.new → WritesText (show_text first sectors.now) result (O.written out.old) (O.written out.new) }
+    ensures no_fewer_faults { O.faults out.old ≤ O.faults out.new }
     ensures cause { OnErr result (Rose (O.faults out.old) (O.faults out.new)) }
 {
     put_phrase(out, b"show", &[first])?;

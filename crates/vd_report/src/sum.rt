@@ -2,16 +2,17 @@
 
 ghost use Rattle.std.specs.Prelude.{◌≡◌, ◌≤◌, OnErr};
 ghost use Rattle.vd_law.specs.Entries.{entry_of};
-ghost use Rattle.vd_io.specs.Streams.{Rose, Writes};
+ghost use Rattle.vd_io.specs.Streams.{WritesText};
 ghost use Rattle.vd_report.specs.Replies.{is_reply, sum_text};
-ghost use Rattle.vd_report.specs.Sums.{Counts, CanRise, CountsMore};
+ghost use Rattle.vd_report.specs.Sums.{SumsReplies, CanRise, CountsMore};
+ghost use Rattle.vd_law.specs.Counts.{Rose};
 
 use crate::text::{Text, push_phrase, push_word};
 use vd_io::Failed;
 use vd_io::sink::Sink;
 use vd_law::entry::{Answer, Event};
-use vd_law::history::History;
-use vd_law::log::Log;
+use vd_log::history::History;
+use vd_log::log::Log;
 
 /// How many replies of each kind there were.
 #[derive(Clone, Copy, Drop)]
@@ -69,7 +70,7 @@ fn with_entry(sum: Sum, event: Event<'_>, guests: u32) -> Sum
 }
 
 fn sum_of(log: &Log, guests: u32) -> Sum
-    ensures { Counts guests log.now.entries result }
+    ensures { SumsReplies guests log.now.entries result }
 {
     let mut sum = Sum {
         ok: 0,
@@ -87,8 +88,8 @@ fn sum_of(log: &Log, guests: u32) -> Sum
 /// counts the faults of both devices. After Failed a front of it is written.
 pub fn put_sum<O: Sink>(out: &mut O, history: &History, guests: u32) -> Result<(), Failed>
     ensures told_before { O.tells out.new → O.tells out.old }
-    ensures writes { O.tells out.new → Writes (sum_text guests history.now.log.entries) result (O.written out.old) (O.written out.new) }
-    ensures calm { O.faults out.old ≤ O.faults out.new }
+    ensures writes { O.tells out.new → WritesText (sum_text guests history.now.log.entries) result (O.written out.old) (O.written out.new) }
+    ensures no_fewer_faults { O.faults out.old ≤ O.faults out.new }
     ensures cause { OnErr result (Rose (O.faults out.old) (O.faults out.new)) }
 {
     let sum = sum_of(history.log(), guests);

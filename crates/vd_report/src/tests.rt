@@ -14,7 +14,7 @@ use crate::sum::put_sum;
 use std::test::Fail;
 use vd_io::mem_sink::MemSink;
 use vd_law::entry::{Answer, CallId, Event, Request, Room, Sector};
-use vd_law::history::History;
+use vd_log::history::History;
 
 /// Appends an event at number 0.
 fn note(history: &mut History, event: Event<'_>)

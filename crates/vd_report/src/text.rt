@@ -1,8 +1,9 @@
 //! A short text that is put together on the stack, to be written at once.
 
 ghost use Rattle.std.specs.Prelude.{◌≡◌, ◌+◌, ◌*◌, ◌≤◌, ◌++◌, length, codes, decimal, OnErr};
-ghost use Rattle.vd_io.specs.Streams.{Rose, Writes};
+ghost use Rattle.vd_io.specs.Streams.{WritesText};
 ghost use Rattle.vd_report.specs.Lines.{phrase};
+ghost use Rattle.vd_law.specs.Counts.{Rose};
 
 use arrayvec::ArrayVec;
 use itoa::Buffer;
@@ -50,8 +51,8 @@ pub fn push_phrase(text: &mut Text, words: &[u8], numbers: &[u64])
 pub fn put_phrase<O: Sink>(out: &mut O, words: &[u8], numbers: &[u64]) -> Result<(), Failed>
     requires { length words.now + 21 * length numbers.now ≤ 128 }
     ensures told_before { O.tells out.new → O.tells out.old }
-    ensures writes { O.tells out.new → Writes (phrase words.now numbers.now) result (O.written out.old) (O.written out.new) }
-    ensures calm { O.faults out.old ≤ O.faults out.new }
+    ensures writes { O.tells out.new → WritesText (phrase words.now numbers.now) result (O.written out.old) (O.written out.new) }
+    ensures no_fewer_faults { O.faults out.old ≤ O.faults out.new }
     ensures cause { OnErr result (Rose (O.faults out.old) (O.faults out.new)) }
 {
     let mut text = Text::new();

@@ -2,37 +2,37 @@
 use Rattle.std.proofs.Common.{◌≡◌, inl, inr, ℕ, Bool, true, not, List, Option, None, sym, refl, ◌∙◌, subst}
 use Rattle.std.proofs.lemmas.Bool.{and_parts, or_cases, or_left}
 use Rattle.vd_law.specs.Entries.{Entry}
-use Rattle.vd_law.specs.Histories.{Numbered}
-use Rattle.vd_table.specs.Tables.{Given}
-use Rattle.vd_crash.specs.Safe.{Opening}
-use Rattle.vd_crash.specs.Words.{with_blocks}
-use Rattle.vd_primitives.specs.Core.{Resting}
-use Rattle.vd_primitives.specs.Primitives.{State, state}
-use Rattle.vd_primitives.specs.Primitives.IsPrimitive.{Adopts}
-use Rattle.vd_primitives.specs.Keeping.{KeepsCrashSafety}
-use Rattle.vd_primitives.proofs.Keeping.{primitive_keeps}
-use Rattle.vd_meta.specs.Keeping.{Keeping}
-use Rattle.vd_meta.specs.Moves.{without, adopting}
-use Rattle.vd_meta.proofs.Rows.{get_or-either, get_or-without}
+use Rattle.vd_law.specs.Histories.{HistoryState}
+use Rattle.vd_table.specs.Tables.{TableState}
+use Rattle.vd_crash.specs.facts.Safe.{Opening}
+use Rattle.vd_crash.specs.facts.Words.{with_blocks}
+use Rattle.vd_crash.specs.primitives.Core.{Resting}
+use Rattle.vd_crash.specs.primitives.Primitives.{State, state}
+use Rattle.vd_crash.specs.primitives.Primitives.IsPrimitive.{Adopts}
+use Rattle.vd_crash.specs.primitives.Keeping.{KeepsCrashSafety}
+use Rattle.vd_crash.proofs.primitives.Keeping.{primitive_keeps}
+use Rattle.vd_keeper.specs.Keeping.{KeeperState}
+use Rattle.vd_keeper.specs.Moves.{difference_of, after_adopt}
+use Rattle.vd_keeper.proofs.Rows.{get_or-either, get_or-without}
 use Rattle.vd_passes.specs.declared.pass.Pass.{Pass}
-use Rattle.vd_safety.specs.Mirrors.{bit_of, IsStageOf, Mirrors, IsSecured}
+use Rattle.vd_safety.specs.Mirrors.{bit_of, IsStageOf, Mirrors, HasSafeMirror}
 use Rattle.vd_safety.proofs.Stepping.{keeps-at}
 
 owed-local : (o : Opening) (s : State) → KeepsCrashSafety o s → (b : ℕ) → s.memory.owed b ≡ true → s.memory.fresh b ≡ true
 unfolding KeepsCrashSafety
 owed-local o s keeps = keeps.core.holds.blocks.owed_local
 
-module _ {o : Opening} {table : Given} {fresh : List Bool} {k : Keeping} {flusher : Option ℕ} {passes : List Pass} {history : Numbered} {log : List Entry} where
-  pub adopt-secured : flusher ≡ None → IsSecured o table fresh k flusher passes history log → IsSecured o table fresh (adopting fresh k) flusher passes history log
+module _ {o : Opening} {table : TableState} {fresh : List Bool} {k : KeeperState} {flusher : Option ℕ} {passes : List Pass} {history : HistoryState} {log : List Entry} where
+  pub adopt-secured : flusher ≡ None → HasSafeMirror o table fresh k flusher passes history log → HasSafeMirror o table fresh (after_adopt fresh k) flusher passes history log
   adopt-secured idle was =
       let s : State = was.state in
       let mirrors = was.mirrors in
-      let k' : Keeping = adopting fresh k in
+      let k' : KeeperState = after_adopt fresh k in
       let owed : ℕ → Bool = λ b. bit_of k'.owed b in
       let resting : s.stage ≡ Resting = subst (λ (f : Option ℕ). IsStageOf f o k passes s.stage) idle mirrors.stage in
-      let more : (c : ℕ) → s.memory.owed c ≡ true → owed c ≡ true = λ c on. get_or-either k.owed (without fresh k.stale) c ∙ or_left (bit_of k.owed c) (bit_of (without fresh k.stale) c) (sym (mirrors.owed c) ∙ on) in
+      let more : (c : ℕ) → s.memory.owed c ≡ true → owed c ≡ true = λ c on. get_or-either k.owed (difference_of fresh k.stale) c ∙ or_left (bit_of k.owed c) (bit_of (difference_of fresh k.stale) c) (sym (mirrors.owed c) ∙ on) in
       let local : (c : ℕ) → owed c ≡ true → s.memory.fresh c ≡ true =
-      λ c on. elim (or_cases (bit_of k.owed c) (bit_of (without fresh k.stale) c) (sym (get_or-either k.owed (without fresh k.stale) c) ∙ on)) [
+      λ c on. elim (or_cases (bit_of k.owed c) (bit_of (difference_of fresh k.stale) c) (sym (get_or-either k.owed (difference_of fresh k.stale) c) ∙ on)) [
         | inl old ↦ owed-local o s was.keeps c (mirrors.owed c ∙ old)
         | inr new ↦ mirrors.fresh_is c ∙ (and_parts (bit_of fresh c) (not (bit_of k.stale c)) (sym (get_or-without fresh k.stale c) ∙ new)).0
       ] in

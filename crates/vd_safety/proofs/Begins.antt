@@ -1,45 +1,45 @@
 -- A flush begins, or is not begun at the last generation.
-use Rattle.vd_flushes.specs.Flushing.{snapshot_of}
+use Rattle.vd_crash.specs.flushes.Flushing.{snapshot_of}
 use Rattle.std.proofs.Common.{◌≡◌, inl, inr, ℕ, zero, suc, ◌+◌, ◌-◌, ◌/◌, Bool, true, false, not, cond, List, [], ◌∷◌, ◌++◌, length, Option, Some, None, slice_get, slice_set, sym, refl, ap, ◌∙◌, arith, subst}
 use Rattle.std.specs.Prelude.{◌||◌, nat_lt}
 use Rattle.std.specs.List.{list_any}
 use Rattle.std.proofs.lemmas.Bool.{or_parts, not-false, or_left}
 use Rattle.vd_law.specs.Entries.{Entry, Ask, Flush}
-use Rattle.vd_law.specs.Histories.{Numbered}
+use Rattle.vd_law.specs.Histories.{HistoryState}
 use Rattle.vd_device.specs.declared.store.Store as store
 use Rattle.vd_device.specs.declared.ticket.Ticket.{Ticket}
 use Rattle.vd_device.specs.declared.ticket.Kind.{Kind}
 use Rattle.vd_device.specs.Tickets.{ticket_id}
 use Rattle.vd_format.specs.declared.header.Header.{Header}
 use Rattle.vd_format.specs.Layouts.{map_start}
-use Rattle.vd_table.specs.Tables.{Given}
+use Rattle.vd_table.specs.Tables.{TableState}
 use Rattle.vd_image.specs.Log.{At}
-use Rattle.vd_crash.specs.Safe.{Opening, NumberedEntry, numbered}
-use Rattle.vd_crash.specs.Facts as crash
-use Rattle.vd_flushes.specs.Stage.{Idle as NoFlight}
-use Rattle.vd_primitives.specs.Core.{Resting, Sending}
-use Rattle.vd_primitives.specs.Primitives.{State, state}
-use Rattle.vd_primitives.specs.Primitives.IsPrimitive.{Begins, Marks}
-use Rattle.vd_primitives.proofs.Keeping.{primitive_keeps}
-use Rattle.vd_meta.specs.declared.stage.Stage.TheVariants.{DataFlush, Syncs, Seals}
-use Rattle.vd_meta.specs.declared.stage.Way as way
-use Rattle.vd_meta.specs.declared.stage.Way.TheVariants as ways
-use Rattle.vd_meta.specs.declared.stage.Route as route
-use Rattle.vd_meta.specs.declared.stage.Route.TheVariants as routes
-use Rattle.vd_meta.specs.Keeping.{Keeping, pages_of, nothing}
-use Rattle.vd_meta.specs.Entries.{chunks_with}
-use Rattle.vd_meta.specs.Flushes.{IsKeeping, is_recycle, records_for, last_generation}
-use Rattle.vd_meta.specs.Moves.{way_of, none_of, begun}
-use Rattle.vd_meta.proofs.Rows.{get_or-nothing}
-use Rattle.vd_meta.proofs.NextChunks.{any-none}
+use Rattle.vd_crash.specs.facts.Safe.{Opening, NumberedEntry, numbered}
+use Rattle.vd_crash.specs.facts.Facts as crash
+use Rattle.vd_crash.specs.flushes.Stage.{Idle as NoFlight}
+use Rattle.vd_crash.specs.primitives.Core.{Resting, Sending}
+use Rattle.vd_crash.specs.primitives.Primitives.{State, state}
+use Rattle.vd_crash.specs.primitives.Primitives.IsPrimitive.{Begins, Marks}
+use Rattle.vd_crash.proofs.primitives.Keeping.{primitive_keeps}
+use Rattle.vd_keeper.specs.declared.stage.Stage.TheVariants.{DataFlush, Syncs, Seals}
+use Rattle.vd_keeper.specs.declared.stage.Way as way
+use Rattle.vd_keeper.specs.declared.stage.Way.TheVariants as ways
+use Rattle.vd_keeper.specs.declared.stage.Route as route
+use Rattle.vd_keeper.specs.declared.stage.Route.TheVariants as routes
+use Rattle.vd_keeper.specs.Keeping.{KeeperState, pages_of, no_marks}
+use Rattle.vd_keeper.specs.Entries.{chunks_with}
+use Rattle.vd_keeper.specs.Flushes.{IsKeeping, is_recycle, records_for, last_generation}
+use Rattle.vd_keeper.specs.Moves.{way_of, none_of, after_begin}
+use Rattle.vd_keeper.proofs.Rows.{get_or-nothing}
+use Rattle.vd_keeper.proofs.NextChunks.{any-none}
 use Rattle.vd_passes.specs.declared.shape.Shape.{Shape}
 use Rattle.vd_passes.specs.declared.pass.Pass.{Pass}
 use Rattle.vd_passes.specs.declared.pass.Phase.TheVariants.{Asked}
 use Rattle.vd_passes.specs.declared.pass.Fault.TheVariants.{Worn}
-use Rattle.vd_passes.specs.Passes.{call_of, after_meta, after_flush}
+use Rattle.vd_passes.specs.Passes.{call_id, after_meta, after_flush}
 use Rattle.vd_passes.specs.Steps.{meta_entry}
 use Rattle.vd_metadata.specs.Flushing.{meta_state, BeginsFlush, IsWornOut}
-use Rattle.vd_safety.specs.Mirrors.{bit_of, IsStageOf, IsBegunOf, IsOfHeader, IsSecured}
+use Rattle.vd_safety.specs.Mirrors.{bit_of, IsStageOf, IsBegunOf, IsOfHeader, HasSafeMirror}
 use Rattle.vd_safety.proofs.Records.{by-header}
 use Rattle.vd_safety.proofs.Marked.{chunk-among, chunk-inside, page-among, still-marked}
 use Rattle.vd_safety.proofs.Updates.{updated-same}
@@ -68,19 +68,19 @@ chosen-tracked false true t u e = absurd cc
 chosen-tracked false false t u e = absurd cc
 
 -- one that is no recycle has a sure header
-way-sure : (route : route.Route) (k : Keeping) → is_recycle (way_of route k) ≡ false → k.sure ≡ true
+way-sure : (route : route.Route) (k : KeeperState) → is_recycle (way_of route k) ≡ false → k.sure ≡ true
 unfolding way_of
 way-sure (routes.Recycle t) k e = absurd cc
 way-sure routes.Owed k e =
     let big = nat_lt (k.header.slots - k.next) (records_for (length (chunks_with k.header k.owed))) in
     not-false k.sure (or_parts (not k.sure) big (chosen-sure (not k.sure || big) (none_of k.owed) k.header.tracked e)).0
 
-way-none : (route : route.Route) (k : Keeping) → way_of route k ≡ ways.Nothing → none_of k.owed ≡ true
+way-none : (route : route.Route) (k : KeeperState) → way_of route k ≡ ways.Nothing → none_of k.owed ≡ true
 unfolding way_of
 way-none (routes.Recycle t) k e = absurd cc
 way-none routes.Owed k e = chosen-none (not k.sure || nat_lt (k.header.slots - k.next) (records_for (length (chunks_with k.header k.owed)))) (none_of k.owed) k.header.tracked e
 
-way-same : (route : route.Route) (k : Keeping) (t : ℕ) → ((u : ℕ) → route ≡ routes.Recycle u → u ≡ k.header.tracked) → way_of route k ≡ ways.Recycle t → t ≡ k.header.tracked
+way-same : (route : route.Route) (k : KeeperState) (t : ℕ) → ((u : ℕ) → route ≡ routes.Recycle u → u ≡ k.header.tracked) → way_of route k ≡ ways.Recycle t → t ≡ k.header.tracked
 unfolding way_of
 way-same (routes.Recycle u) k t same e = same t (ap routes.Recycle cc)
 way-same routes.Owed k t same e = chosen-tracked (not k.sure || nat_lt (k.header.slots - k.next) (records_for (length (chunks_with k.header k.owed)))) (none_of k.owed) k.header.tracked t e
@@ -93,7 +93,7 @@ none-not bits e = any-none bits (flip (list_any (λ b. b) bits) e)
     flip false e = refl
 
 -- what it was begun with
-begun-of : (route : route.Route) (k : Keeping) → IsKeeping k → k.put ≡ nothing (pages_of k.header) → IsBegunOf (begun route k)
+begun-of : (route : route.Route) (k : KeeperState) → IsKeeping k → k.put ≡ no_marks (pages_of k.header) → IsBegunOf (after_begin route k)
 begun-of route k kept none = record {
   surely = way-sure route k;
   behind = λ either b is. page-among k.header k.marked (chunks_with k.header k.owed) (b / k.header.chunk) (chunk-among k.header kept.valid k.owed kept.owed_size b is) (chunk-inside k.header kept.valid k.owed kept.owed_size b is);
@@ -122,7 +122,7 @@ numbered-there (d ∷ es) (n ∷ ns) (suc a) e same at = numbered-there es ns a 
 -- ---- which sectors of the map are marked
 
 -- a sector of the map by its place
-pub page-of : (h : Header) (o : Opening) (k : Keeping) → IsOfHeader h o k → (c : ℕ) → o.layout.map_at c - map_start k.header ≡ c / 32
+pub page-of : (h : Header) (o : Opening) (k : KeeperState) → IsOfHeader h o k → (c : ℕ) → o.layout.map_at c - map_start k.header ≡ c / 32
 page-of h o k of c = by-header h o k of (λ p. p.layout.map_at c - map_start k.header ≡ c / 32) (past (map_start k.header) (c / 32))
   where
     past : (a b : ℕ) → a + b - a ≡ b
@@ -140,10 +140,10 @@ or-is x y true e more = absurd cc
 
 -- ---- it begins
 
-module _ {h : Header} {o : Opening} {shape : Shape} {table : Given} {fresh : List Bool} {k k' : Keeping} {flusher : Option ℕ} {passes passes' : List Pass} {history : Numbered} {i : ℕ} {S : Type 0} {g : store.Ghosts S} {from to : S} {asked : route.Route} where
+module _ {h : Header} {o : Opening} {shape : Shape} {table : TableState} {fresh : List Bool} {k k' : KeeperState} {flusher : Option ℕ} {passes passes' : List Pass} {history : HistoryState} {i : ℕ} {S : Type 0} {g : store.Ghosts S} {from to : S} {asked : route.Route} where
   pub begin-secured : IsFlushing h o shape table fresh k flusher passes (g.last from) → BeginsFlush g asked shape i (meta_state k passes) (meta_state k' passes') from to → flusher ≡ None
-      → ((t : ℕ) → asked ≡ routes.Recycle t → t ≡ k.header.tracked) → ((p : Pass) → slice_get passes i ≡ Some p → p.phase ≡ Asked → p.flush ≡ true → (a : ℕ) × At history.log.entries a (Ask (call_of i p) Flush)) → g.tells to
-      → IsSecured o table fresh k flusher passes history (g.disk from).log → IsSecured o table fresh k' (Some i) passes' history (g.disk to).log
+      → ((t : ℕ) → asked ≡ routes.Recycle t → t ≡ k.header.tracked) → ((p : Pass) → slice_get passes i ≡ Some p → p.phase ≡ Asked → p.flush ≡ true → (a : ℕ) × At history.log.entries a (Ask (call_id i p) Flush)) → g.tells to
+      → HasSafeMirror o table fresh k flusher passes history (g.disk from).log → HasSafeMirror o table fresh k' (Some i) passes' history (g.disk to).log
   begin-secured around step idle same ask told was =
       let s : State = was.state in
       let mirrors = was.mirrors in
@@ -153,26 +153,26 @@ module _ {h : Header} {o : Opening} {shape : Shape} {table : Given} {fresh : Lis
       let there = step.sends.there in
       let kept : IsKeeping k = around.attended.keeping in
       let rests = kept.at_rest (around.attended.resting idle) in
-      let new : Keeping = begun asked k in
+      let new : KeeperState = after_begin asked k in
       let marks : ℕ → Bool = λ a. s.marked a || bit_of new.marked (a - map_start k.header) in
       let found = ask p there step.asked step.sends.serves in
-      let entry = numbered-there history.log.entries history.numbers found.0 (Ask (call_of i p) Flush) mirrors.many found.1 in
-      let numbered_at : crash.Numbered s.history found.0 entry.0 (Ask (call_of i p) Flush) = ap (λ (es : List NumberedEntry). slice_get es found.0) mirrors.history_is ∙ entry.1 in
+      let entry = numbered-there history.log.entries history.numbers found.0 (Ask (call_id i p) Flush) mirrors.many found.1 in
+      let numbered_at : crash.HasEntry s.history found.0 entry.0 (Ask (call_id i p) Flush) = ap (λ (es : List NumberedEntry). slice_get es found.0) mirrors.history_is ∙ entry.1 in
       let resting : s.stage ≡ Resting = subst (λ (f : Option ℕ). IsStageOf f o k passes s.stage) idle mirrors.stage in
       let keeps = keeps-at o s Resting resting was.keeps in
       let marked = primitive_keeps o (state s.log s.history s.memory s.marked s.flights Resting) (state s.log s.history s.memory marks s.flights Resting)
       (Marks s.log s.history s.memory s.marked marks s.flights Resting (λ a is. or_left (s.marked a) (bit_of new.marked (a - map_start k.header)) is)) keeps in
-      let after = primitive_keeps o (state s.log s.history s.memory marks s.flights Resting) (state (s.log ++ Ask (ticket_id t) Flush ∷ []) s.history s.memory marks s.flights (Sending (call_of i p) found.0 entry.0 (length s.log) (snapshot_of s.memory s.history) (ticket_id t)))
-      (Begins s.log s.history s.memory marks s.flights (call_of i p) (ticket_id t) found.0 entry.0 numbered_at) marked in
+      let after = primitive_keeps o (state s.log s.history s.memory marks s.flights Resting) (state (s.log ++ Ask (ticket_id t) Flush ∷ []) s.history s.memory marks s.flights (Sending (call_id i p) found.0 entry.0 (length s.log) (snapshot_of s.memory s.history) (ticket_id t)))
+      (Begins s.log s.history s.memory marks s.flights (call_id i p) (ticket_id t) found.0 entry.0 numbered_at) marked in
       let bare : is_bare p.phase ≡ true = ap is_bare step.asked in
       let mine = moved o table fresh k flusher passes history (g.disk from).log s mirrors i p p' there new (Some i) ((g.disk from).log ++ Ask (ticket_id t) Flush ∷ []) (s.log ++ Ask (ticket_id t) Flush ∷ []) s.memory.index.sure s.memory.index.cursor marks
-      (Sending (call_of i p) found.0 entry.0 (length s.log) (snapshot_of s.memory s.history) (ticket_id t)) bare
+      (Sending (call_id i p) found.0 entry.0 (length s.log) (snapshot_of s.memory s.history) (ticket_id t)) bare
       (ap (λ (l : List Entry). l ++ Ask (ticket_id t) Flush ∷ []) mirrors.log_is) (record { header = refl; stale = refl; owed = refl }) mirrors.sure mirrors.cursor (λ u is. way-same asked k u same is)
       (λ c inside. let here = page-of h o k around.header c in let empty : bit_of k.put (c / 32) ≡ false = ap (λ (xs : List Bool). bit_of xs (c / 32)) rests.1 ∙ get_or-nothing (pages_of k.header) (c / 32) in
       ap (λ (x : Bool). x || bit_of new.marked (o.layout.map_at c - map_start k.header)) (mirrors.marked c inside) ∙ ap (λ (page : ℕ). (bit_of k.marked (c / 32) || bit_of k.put (c / 32)) || bit_of new.marked page) here
       ∙ or-is (bit_of k.marked (c / 32)) (bit_of new.marked (c / 32)) (bit_of k.put (c / 32)) empty (still-marked k.header k.marked (chunks_with k.header k.owed) (c / 32)))
       (flights-after o table fresh k flusher passes history (g.disk from).log s mirrors i p p' there bare refl)
-      (stage-by DataFlush false (Some t) i p p' o new passes (Sending (call_of i p) found.0 entry.0 (length s.log) (snapshot_of s.memory s.history) (ticket_id t)) there refl refl refl (begun-of asked k kept rests.1) (
+      (stage-by DataFlush false (Some t) i p p' o new passes (Sending (call_id i p) found.0 entry.0 (length s.log) (snapshot_of s.memory s.history) (ticket_id t)) there refl refl refl (begun-of asked k kept rests.1) (
         found.0,
         entry.0,
         length s.log,
@@ -190,8 +190,8 @@ module _ {h : Header} {o : Opening} {shape : Shape} {table : Given} {fresh : Lis
       (tale.log ∙ ap (λ (kind : Kind). (g.disk from).log ++ meta_entry kind t [] ∷ []) step.kind) (record { state = _; keeps = after; mirrors = mine })
 
 -- or not, at the last generation
-module _ {o : Opening} {table : Given} {fresh : List Bool} {k : Keeping} {flusher : Option ℕ} {passes passes' : List Pass} {history : Numbered} {log : List Entry} {i : ℕ} {asked : route.Route} where
-  pub worn-secured : IsWornOut asked i k passes passes' → flusher ≡ None → IsSecured o table fresh k flusher passes history log → IsSecured o table fresh k flusher passes' history log
+module _ {o : Opening} {table : TableState} {fresh : List Bool} {k : KeeperState} {flusher : Option ℕ} {passes passes' : List Pass} {history : HistoryState} {log : List Entry} {i : ℕ} {asked : route.Route} where
+  pub worn-secured : IsWornOut asked i k passes passes' → flusher ≡ None → HasSafeMirror o table fresh k flusher passes history log → HasSafeMirror o table fresh k flusher passes' history log
   worn-secured step idle was =
       let s : State = was.state in
       let mirrors = was.mirrors in

@@ -5,7 +5,7 @@ use Rattle.std.specs.List.{fold}
 use Rattle.std.proofs.lemmas.Bool.{eqb-true, eq-eqb}
 use Rattle.vd_law.specs.declared.entry.CallId.{CallId}
 use Rattle.vd_law.specs.Entries.{Asked, Entry, Ask, Issue, Done, Broke, Seen, Reply, same_call, Past, nothing, ◌▸◌, past}
-use Rattle.vd_law.specs.Calls.{Progress, progress, gone_on, last_call}
+use Rattle.vd_law.specs.Calls.{Progress, progress, progress_after, last_call}
 use Rattle.vd_law.specs.Rules.{Each, IsInTurn}
 use Rattle.vd_law.proofs.Opening.{case, same_call-is}
 use Rattle.vd_law.proofs.OpenLaws.{progress-own, progress-other}
@@ -66,11 +66,11 @@ still size p (Ask c request) id r turn low is = elim (case (same_call c id)) [
   | inl same ↦ absurd (not-again size p id request (subst (λ (d : CallId). IsInTurn size p (Ask d request)) (same_call-is c id same) turn) low)
   | inr differ ↦ ap (λ (g : Progress). g.asked) (progress-other p (Ask c request) id differ) ∙ is
 ]
-still size p (Issue c first content) id r turn low is = still_asked (same_call c id) (progress p id) (gone_on (progress p id) (Issue c first content)) refl ∙ is
-still size p (Done c) id r turn low is = still_asked (same_call c id) (progress p id) (gone_on (progress p id) (Done c)) refl ∙ is
-still size p (Broke c) id r turn low is = still_asked (same_call c id) (progress p id) (gone_on (progress p id) (Broke c)) refl ∙ is
-still size p (Seen c first content) id r turn low is = still_asked (same_call c id) (progress p id) (gone_on (progress p id) (Seen c first content)) refl ∙ is
-still size p (Reply c answer) id r turn low is = still_asked (same_call c id) (progress p id) (gone_on (progress p id) (Reply c answer)) refl ∙ is
+still size p (Issue c first content) id r turn low is = still_asked (same_call c id) (progress p id) (progress_after (progress p id) (Issue c first content)) refl ∙ is
+still size p (Done c) id r turn low is = still_asked (same_call c id) (progress p id) (progress_after (progress p id) (Done c)) refl ∙ is
+still size p (Broke c) id r turn low is = still_asked (same_call c id) (progress p id) (progress_after (progress p id) (Broke c)) refl ∙ is
+still size p (Seen c first content) id r turn low is = still_asked (same_call c id) (progress p id) (progress_after (progress p id) (Seen c first content)) refl ∙ is
+still size p (Reply c answer) id r turn low is = still_asked (same_call c id) (progress p id) (progress_after (progress p id) (Reply c answer)) refl ∙ is
 
 stays-asked : (size : ℕ) (es : List Entry) (p : Past) (id : CallId) (r : Asked) → Each (IsInTurn size) (fold ◌▸◌ p es) → id.call ≤ last_call p id.pass → (progress p id).asked ≡ Some r → (progress (fold ◌▸◌ p es) id).asked ≡ Some r
 stays-asked size [] p id r each low is = is

@@ -8,14 +8,13 @@ use Rattle.std.proofs.lemmas.Option.{slice_get_within, get_or_from_slice_get}
 use Rattle.std.proofs.lemmas.List.{append_assoc, append-nil}
 use Rattle.vd_law.specs.declared.entry.Sector.{Sector}
 use Rattle.vd_law.specs.Entries.{Entry, Ask, Issue, Done, Broke, Seen, Reply, Past, nothing, ◌▸◌, past}
-use Rattle.vd_law.specs.Contents.{sector_in, written, Open, is_of, is_of_another, open_writes, settled, looked_at, could, could_after, last_done, firm_after, versions, may}
+use Rattle.vd_law.specs.Contents.{sector_in, issued_contents, Open, is_of, is_of_another, open_writes, contents_after_done, contents_after_seen, could, could_after, last_done, firm_after, versions, may}
 use Rattle.vd_law.proofs.Appending.{last_done-le}
 use Rattle.vd_law.proofs.RuleLaws.{past-append}
 use Rattle.vd_device.specs.Disks.{Disk, IsHonest, IsClean}
-use Rattle.vd_reading.specs.Quiet.{IsNoWrite}
+use Rattle.vd_device.specs.Quiet.{IsNoWrite}
 use Rattle.vd_image.specs.Log.{At, Writes, Ends, Flushes, May}
 use Rattle.vd_image.specs.CrashImages.{sectors_or}
-use Rattle.vd_image.specs.Made.{zero_sector}
 use Rattle.vd_image.proofs.Logs.{at_one, at_below, ends_push, flushes_push}
 use Rattle.vd_image.proofs.NthWrites.{list_of, list_of-fold, IsNth}
 use Rattle.vd_image.proofs.OpenWrites.{IsDoneNth, done_is}
@@ -24,6 +23,7 @@ use Rattle.vd_image.proofs.CrashImages.{at_inside, past_end}
 use Rattle.vd_replay.specs.Images.{image_of}
 use Rattle.vd_replay.proofs.ListLaws.{get_some}
 use Rattle.vd_safety.proofs.Orderly.{IsOrderly, OpenAt, IsAmong, could-may, could-last}
+use Rattle.vd_format.specs.Background.{zero_sector}
 
 -- The store was clean, and since then no write was begun and a flush was asked that succeeded.
 pub record WasClean (old new : Disk) : Type 0 where
@@ -46,7 +46,7 @@ AreInside d = (i a : ℕ) (v : Sector) → Writes d.log i a v → a < length d.s
 
 -- ---- entries that begin no write
 
-written_more : (more : List Entry) (p : Past) (s : ℕ) → AllByRecursion IsNoWrite more → written (fold ◌▸◌ p more) s ≡ written p s
+written_more : (more : List Entry) (p : Past) (s : ℕ) → AllByRecursion IsNoWrite more → issued_contents (fold ◌▸◌ p more) s ≡ issued_contents p s
 written_more [] p s none = refl
 written_more (Ask c request ∷ more) p s none = written_more more (p ▸ Ask c request) s none.1
 written_more (Issue c first content ∷ more) p s none = absurd none.0
@@ -86,26 +86,26 @@ firm_all old more s q flushes after = subst (λ (p : Past). last_done (past old)
         (record { done = h.1; asked = q; ends = k.1; before = omega (arith, below, size, after); flushes = subst (λ (l : List Entry). Flushes l q) (sym entries) flushes })
 
 -- Each content that a crash may leave is the last version.
-left_last : (old new : Disk) → WasClean old new → (a : ℕ) (x v : Sector) → slice_get old.start a ≡ Some x → Contains (may old.start new.log a) v → At (x ∷ written (past old.log) a) (length (written (past old.log) a)) v
-left_last old new was a x v told left = subst (λ (i : ℕ). At (x ∷ written (past old.log) a) i v) last here
+left_last : (old new : Disk) → WasClean old new → (a : ℕ) (x v : Sector) → slice_get old.start a ≡ Some x → Contains (may old.start new.log a) v → At (x ∷ issued_contents (past old.log) a) (length (issued_contents (past old.log) a)) v
+left_last old new was a x v told left = subst (λ (i : ℕ). At (x ∷ issued_contents (past old.log) a) i v) last here
   where
-    writes_same : written (past new.log) a ≡ written (past old.log) a
-    writes_same = ap (λ (l : List Entry). written (past l) a) was.log ∙ ap (λ (p : Past). written p a) (past-append old.log was.more nothing) ∙ written_more was.more (past old.log) a was.none
+    writes_same : issued_contents (past new.log) a ≡ issued_contents (past old.log) a
+    writes_same = ap (λ (l : List Entry). issued_contents (past l) a) was.log ∙ ap (λ (p : Past). issued_contents p a) (past-append old.log was.more nothing) ∙ written_more was.more (past old.log) a was.none
 
     listed : (k : ℕ) × At (may old.start new.log a) k v
     listed = contains_at (may old.start new.log a) v left
 
-    here : At (x ∷ written (past old.log) a) (firm_after (past new.log) a + listed.0) v
+    here : At (x ∷ issued_contents (past old.log) a) (firm_after (past new.log) a + listed.0) v
     here = subst (λ (ws : List Sector). At (x ∷ ws) (firm_after (past new.log) a + listed.0) v) writes_same
-        (subst (λ (o : Option Sector). At (option_to_list o ++ written (past new.log) a) (firm_after (past new.log) a + listed.0) v) told
+        (subst (λ (o : Option Sector). At (option_to_list o ++ issued_contents (past new.log) a) (firm_after (past new.log) a + listed.0) v) told
         (at_dropped (firm_after (past new.log) a) (versions old.start (past new.log) a) listed.0 (firm_after (past new.log) a + listed.0) v refl listed.1))
 
     firm : last_done (past old.log) a ≤ firm_after (past new.log) a
     firm = subst (λ (l : List Entry). last_done (past old.log) a ≤ firm_after (past l) a) (sym was.log)
         (firm_all old.log was.more a was.flush (subst (λ (l : List Entry). Flushes l was.flush) was.log was.flushes) was.after)
 
-    last : firm_after (past new.log) a + listed.0 ≡ length (written (past old.log) a)
-    last = let below = at_below (x ∷ written (past old.log) a) (firm_after (past new.log) a + listed.0) v here in let done = (was.clean a).1 in omega (arith, below, firm, done)
+    last : firm_after (past new.log) a + listed.0 ≡ length (issued_contents (past old.log) a)
+    last = let below = at_below (x ∷ issued_contents (past old.log) a) (firm_after (past new.log) a + listed.0) v here in let done = (was.clean a).1 in omega (arith, below, firm, done)
 
 clean_left : (zeros : Sector) (old new : Disk) → WasClean old new → AreLeft new → length new.held ≡ length new.start → AreInside new → (a : ℕ) (v : Sector) → May (sectors_or zeros new.start) new.log a v → v ≡ sectors_or zeros new.held a
 clean_left zeros old new was held size inside a v left = elim (cases_lt a (length new.start)) [
@@ -123,7 +123,7 @@ clean_left zeros old new was held size inside a v left = elim (cases_lt a (lengt
         let listed = (may_is_exact new.start (sectors_or zeros new.start) new.log a v (at_inside zeros new.start a within)).1 left in
         let one = left_last old new was a x v begun (subst (λ (xs : List Sector). Contains (may xs new.log a) v) was.start listed) in
         let two = left_last old new was a x u begun (subst (λ (xs : List Sector). Contains (may xs new.log a) u) was.start (held a u holds)) in
-        at_one (x ∷ written (past old.log) a) (length (written (past old.log) a)) v u one two ∙ sym (get_or_from_slice_get new.held a u zeros holds)
+        at_one (x ∷ issued_contents (past old.log) a) (length (issued_contents (past old.log) a)) v u one two ∙ sym (get_or_from_slice_get new.held a u zeros holds)
 
 -- Every content that a crash may leave is what is held.
 pub clean-left : (old new : Disk) → WasClean old new → AreLeft new → length new.held ≡ length new.start → AreInside new → (a : ℕ) (v : Sector) → May (sectors_or zero_sector new.start) new.log a v → v ≡ image_of new.held a
@@ -150,7 +150,7 @@ open_more (Reply c answer ∷ more) p s none calm = open_more more (p ▸ Reply 
 abbrev SeenLast : List Sector → List Sector → Type 0
 SeenLast before now = (now ≡ before) ⊎ ((g : Sector) × (now ≡ g ∷ []))
 
-seen_last : (before : List Sector) (o : Option Sector) (others : Bool) → SeenLast before (looked_at o others before)
+seen_last : (before : List Sector) (o : Option Sector) (others : Bool) → SeenLast before (contents_after_seen o others before)
 seen_last before None others = inl refl
 seen_last before (Some v) true = inl refl
 seen_last before (Some v) false = inr (v, refl)
@@ -165,7 +165,7 @@ could_more start [] p s none calm = inl refl
 could_more start (Ask c request ∷ more) p s none calm = could_more start more (p ▸ Ask c request) s none.1 calm
 could_more start (Issue c first content ∷ more) p s none calm = absurd none.0
 could_more start (Done c ∷ more) p s none calm =
-    seen_then (could_after start p s) (could_after start (p ▸ Done c) s) (could_after start (fold ◌▸◌ (p ▸ Done c) more) s) (inl (ap (λ (ws : List Open). settled (find (is_of c) ws) (could_after start p s)) calm))
+    seen_then (could_after start p s) (could_after start (p ▸ Done c) s) (could_after start (fold ◌▸◌ (p ▸ Done c) more) s) (inl (ap (λ (ws : List Open). contents_after_done (find (is_of c) ws) (could_after start p s)) calm))
     (could_more start more (p ▸ Done c) s none.1 (ap (λ (ws : List Open). filter (is_of_another c) ws) calm))
 could_more start (Broke c ∷ more) p s none calm = could_more start more (p ▸ Broke c) s none.1 (ap (λ (ws : List Open). filter (is_of_another c) ws) calm)
 could_more start (Seen c first content ∷ more) p s none calm =
@@ -185,22 +185,22 @@ orderly-still old new was honest_old orderly size held honest_new =
     log_is : past new.log ≡ fold ◌▸◌ (past old.log) was.more
     log_is = ap past was.log ∙ past-append old.log was.more nothing
 
-    one : (s : ℕ) (x : Sector) → slice_get old.start s ≡ Some x → OpenAt x (open_writes (fold ◌▸◌ (past old.log) was.more) s) (last_done (fold ◌▸◌ (past old.log) was.more) s) (written (fold ◌▸◌ (past old.log) was.more) s)
+    one : (s : ℕ) (x : Sector) → slice_get old.start s ≡ Some x → OpenAt x (open_writes (fold ◌▸◌ (past old.log) was.more) s) (last_done (fold ◌▸◌ (past old.log) was.more) s) (issued_contents (fold ◌▸◌ (past old.log) was.more) s)
     one s x told = inl (open_more was.more (past old.log) s was.none (was.clean s).0)
 
     -- the last version is late enough
-    at_last : (s : ℕ) (x u : Sector) → slice_get old.start s ≡ Some x → Contains (could old.start old.log s) u → IsAmong x (last_done (fold ◌▸◌ (past old.log) was.more) s) (written (fold ◌▸◌ (past old.log) was.more) s) u
+    at_last : (s : ℕ) (x u : Sector) → slice_get old.start s ≡ Some x → Contains (could old.start old.log s) u → IsAmong x (last_done (fold ◌▸◌ (past old.log) was.more) s) (issued_contents (fold ◌▸◌ (past old.log) was.more) s) u
     at_last s x u told could_be =
         let last = could-last old.start old.log s x u told orderly (was.clean s).1 could_be in
-        let here : At (x ∷ written (past old.log) s) (length (written (past old.log) s)) u = subst (λ (o : Option Sector). At (option_to_list o ++ written (past old.log) s) (length (written (past old.log) s)) u) told last in
+        let here : At (x ∷ issued_contents (past old.log) s) (length (issued_contents (past old.log) s)) u = subst (λ (o : Option Sector). At (option_to_list o ++ issued_contents (past old.log) s) (length (issued_contents (past old.log) s)) u) told last in
         let same = written_more was.more (past old.log) s was.none in (
-          length (written (past old.log) s),
+          length (issued_contents (past old.log) s),
           (let k = last_done-le (fold ◌▸◌ (past old.log) was.more) s in let n = ap length same in omega (arith, k, n)),
-          subst (λ (ws : List Sector). At (x ∷ ws) (length (written (past old.log) s)) u) (sym same) here,
+          subst (λ (ws : List Sector). At (x ∷ ws) (length (issued_contents (past old.log) s)) u) (sym same) here,
         )
 
     by_could : (s : ℕ) (x : Sector) → slice_get old.start s ≡ Some x → SeenLast (could old.start old.log s) (could_after old.start (fold ◌▸◌ (past old.log) was.more) s)
-        → (k : ℕ) (u : Sector) → At (could_after old.start (fold ◌▸◌ (past old.log) was.more) s) k u → IsAmong x (last_done (fold ◌▸◌ (past old.log) was.more) s) (written (fold ◌▸◌ (past old.log) was.more) s) u
+        → (k : ℕ) (u : Sector) → At (could_after old.start (fold ◌▸◌ (past old.log) was.more) s) k u → IsAmong x (last_done (fold ◌▸◌ (past old.log) was.more) s) (issued_contents (fold ◌▸◌ (past old.log) was.more) s) u
     by_could s x told (inl same) k u at = at_last s x u told (at_contains (could old.start old.log s) k u (subst (λ (c : List Sector). At c k u) same at))
     by_could s x told (inr (g, alone)) k u at =
         let w = get_some old.held s (let n = slice_get_within old.start s x told in omega (arith, n, size)) in
@@ -211,5 +211,5 @@ orderly-still old new was honest_old orderly size held honest_new =
         at_last s x u told (subst (λ (v : Sector). Contains (could old.start old.log s) v) same (honest_old s w.0 w.1))
 
     among : (s : ℕ) (x : Sector) → slice_get old.start s ≡ Some x → (k : ℕ) (u : Sector) → At (could_after old.start (fold ◌▸◌ (past old.log) was.more) s) k u
-        → IsAmong x (last_done (fold ◌▸◌ (past old.log) was.more) s) (written (fold ◌▸◌ (past old.log) was.more) s) u
+        → IsAmong x (last_done (fold ◌▸◌ (past old.log) was.more) s) (issued_contents (fold ◌▸◌ (past old.log) was.more) s) u
     among s x told = by_could s x told (could_more old.start was.more (past old.log) s was.none (was.clean s).0)

@@ -7,36 +7,36 @@ use Rattle.std.proofs.lemmas.List.Folds.{list_any_at, Any-from_list_any}
 use Rattle.vd_law.specs.declared.entry.Sector.{Sector}
 use Rattle.vd_law.specs.Entries.{Entry}
 use Rattle.vd_law.specs.Entries as entries
-use Rattle.vd_law.specs.Histories.{Numbered}
+use Rattle.vd_law.specs.Histories.{HistoryState}
 use Rattle.vd_device.specs.declared.ticket.Ticket.{Ticket}
 use Rattle.vd_device.specs.Tickets.{ticket_id}
 use Rattle.vd_format.specs.declared.header.Header.{Header}
 use Rattle.vd_format.specs.Layouts.{chunks_of}
-use Rattle.vd_table.specs.Tables.{Given}
-use Rattle.vd_crash.specs.Safe.{Opening}
-use Rattle.vd_crash.specs.Facts.{RecordNames}
-use Rattle.vd_flushes.specs.Stage.{Progress, IsLoggedBy}
-use Rattle.vd_primitives.specs.Core as core
-use Rattle.vd_primitives.specs.Core.{Working, Putting, Puts_next, Has_next}
-use Rattle.vd_primitives.specs.Primitives.{State, state}
-use Rattle.vd_primitives.specs.Primitives.IsPrimitive.{Put_done, Header_done}
-use Rattle.vd_primitives.specs.Keeping.{KeepsCrashSafety}
-use Rattle.vd_primitives.proofs.Keeping.{primitive_keeps}
-use Rattle.vd_meta.specs.declared.stage.Stage.TheVariants.{DataFlush, Puts, Syncs, Seals}
-use Rattle.vd_meta.specs.declared.stage.Way as way
-use Rattle.vd_meta.specs.declared.stage.Way.TheVariants as ways
-use Rattle.vd_meta.specs.Keeping.{Keeping}
-use Rattle.vd_meta.specs.Entries.{chunks_with}
-use Rattle.vd_meta.specs.Flushes.{is_recycle}
-use Rattle.vd_meta.specs.Moves.{after_put, next_header}
-use Rattle.vd_meta.proofs.Begun.{after-put-calm}
+use Rattle.vd_table.specs.Tables.{TableState}
+use Rattle.vd_crash.specs.facts.Safe.{Opening}
+use Rattle.vd_crash.specs.flushes.Stage.{Progress, IsLoggedBy}
+use Rattle.vd_crash.specs.primitives.Core as core
+use Rattle.vd_crash.specs.primitives.Core.{Working, Putting, Puts_next, Has_next}
+use Rattle.vd_crash.specs.primitives.Primitives.{State, state}
+use Rattle.vd_crash.specs.primitives.Primitives.IsPrimitive.{Put_done, Header_done}
+use Rattle.vd_crash.specs.primitives.Keeping.{KeepsCrashSafety}
+use Rattle.vd_crash.proofs.primitives.Keeping.{primitive_keeps}
+use Rattle.vd_keeper.specs.declared.stage.Stage.TheVariants.{DataFlush, Puts, Syncs, Seals}
+use Rattle.vd_keeper.specs.declared.stage.Way as way
+use Rattle.vd_keeper.specs.declared.stage.Way.TheVariants as ways
+use Rattle.vd_keeper.specs.Keeping.{KeeperState}
+use Rattle.vd_keeper.specs.Entries.{chunks_with}
+use Rattle.vd_keeper.specs.Flushes.{is_recycle}
+use Rattle.vd_keeper.specs.Moves.{after_put, next_header}
+use Rattle.vd_keeper.proofs.Begun.{after-put-in-stage}
 use Rattle.vd_passes.specs.declared.pass.Pass.{Pass}
 use Rattle.vd_passes.specs.declared.pass.Phase.TheVariants.{Flushing}
-use Rattle.vd_passes.specs.Passes.{call_of}
-use Rattle.vd_safety.specs.Mirrors.{bit_of, IsOfHeader, IsBegunOf, IsProgressOf, Nowhere, InRecordOf, InPageOf, IsStageBy, IsStageOf, Mirrors, IsSecured}
+use Rattle.vd_passes.specs.Passes.{call_id}
+use Rattle.vd_safety.specs.Mirrors.{bit_of, IsOfHeader, IsBegunOf, IsProgressOf, Nowhere, InRecordOf, InPageOf, IsStageBy, IsStageOf, Mirrors, HasSafeMirror}
 use Rattle.vd_safety.proofs.Putting.{same-chunks, puts-data, puts-seals}
 use Rattle.vd_safety.proofs.Stepping.{keeps-at, stage-at, stage-by}
 use Rattle.vd_safety.proofs.Settling.{neither-stage, put-all, puts-again, head-syncs, syncs-data, syncs-seals, syncs-puts, begun-after, ended}
+use Rattle.vd_crash.specs.facts.Metadata.{RecordNames}
 
 -- ---- a chunk among those that are logged, as a test
 
@@ -63,20 +63,20 @@ records-is ways.Records e = refl
 records-is (ways.Recycle t) e = absurd cc
 
 -- A core where a put of its flush has succeeded.
-module _ (h : Header) (o : Opening) (table : Given) (fresh : List Bool) (k : Keeping) (passes : List Pass) (history : Numbered) (log : List Entry) (s : State) (i : ℕ) (p : Pass) (t : Ticket)
+module _ (h : Header) (o : Opening) (table : TableState) (fresh : List Bool) (k : KeeperState) (passes : List Pass) (history : HistoryState) (log : List Entry) (s : State) (i : ℕ) (p : Pass) (t : Ticket)
     (of : IsOfHeader h o k) (was : KeepsCrashSafety o s) (mirrors : Mirrors o table fresh k (Some i) passes history log s)
     (there : slice_get passes i ≡ Some p) (flushes : p.phase ≡ Flushing) (has : p.ticket ≡ Some t) (puts : k.stage ≡ Puts) where
   abbrev p' : Pass
   p' = record p { ticket = None }
 
-  abbrev k' : Keeping
+  abbrev k' : KeeperState
   k' = record k { stage = after_put k k.way }
 
   not-data : after_put k k.way ≡ DataFlush → ⊥
-  not-data e = neither-stage (after_put k k.way) Puts Syncs DataFlush (after-put-calm k k.way) puts-data syncs-data e
+  not-data e = neither-stage (after_put k k.way) Puts Syncs DataFlush (after-put-in-stage k k.way) puts-data syncs-data e
 
   not-seals : after_put k k.way ≡ Seals → ⊥
-  not-seals e = neither-stage (after_put k k.way) Puts Syncs Seals (after-put-calm k k.way) puts-seals syncs-seals e
+  not-seals e = neither-stage (after_put k k.way) Puts Syncs Seals (after-put-in-stage k k.way) puts-seals syncs-seals e
 
   begun : IsBegunOf k → IsBegunOf k'
   begun b = begun-after k (after_put k k.way) k.put b not-data (λ e. b.unput (inr e)) (λ e records. put-all k k.way records e) (λ e. absurd (not-seals e))
@@ -87,7 +87,7 @@ module _ (h : Header) (o : Opening) (table : Given) (fresh : List Bool) (k : Kee
   -- ---- a record or a sector of the map
 
   module _ (plain : k.head ≡ false) where
-    now : IsBegunOf k × IsStageBy Puts false (Some t) o k (call_of i p) s.stage
+    now : IsBegunOf k × IsStageBy Puts false (Some t) o k (call_id i p) s.stage
     now = stage-at Puts false (Some t) i p o k (Some i) passes s.stage refl there puts plain has mirrors.stage
 
     abbrev pr : Progress
@@ -159,34 +159,34 @@ module _ (h : Header) (o : Opening) (table : Given) (fresh : List Bool) (k : Kee
     }
 
     abbrev stage : core.Stage
-    stage = Working (call_of i p) now.1.0 now.1.1 now.1.2 after
+    stage = Working (call_id i p) now.1.0 now.1.1 now.1.2 after
 
     stage-after : IsStageOf (Some i) o k' (slice_set passes i p') stage
-    stage-after = elim (after-put-calm k k.way) [
+    stage-after = elim (after-put-in-stage k k.way) [
       | inl e ↦ stage-by Puts false None i p p' o k' passes stage there e plain refl (begun now.0) (now.1.0, now.1.1, now.1.2, after, so_far, refl)
       | inr e ↦ stage-by Syncs false None i p p' o k' passes stage there e plain refl (begun now.0) (now.1.0, now.1.1, now.1.2, after, so_far, refl)
     ]
 
-    put-done : IsSecured o table fresh k' (Some i) (slice_set passes i p') history (log ++ entry ∷ [])
+    put-done : HasSafeMirror o table fresh k' (Some i) (slice_set passes i p') history (log ++ entry ∷ [])
     put-done =
-        let putting : core.Stage = Putting (call_of i p) now.1.0 now.1.1 now.1.2 pr sector now.1.5 v (ticket_id t) in
+        let putting : core.Stage = Putting (call_id i p) now.1.0 now.1.1 now.1.2 pr sector now.1.5 v (ticket_id t) in
         let done = primitive_keeps o (state s.log s.history s.memory s.marked s.flights putting) (state (s.log ++ entry ∷ []) s.history s.memory s.marked s.flights stage)
-        (Put_done s.log s.history s.memory s.marked s.flights (call_of i p) (ticket_id t) now.1.0 now.1.1 now.1.2 now.1.5 sector v pr recorded written logged) (keeps-at o s putting now.1.8 was) in
+        (Put_done s.log s.history s.memory s.marked s.flights (call_id i p) (ticket_id t) now.1.0 now.1.1 now.1.2 now.1.5 sector v pr recorded written logged) (keeps-at o s putting now.1.8 was) in
         ended o table fresh k passes history log s i p mirrors there flushes k' entry s.marked stage done (record { header = refl; stale = refl; owed = refl }) refl refl refl mirrors.marked stage-after
 
   -- ---- the header
 
-  head-done : k.head ≡ true → IsSecured o table fresh k' (Some i) (slice_set passes i p') history (log ++ entry ∷ [])
+  head-done : k.head ≡ true → HasSafeMirror o table fresh k' (Some i) (slice_set passes i p') history (log ++ entry ∷ [])
   head-done head =
       let now = stage-at Puts true (Some t) i p o k (Some i) passes s.stage refl there puts head has mirrors.stage in
       let w = now.1 in
       let next : Header = next_header k.way k.header in
       let recycle : is_recycle k.way ≡ true = elim (cases_Bool (is_recycle k.way)) [ inl is ↦ is | inr not ↦ absurd (let e = now.0.headless not in cc) ] in
       let syncs : after_put k k.way ≡ Syncs = head-syncs k k.way head recycle in
-      let stage : core.Stage = Has_next (call_of i p) w.0 w.1 w.2 w.3 (length s.log + 1) w.5 next in
-      let putting : core.Stage = Puts_next (call_of i p) w.0 w.1 w.2 w.3 w.4 w.5 next (ticket_id t) in
+      let stage : core.Stage = Has_next (call_id i p) w.0 w.1 w.2 w.3 (length s.log + 1) w.5 next in
+      let putting : core.Stage = Puts_next (call_id i p) w.0 w.1 w.2 w.3 w.4 w.5 next (ticket_id t) in
       let done = primitive_keeps o (state s.log s.history s.memory s.marked s.flights putting) (state (s.log ++ entry ∷ []) s.history s.memory s.marked s.flights stage)
-      (Header_done s.log s.history s.memory s.marked s.flights (call_of i p) (ticket_id t) w.0 w.1 w.2 w.4 w.3 w.5 next) (keeps-at o s putting w.7 was) in
+      (Header_done s.log s.history s.memory s.marked s.flights (call_id i p) (ticket_id t) w.0 w.1 w.2 w.4 w.3 w.5 next) (keeps-at o s putting w.7 was) in
       let so_far : IsProgressOf k' w.3 Nowhere Nowhere = record {
         snapshot = w.6.snapshot;
         recorded = w.6.recorded;
@@ -198,5 +198,5 @@ module _ (h : Header) (o : Opening) (table : Given) (fresh : List Bool) (k : Kee
       ended o table fresh k passes history log s i p mirrors there flushes k' entry s.marked stage done (record { header = refl; stale = refl; owed = refl }) refl refl refl mirrors.marked
       (stage-by Syncs true None i p p' o k' passes stage there syncs head refl (begun now.0) (w.0, w.1, w.2, length s.log + 1, w.3, w.5, so_far, refl))
 
-  pub any-done : IsSecured o table fresh k' (Some i) (slice_set passes i (record p { ticket = None })) history (log ++ entries.Done (ticket_id t) ∷ [])
+  pub any-done : HasSafeMirror o table fresh k' (Some i) (slice_set passes i (record p { ticket = None })) history (log ++ entries.Done (ticket_id t) ∷ [])
   any-done = elim (cases_Bool k.head) [ inl head ↦ head-done head | inr plain ↦ put-done plain ]

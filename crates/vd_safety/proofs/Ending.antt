@@ -5,7 +5,7 @@ use Rattle.std.proofs.lemmas.Bool.{cases_eq}
 use Rattle.vd_law.specs.declared.entry.Sector.{Sector}
 use Rattle.vd_law.specs.declared.entry.CallId.{CallId}
 use Rattle.vd_law.specs.Entries.{Entry, Done, Broke}
-use Rattle.vd_law.specs.Histories.{Numbered}
+use Rattle.vd_law.specs.Histories.{HistoryState}
 use Rattle.vd_device.specs.declared.ticket.Ticket.{Ticket}
 use Rattle.vd_device.specs.declared.ticket.Kind.{Kind}
 use Rattle.vd_device.specs.declared.ticket.Kind.TheVariants.{Write as WriteKind}
@@ -15,17 +15,17 @@ use Rattle.vd_device.specs.Calls.{done_entry, failed_entry}
 use Rattle.vd_device.specs.Tickets.{ticket_id}
 use Rattle.vd_device.specs.Disks.{Disk}
 use Rattle.vd_format.specs.declared.header.Header.{Header}
-use Rattle.vd_table.specs.Tables.{Given}
-use Rattle.vd_crash.specs.Safe.{Opening, NumberedEntry}
-use Rattle.vd_crash.specs.Words.{IsUpdated, with_blocks}
-use Rattle.vd_flushes.specs.Stage.{Flight, Idle as NoFlight, Writing, FlightHolds}
-use Rattle.vd_flushes.specs.Moves.{entry_now}
-use Rattle.vd_primitives.specs.Primitives.{State, state}
-use Rattle.vd_primitives.specs.Primitives.IsPrimitive.{Ends_local, Ends_whole, Fails_whole}
-use Rattle.vd_primitives.specs.Keeping.{KeepsCrashSafety}
-use Rattle.vd_primitives.proofs.Keeping.{primitive_keeps}
-use Rattle.vd_meta.specs.Keeping.{Keeping}
-use Rattle.vd_meta.specs.Moves.{owing}
+use Rattle.vd_table.specs.Tables.{TableState}
+use Rattle.vd_crash.specs.facts.Safe.{Opening, NumberedEntry}
+use Rattle.vd_crash.specs.facts.Words.{IsUpdated, with_blocks}
+use Rattle.vd_crash.specs.flushes.Stage.{Flight, Idle as NoFlight, Writing, FlightHolds}
+use Rattle.vd_crash.specs.flushes.Moves.{entry_now}
+use Rattle.vd_crash.specs.primitives.Primitives.{State, state}
+use Rattle.vd_crash.specs.primitives.Primitives.IsPrimitive.{Ends_local, Ends_whole, Fails_whole}
+use Rattle.vd_crash.specs.primitives.Keeping.{KeepsCrashSafety}
+use Rattle.vd_crash.proofs.primitives.Keeping.{primitive_keeps}
+use Rattle.vd_keeper.specs.Keeping.{KeeperState}
+use Rattle.vd_keeper.specs.Moves.{after_owe}
 use Rattle.vd_passes.specs.declared.shape.Shape.{Shape}
 use Rattle.vd_passes.specs.declared.pass.Pass.{Pass}
 use Rattle.vd_passes.specs.declared.pass.Phase.{Phase}
@@ -34,9 +34,9 @@ use Rattle.vd_passes.specs.declared.pass.Fault.{Fault}
 use Rattle.vd_passes.specs.declared.pass.Fault.TheVariants as fault
 use Rattle.vd_passes.specs.Standings.{standing}
 use Rattle.vd_passes.specs.Places.{place_of}
-use Rattle.vd_passes.specs.Passes.{has_region, call_of, StandsAs, HasTicket, after_piece, after_fault, spent}
+use Rattle.vd_passes.specs.Passes.{has_region, call_id, IsAsHistorySays, HasInFlight, after_piece, after_fault, after_spending}
 use Rattle.vd_passes.specs.Steps.{IsAt, WriteSettled}
-use Rattle.vd_safety.specs.Mirrors.{bit_of, IsFlightOf, IsPendingOf, IsStageOf, Mirrors, IsSecured}
+use Rattle.vd_safety.specs.Mirrors.{bit_of, IsFlightOf, IsPendingOf, IsStageOf, Mirrors, HasSafeMirror}
 use Rattle.vd_safety.proofs.Updates.{some-inj, append-nil, bit-set-same, bit-set-other, updated, is-updated, updated-same}
 use Rattle.vd_safety.proofs.Surroundings.{Surroundings, owed-size, not-flusher}
 use Rattle.vd_safety.proofs.Flying.{flight-ready, flight-of, flights-set, pending-other, pending-none, pending-put}
@@ -46,8 +46,8 @@ use Rattle.vd_safety.proofs.Knowing.{at-this}
 use Rattle.vd_safety.proofs.Owing.{owed-by, owing-is, owed-more, owed-only, owed-own}
 
 -- what a settle makes of the keeper, and of the numbers of the history
-abbrev pub IsOwedAfter : Settled → (block : ℕ) → (k k' : Keeping) → Type 0
-IsOwedAfter settled.Done block k k' = k' ≡ owing block k
+abbrev pub IsOwedAfter : Settled → (block : ℕ) → (k k' : KeeperState) → Type 0
+IsOwedAfter settled.Done block k k' = k' ≡ after_owe block k
 IsOwedAfter (settled.NotYet same) block k k' = k' ≡ k
 IsOwedAfter (settled.Failed number) block k k' = k' ≡ k
 
@@ -67,15 +67,15 @@ piece-flight true fault i q none = refl
 piece-flight false fault i q none = flight-ready fault i q none
 
 -- A core that has the same parts is the same.
-pub same-secured : {o : Opening} {table : Given} {fresh fresh' : List Bool} {k k' : Keeping} {flusher : Option ℕ} {passes passes' : List Pass} {history history' : Numbered} {log log' : List Entry}
+pub same-secured : {o : Opening} {table : TableState} {fresh fresh' : List Bool} {k k' : KeeperState} {flusher : Option ℕ} {passes passes' : List Pass} {history history' : HistoryState} {log log' : List Entry}
     → fresh' ≡ fresh → k' ≡ k → passes' ≡ passes → history'.log.entries ≡ history.log.entries → history'.numbers ≡ history.numbers → log' ≡ log
-    → IsSecured o table fresh k flusher passes history log → IsSecured o table fresh' k' flusher passes' history' log'
+    → HasSafeMirror o table fresh k flusher passes history log → HasSafeMirror o table fresh' k' flusher passes' history' log'
 same-secured {o} {table} {fresh} {fresh'} {k} {k'} {flusher} {passes} {passes'} {history} {history'} {log} {log'} same_fresh same_k same_passes entries numbers same_log secured =
     let s = secured.state in
     let is = secured.mirrors in
-    subst (λ (ps : List Pass). IsSecured o table fresh' k' flusher ps history' log') (sym same_passes)
-    (subst (λ (x : Keeping). IsSecured o table fresh' x flusher passes history' log') (sym same_k)
-    (subst (λ (bits : List Bool). IsSecured o table bits k flusher passes history' log') (sym same_fresh)
+    subst (λ (ps : List Pass). HasSafeMirror o table fresh' k' flusher ps history' log') (sym same_passes)
+    (subst (λ (x : KeeperState). HasSafeMirror o table fresh' x flusher passes history' log') (sym same_k)
+    (subst (λ (bits : List Bool). HasSafeMirror o table bits k flusher passes history' log') (sym same_fresh)
     (record {
       state = s;
       keeps = secured.keeps;
@@ -84,8 +84,8 @@ same-secured {o} {table} {fresh} {fresh'} {k} {k'} {flusher} {passes} {passes'} 
     })))
 
 -- The pass that has the write in flight.
-module _ {h : Header} {o : Opening} {shape : Shape} {table : Given} {fresh : List Bool} {k : Keeping} {flusher : Option ℕ} {passes : List Pass} {history : Numbered} {base : List Sector} {last : ℕ} {log : List Entry}
-    (around : Surroundings h o shape table fresh k flusher passes history.log.entries base last) (secured : IsSecured o table fresh k flusher passes history log)
+module _ {h : Header} {o : Opening} {shape : Shape} {table : TableState} {fresh : List Bool} {k : KeeperState} {flusher : Option ℕ} {passes : List Pass} {history : HistoryState} {base : List Sector} {last : ℕ} {log : List Entry}
+    (around : Surroundings h o shape table fresh k flusher passes history.log.entries base last) (secured : HasSafeMirror o table fresh k flusher passes history log)
     (i : ℕ) (p : Pass) (t : Ticket) (there : slice_get passes i ≡ Some p) (issuing : p.phase ≡ Issuing) (has : p.ticket ≡ Some t) where
   abbrev s : State
   s = secured.state
@@ -93,7 +93,7 @@ module _ {h : Header} {o : Opening} {shape : Shape} {table : Given} {fresh : Lis
   mirrors : Mirrors o table fresh k flusher passes history log s
   mirrors = secured.mirrors
 
-  stands : StandsAs shape fresh (place_of shape table.chunks) (standing history.log.entries i) p
+  stands : IsAsHistorySays shape fresh (place_of shape table.chunks) (standing history.log.entries i) p
   stands = around.each i p there
 
   region : has_region p.phase ≡ true
@@ -103,7 +103,7 @@ module _ {h : Header} {o : Opening} {shape : Shape} {table : Given} {fresh : Lis
   no-flush = stands.no_flush region
 
   pub write-kind : t.kind ≡ WriteKind
-  write-kind = let w = subst (λ (ph : Phase). HasTicket ph shape fresh p) issuing stands.ticket in let e : w.0 ≡ t = some-inj (sym w.1 ∙ has) in ap (λ (x : Ticket). x.kind) (sym e) ∙ w.3
+  write-kind = let w = subst (λ (ph : Phase). HasInFlight ph shape fresh p) issuing stands.ticket in let e : w.0 ≡ t = some-inj (sym w.1 ∙ has) in ap (λ (x : Ticket). x.kind) (sym e) ∙ w.3
 
   in-fresh : p.block < length fresh
   in-fresh = let w = (stands.piece region).in_disk in let e = around.size in omega arith
@@ -111,11 +111,11 @@ module _ {h : Header} {o : Opening} {shape : Shape} {table : Given} {fresh : Lis
   in-owed : p.block < length k.owed
   in-owed = let w = (stands.piece region).in_disk in let e = owed-size around in omega arith
 
-  flight : (j : ℕ) × (n : ℕ) × (s.flights i ≡ Writing p.block j n (call_of i p) (ticket_id t))
+  flight : (j : ℕ) × (n : ℕ) × (s.flights i ≡ Writing p.block j n (call_id i p) (ticket_id t))
   flight =
       let w = flight-of passes s.flights i p Issuing mirrors.flights there issuing in
       let e : w.0 ≡ t = some-inj (sym w.3 ∙ has) in
-      (w.1, w.2, w.4 ∙ ap (λ (x : Ticket). Writing p.block w.1 w.2 (call_of i p) (ticket_id x)) e)
+      (w.1, w.2, w.4 ∙ ap (λ (x : Ticket). Writing p.block w.1 w.2 (call_id i p) (ticket_id x)) e)
 
   abbrev flights' : ℕ → Flight
   flights' = updated s.flights i NoFlight
@@ -124,7 +124,7 @@ module _ {h : Header} {o : Opening} {shape : Shape} {table : Given} {fresh : Lis
   put-flight = is-updated s.flights i NoFlight
 
   -- The state after the end of the write, with these blocks.
-  module _ (history' : Numbered) (p' : Pass) (idle : IsFlightOf p'.phase p'.fault i p' NoFlight) (fresh' owed' : List Bool) (store-end guest-end : Entry) (log' : List Entry)
+  module _ (history' : HistoryState) (p' : Pass) (idle : IsFlightOf p'.phase p'.fault i p' NoFlight) (fresh' owed' : List Bool) (store-end guest-end : Entry) (log' : List Entry)
       (entries : history'.log.entries ≡ history.log.entries ++ guest-end ∷ []) (numbers : history'.numbers ≡ history.numbers ++ length log' ∷ []) (grows : log' ≡ log ++ store-end ∷ [])
       (others-fresh : (c : ℕ) → (c ≡ p.block → ⊥) → bit_of fresh' c ≡ bit_of fresh c) where
     abbrev store' : List Entry
@@ -148,7 +148,7 @@ module _ {h : Header} {o : Opening} {shape : Shape} {table : Given} {fresh : Lis
 
     pub after-end : (f : ℕ → Bool) (born : ℕ → ℕ) (w : ℕ → Bool) (pending : ℕ → Option ℕ) → ((c : ℕ) → f c ≡ bit_of fresh' c) → ((c : ℕ) → w c ≡ bit_of owed' c) → IsUpdated s.memory.pending pending p.block None
         → KeepsCrashSafety o (state store' events' (with_blocks s.memory f born w pending) s.marked flights' s.stage)
-        → IsSecured o table fresh' (record k { owed = owed' }) flusher (slice_set passes i p') history' log'
+        → HasSafeMirror o table fresh' (record k { owed = owed' }) flusher (slice_set passes i p') history' log'
     after-end f born w pending f_is w_is put keeps = record {
       state = state store' events' (with_blocks s.memory f born w pending) s.marked flights' s.stage;
       keeps = keeps;
@@ -157,10 +157,10 @@ module _ {h : Header} {o : Opening} {shape : Shape} {table : Given} {fresh : Lis
     }
 
   -- It is done.
-  module _ (history' : Numbered) (log' : List Entry) (entries : history'.log.entries ≡ history.log.entries ++ Done (call_of i p) ∷ []) (numbers : history'.numbers ≡ history.numbers ++ length log' ∷ [])
+  module _ (history' : HistoryState) (log' : List Entry) (entries : history'.log.entries ≡ history.log.entries ++ Done (call_id i p) ∷ []) (numbers : history'.numbers ≡ history.numbers ++ length log' ∷ [])
       (grows : log' ≡ log ++ Done (ticket_id t) ∷ []) where
     abbrev pass' : Pass
-    pass' = spent 1 0 (after_piece p)
+    pass' = after_spending 1 0 (after_piece p)
 
     abbrev fresh' : List Bool
     fresh' = slice_set fresh p.block true
@@ -186,11 +186,11 @@ module _ {h : Header} {o : Opening} {shape : Shape} {table : Given} {fresh : Lis
     logged : (s.memory.index.stale p.block ≡ true) ⊎ (bit_of owed' p.block ≡ true)
     logged = elim (owed-own (bit_of k.stale p.block) k.owed p.block in-owed) [ inl old ↦ inl (mirrors.stale p.block ∙ old) | inr own ↦ inr own ]
 
-    local : bit_of fresh p.block ≡ true → IsSecured o table fresh' (record k { owed = owed' }) flusher (slice_set passes i pass') history' log'
-    local is_fresh = after-end history' pass' idle-after fresh' owed' (Done (ticket_id t)) (Done (call_of i p)) log' entries numbers grows fresh-others
+    local : bit_of fresh p.block ≡ true → HasSafeMirror o table fresh' (record k { owed = owed' }) flusher (slice_set passes i pass') history' log'
+    local is_fresh = after-end history' pass' idle-after fresh' owed' (Done (ticket_id t)) (Done (call_id i p)) log' entries numbers grows fresh-others
         s.memory.fresh s.memory.born (bit_of owed') s.memory.pending fresh-same (λ c. refl) (updated-same s.memory.pending p.block None none)
-        (primitive_keeps o s (state (s.log ++ Done (ticket_id t) ∷ []) (s.history ++ entry_now (s.log ++ Done (ticket_id t) ∷ []) (Done (call_of i p)) ∷ []) (with_blocks s.memory s.memory.fresh s.memory.born (bit_of owed') s.memory.pending) s.marked flights' s.stage)
-        (Ends_local s.log s.history s.memory s.marked (bit_of owed') s.flights flights' s.stage i p.block flight.0 flight.1 (call_of i p) (ticket_id t) flight.2 put-flight (mirrors.fresh_is p.block ∙ is_fresh) more only logged) secured.keeps)
+        (primitive_keeps o s (state (s.log ++ Done (ticket_id t) ∷ []) (s.history ++ entry_now (s.log ++ Done (ticket_id t) ∷ []) (Done (call_id i p)) ∷ []) (with_blocks s.memory s.memory.fresh s.memory.born (bit_of owed') s.memory.pending) s.marked flights' s.stage)
+        (Ends_local s.log s.history s.memory s.marked (bit_of owed') s.flights flights' s.stage i p.block flight.0 flight.1 (call_id i p) (ticket_id t) flight.2 put-flight (mirrors.fresh_is p.block ∙ is_fresh) more only logged) secured.keeps)
       where
         fresh-same : (c : ℕ) → s.memory.fresh c ≡ bit_of fresh' c
         fresh-same c = elim (cases_eq c p.block) [
@@ -207,35 +207,35 @@ module _ {h : Header} {o : Opening} {shape : Shape} {table : Given} {fresh : Lis
     abbrev born' : ℕ → ℕ
     born' = updated s.memory.born p.block (length (s.log ++ Done (ticket_id t) ∷ []))
 
-    whole : bit_of fresh p.block ≡ false → IsSecured o table fresh' (record k { owed = owed' }) flusher (slice_set passes i pass') history' log'
-    whole not_fresh = after-end history' pass' idle-after fresh' owed' (Done (ticket_id t)) (Done (call_of i p)) log' entries numbers grows fresh-others
+    whole : bit_of fresh p.block ≡ false → HasSafeMirror o table fresh' (record k { owed = owed' }) flusher (slice_set passes i pass') history' log'
+    whole not_fresh = after-end history' pass' idle-after fresh' owed' (Done (ticket_id t)) (Done (call_id i p)) log' entries numbers grows fresh-others
         (bit_of fresh') born' (bit_of owed') pending' (λ c. refl) (λ c. refl) (is-updated s.memory.pending p.block None)
-        (primitive_keeps o s (state (s.log ++ Done (ticket_id t) ∷ []) (s.history ++ entry_now (s.log ++ Done (ticket_id t) ∷ []) (Done (call_of i p)) ∷ []) (with_blocks s.memory (bit_of fresh') born' (bit_of owed') pending') s.marked flights' s.stage)
-        (Ends_whole s.log s.history s.memory s.marked (bit_of fresh') born' (bit_of owed') pending' s.flights flights' s.stage i p.block flight.0 flight.1 (call_of i p) (ticket_id t) flight.2 put-flight was-pending
+        (primitive_keeps o s (state (s.log ++ Done (ticket_id t) ∷ []) (s.history ++ entry_now (s.log ++ Done (ticket_id t) ∷ []) (Done (call_id i p)) ∷ []) (with_blocks s.memory (bit_of fresh') born' (bit_of owed') pending') s.marked flights' s.stage)
+        (Ends_whole s.log s.history s.memory s.marked (bit_of fresh') born' (bit_of owed') pending' s.flights flights' s.stage i p.block flight.0 flight.1 (call_id i p) (ticket_id t) flight.2 put-flight was-pending
         (record { same = fresh-own; other = λ c ne. fresh-others c ne ∙ sym (mirrors.fresh_is c) }) (is-updated s.memory.born p.block (length (s.log ++ Done (ticket_id t) ∷ []))) (is-updated s.memory.pending p.block None) more only logged) secured.keeps)
       where
         was-pending : s.memory.pending p.block ≡ Some flight.1
-        was-pending = elim (written-by o s i p.block flight.0 flight.1 (call_of i p) (ticket_id t) secured.keeps flight.2) [
+        was-pending = elim (written-by o s i p.block flight.0 flight.1 (call_id i p) (ticket_id t) secured.keeps flight.2) [
           | inl is_fresh ↦ absurd (let e = mirrors.fresh_is p.block in cc)
           | inr is ↦ is
         ]
 
-    ends : (v : Bool) → bit_of fresh p.block ≡ v → IsSecured o table fresh' (record k { owed = owed' }) flusher (slice_set passes i pass') history' log'
+    ends : (v : Bool) → bit_of fresh p.block ≡ v → HasSafeMirror o table fresh' (record k { owed = owed' }) flusher (slice_set passes i pass') history' log'
     ends true is = local is
     ends false is = whole is
 
-    pub ends-done : IsSecured o table fresh' (owing p.block k) flusher (slice_set passes i pass') history' log'
-    ends-done = subst (λ (x : Keeping). IsSecured o table fresh' x flusher (slice_set passes i pass') history' log') (sym (owing-is p.block k)) (ends (bit_of fresh p.block) refl)
+    pub ends-done : HasSafeMirror o table fresh' (after_owe p.block k) flusher (slice_set passes i pass') history' log'
+    ends-done = subst (λ (x : KeeperState). HasSafeMirror o table fresh' x flusher (slice_set passes i pass') history' log') (sym (owing-is p.block k)) (ends (bit_of fresh p.block) refl)
 
   -- It has failed.
-  pub ends-failed : (history' : Numbered) (log' : List Entry) → history'.log.entries ≡ history.log.entries ++ Broke (call_of i p) ∷ [] → history'.numbers ≡ history.numbers ++ length log' ∷ []
-      → log' ≡ log ++ Broke (ticket_id t) ∷ [] → IsSecured o table fresh k flusher (slice_set passes i (spent 1 0 (after_fault (fault.Store t.number) p))) history' log'
+  pub ends-failed : (history' : HistoryState) (log' : List Entry) → history'.log.entries ≡ history.log.entries ++ Broke (call_id i p) ∷ [] → history'.numbers ≡ history.numbers ++ length log' ∷ []
+      → log' ≡ log ++ Broke (ticket_id t) ∷ [] → HasSafeMirror o table fresh k flusher (slice_set passes i (after_spending 1 0 (after_fault (fault.Store t.number) p))) history' log'
   ends-failed history' log' entries numbers grows =
       let pending' = updated s.memory.pending p.block None in
-      after-end history' (spent 1 0 (after_fault (fault.Store t.number) p)) refl fresh k.owed (Broke (ticket_id t)) (Broke (call_of i p)) log' entries numbers grows (λ c ne. refl)
+      after-end history' (after_spending 1 0 (after_fault (fault.Store t.number) p)) refl fresh k.owed (Broke (ticket_id t)) (Broke (call_id i p)) log' entries numbers grows (λ c ne. refl)
       s.memory.fresh s.memory.born s.memory.owed pending' mirrors.fresh_is mirrors.owed (is-updated s.memory.pending p.block None)
-      (primitive_keeps o s (state (s.log ++ Broke (ticket_id t) ∷ []) (s.history ++ entry_now (s.log ++ Broke (ticket_id t) ∷ []) (Broke (call_of i p)) ∷ []) (with_blocks s.memory s.memory.fresh s.memory.born s.memory.owed pending') s.marked flights' s.stage)
-      (Fails_whole s.log s.history s.memory s.marked pending' s.flights flights' s.stage i p.block flight.0 flight.1 (call_of i p) (ticket_id t) flight.2 put-flight (is-updated s.memory.pending p.block None)) secured.keeps)
+      (primitive_keeps o s (state (s.log ++ Broke (ticket_id t) ∷ []) (s.history ++ entry_now (s.log ++ Broke (ticket_id t) ∷ []) (Broke (call_id i p)) ∷ []) (with_blocks s.memory s.memory.fresh s.memory.born s.memory.owed pending') s.marked flights' s.stage)
+      (Fails_whole s.log s.history s.memory s.marked pending' s.flights flights' s.stage i p.block flight.0 flight.1 (call_id i p) (ticket_id t) flight.2 put-flight (is-updated s.memory.pending p.block None)) secured.keeps)
 
 -- the entry with which a write ends
 done-write : (kind : Kind) (t : Ticket) → kind ≡ WriteKind → done_entry kind t [] ≡ Done (ticket_id t)
@@ -245,21 +245,21 @@ failed-write : (kind : Kind) (t : Ticket) → kind ≡ WriteKind → failed_entr
 failed-write kind t is = ap (λ (x : Kind). failed_entry x t) is
 
 -- A settled write keeps a core secured.
-pub settle_issue-secured : (answer : Settled) {h : Header} {o : Opening} {shape : Shape} {table : Given} {fresh fresh' : List Bool} {k k' : Keeping} {flusher : Option ℕ} {passes passes' : List Pass} {history : Numbered} {base : List Sector}
-    {i last last' : ℕ} {flies flies' : List Ticket → Type 0} {tells tells' : Type 0} {disk disk' : Disk} (history' : Numbered)
+pub settle_issue-secured : (answer : Settled) {h : Header} {o : Opening} {shape : Shape} {table : TableState} {fresh fresh' : List Bool} {k k' : KeeperState} {flusher : Option ℕ} {passes passes' : List Pass} {history : HistoryState} {base : List Sector}
+    {i last last' : ℕ} {flight flight' : List Ticket → Type 0} {tells tells' : Type 0} {disk disk' : Disk} (history' : HistoryState)
     → Surroundings h o shape table fresh k flusher passes history.log.entries base last → IsAt passes i (λ p. p.phase ≡ Issuing)
-    → WriteSettled answer i fresh fresh' passes passes' history.log.entries history'.log.entries flies flies' tells tells' disk disk' last last'
+    → WriteSettled answer i fresh fresh' passes passes' history.log.entries history'.log.entries flight flight' tells tells' disk disk' last last'
     → IsAt passes i (λ p. IsOwedAfter answer p.block k k') → IsNumberedAfter answer (length disk'.log) history.numbers history'.numbers → tells'
-    → IsSecured o table fresh k flusher passes history disk.log → IsSecured o table fresh' k' flusher passes' history' disk'.log
-settle_issue-secured settled.Done {h} {o} {shape} {table} {fresh} {fresh'} {k} {k'} {flusher} {passes} {passes'} {history} {base} {i} {last} {last'} {flies} {flies'} {tells} {tells'} {disk} {disk'} history' around at step owed numbers telling secured =
+    → HasSafeMirror o table fresh k flusher passes history disk.log → HasSafeMirror o table fresh' k' flusher passes' history' disk'.log
+settle_issue-secured settled.Done {h} {o} {shape} {table} {fresh} {fresh'} {k} {k'} {flusher} {passes} {passes'} {history} {base} {i} {last} {last'} {flight} {flight'} {tells} {tells'} {disk} {disk'} history' around at step owed numbers telling secured =
     let p = step.pass in
     let issuing : p.phase ≡ Issuing = at-this passes i (λ p. p.phase ≡ Issuing) p step.there at in
     let kind = write-kind around secured i p step.ticket step.there issuing step.has in
-    same-secured step.effect.0 (at-this passes i (λ p. k' ≡ owing p.block k) p step.there owed) step.effect.1 refl refl refl
+    same-secured step.effect.0 (at-this passes i (λ p. k' ≡ after_owe p.block k) p step.there owed) step.effect.1 refl refl refl
     (ends-done around secured i p step.ticket step.there issuing step.has history' disk'.log step.effect.2 numbers ((step.told telling).grows.log ∙ ap (λ (e : Entry). disk.log ++ e ∷ []) (done-write step.ticket.kind step.ticket kind)))
-settle_issue-secured (settled.NotYet same) {h} {o} {shape} {table} {fresh} {fresh'} {k} {k'} {flusher} {passes} {passes'} {history} {base} {i} {last} {last'} {flies} {flies'} {tells} {tells'} {disk} {disk'} history' around at step owed numbers telling secured =
+settle_issue-secured (settled.NotYet same) {h} {o} {shape} {table} {fresh} {fresh'} {k} {k'} {flusher} {passes} {passes'} {history} {base} {i} {last} {last'} {flight} {flight'} {tells} {tells'} {disk} {disk'} history' around at step owed numbers telling secured =
     same-secured step.effect.0 (at-this passes i (λ p. k' ≡ k) step.pass step.there owed) step.effect.1 step.effect.2 (numbers ∙ append-nil history.numbers) ((step.told telling).grows.log ∙ append-nil disk.log) secured
-settle_issue-secured (settled.Failed number) {h} {o} {shape} {table} {fresh} {fresh'} {k} {k'} {flusher} {passes} {passes'} {history} {base} {i} {last} {last'} {flies} {flies'} {tells} {tells'} {disk} {disk'} history' around at step owed numbers telling secured =
+settle_issue-secured (settled.Failed number) {h} {o} {shape} {table} {fresh} {fresh'} {k} {k'} {flusher} {passes} {passes'} {history} {base} {i} {last} {last'} {flight} {flight'} {tells} {tells'} {disk} {disk'} history' around at step owed numbers telling secured =
     let p = step.pass in
     let issuing : p.phase ≡ Issuing = at-this passes i (λ p. p.phase ≡ Issuing) p step.there at in
     let kind = write-kind around secured i p step.ticket step.there issuing step.has in

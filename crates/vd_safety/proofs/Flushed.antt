@@ -1,45 +1,45 @@
 -- The data flush has succeeded.
-use Rattle.vd_flushes.specs.Flushing.{Snapshot}
+use Rattle.vd_crash.specs.flushes.Flushing.{Snapshot}
 use Rattle.std.proofs.Common.{◌≡◌, inl, inr, ℕ, ◌/◌, ◌<◌, Bool, true, false, not, List, [], ◌∷◌, ◌++◌, take, Some, None, slice_get, slice_set, sym, refl, ap, ◌∙◌, arith, subst}
 use Rattle.std.specs.Prelude.{◌||◌, ◌&&◌, nat_lt}
 use Rattle.std.specs.List.{Contains}
 use Rattle.std.proofs.lemmas.Bool.{cases_Bool, and_parts, not-true, ltb-true, lt-ltb, and_from}
 use Rattle.vd_law.specs.Entries.{Entry, Reply}
-use Rattle.vd_law.specs.Histories.{Numbered}
+use Rattle.vd_law.specs.Histories.{HistoryState}
 use Rattle.vd_device.specs.declared.ticket.Ticket.{Ticket}
 use Rattle.vd_device.specs.Tickets.{ticket_id}
 use Rattle.vd_format.specs.declared.header.Header.{Header}
 use Rattle.vd_format.specs.Layouts.{chunks_of}
-use Rattle.vd_table.specs.Tables.{Given}
+use Rattle.vd_table.specs.Tables.{TableState}
 use Rattle.vd_image.specs.Log.{Fine}
-use Rattle.vd_crash.specs.Safe.{Opening}
-use Rattle.vd_flushes.specs.Stage.{Progress}
-use Rattle.vd_primitives.specs.Core as core
-use Rattle.vd_primitives.specs.Core.{Sending, Working}
-use Rattle.vd_primitives.specs.Primitives.{State, state, nothing_put, IsClean}
-use Rattle.vd_primitives.specs.Primitives.IsPrimitive.{Data_flushed}
-use Rattle.vd_primitives.specs.Keeping.{KeepsCrashSafety}
-use Rattle.vd_primitives.proofs.Keeping.{primitive_keeps}
-use Rattle.vd_meta.specs.declared.stage.Stage.TheVariants.{DataFlush, Puts, Seals}
-use Rattle.vd_meta.specs.declared.stage.Way as way
-use Rattle.vd_meta.specs.declared.stage.Way.TheVariants as ways
-use Rattle.vd_meta.specs.Keeping.{Keeping}
-use Rattle.vd_meta.specs.Entries.{chunks_with}
-use Rattle.vd_meta.specs.Flushes.{is_recycle}
-use Rattle.vd_meta.specs.Moves.{after_data}
+use Rattle.vd_crash.specs.facts.Safe.{Opening}
+use Rattle.vd_crash.specs.flushes.Stage.{Progress}
+use Rattle.vd_crash.specs.primitives.Core as core
+use Rattle.vd_crash.specs.primitives.Core.{Sending, Working}
+use Rattle.vd_crash.specs.primitives.Primitives.{State, state, nothing_put, IsClean}
+use Rattle.vd_crash.specs.primitives.Primitives.IsPrimitive.{Data_flushed}
+use Rattle.vd_crash.specs.primitives.Keeping.{KeepsCrashSafety}
+use Rattle.vd_crash.proofs.primitives.Keeping.{primitive_keeps}
+use Rattle.vd_keeper.specs.declared.stage.Stage.TheVariants.{DataFlush, Puts, Seals}
+use Rattle.vd_keeper.specs.declared.stage.Way as way
+use Rattle.vd_keeper.specs.declared.stage.Way.TheVariants as ways
+use Rattle.vd_keeper.specs.Keeping.{KeeperState}
+use Rattle.vd_keeper.specs.Entries.{chunks_with}
+use Rattle.vd_keeper.specs.Flushes.{is_recycle}
+use Rattle.vd_keeper.specs.Moves.{after_data}
 use Rattle.vd_passes.specs.declared.pass.Pass.{Pass}
 use Rattle.vd_passes.specs.declared.pass.Phase.TheVariants.{Flushing}
-use Rattle.vd_passes.specs.Passes.{call_of}
-use Rattle.vd_safety.specs.Mirrors.{bit_of, IsOfHeader, IsBegunOf, IsProgressOf, Nowhere, IsStageBy, IsStageOf, Mirrors, IsSecured}
+use Rattle.vd_passes.specs.Passes.{call_id}
+use Rattle.vd_safety.specs.Mirrors.{bit_of, IsOfHeader, IsBegunOf, IsProgressOf, Nowhere, IsStageBy, IsStageOf, Mirrors, HasSafeMirror}
 use Rattle.vd_safety.proofs.Records.{by-header}
 use Rattle.vd_safety.proofs.Putting.{same-chunks}
 use Rattle.vd_safety.proofs.Stepping.{keeps-at, stage-at, stage-by}
 use Rattle.vd_safety.proofs.Settling.{data-not-data, data-not-syncs, data-seals, begun-after, p', ended}
 
-module _ (h : Header) (o : Opening) (table : Given) (fresh : List Bool) (k : Keeping) (passes : List Pass) (history : Numbered) (log : List Entry) (s : State) (i : ℕ) (p : Pass) (t : Ticket)
+module _ (h : Header) (o : Opening) (table : TableState) (fresh : List Bool) (k : KeeperState) (passes : List Pass) (history : HistoryState) (log : List Entry) (s : State) (i : ℕ) (p : Pass) (t : Ticket)
     (of : IsOfHeader h o k) (was : KeepsCrashSafety o s) (mirrors : Mirrors o table fresh k (Some i) passes history log s)
     (there : slice_get passes i ≡ Some p) (flushes : p.phase ≡ Flushing) (has : p.ticket ≡ Some t) (sends : k.stage ≡ DataFlush) where
-  now : IsBegunOf k × IsStageBy DataFlush k.head (Some t) o k (call_of i p) s.stage
+  now : IsBegunOf k × IsStageBy DataFlush k.head (Some t) o k (call_id i p) s.stage
   now = stage-at DataFlush k.head (Some t) i p o k (Some i) passes s.stage refl there sends refl has mirrors.stage
 
   abbrev snapshot : Snapshot
@@ -77,7 +77,7 @@ module _ (h : Header) (o : Opening) (table : Given) (fresh : List Bool) (k : Kee
   abbrev pr : Progress
   pr = nothing_put snapshot s.memory.index.cursor paged
 
-  abbrev k' : Keeping
+  abbrev k' : KeeperState
   k' = record k { stage = after_data k.way }
 
   so_far : IsProgressOf k' pr Nowhere Nowhere
@@ -100,7 +100,7 @@ module _ (h : Header) (o : Opening) (table : Given) (fresh : List Bool) (k : Kee
   begun = begun-after k (after_data k.way) k.put now.0 (data-not-data k.way) (λ e page. unput page) (λ e. absurd (data-not-syncs k.way e)) (λ e head. data-seals k.way e)
 
   abbrev stage : core.Stage
-  stage = Working (call_of i p) now.1.0 now.1.1 now.1.2 pr
+  stage = Working (call_id i p) now.1.0 now.1.1 now.1.2 pr
 
   -- the stage after it, by the way
   stage-after : (w : way.Way) → k.way ≡ w → IsStageOf (Some i) o k' (slice_set passes i (p' o table fresh k passes history log s i p mirrors there flushes)) stage
@@ -112,9 +112,9 @@ module _ (h : Header) (o : Opening) (table : Given) (fresh : List Bool) (k : Kee
   stage-after (ways.Recycle u) e =
       stage-by Puts k.head None i p (p' o table fresh k passes history log s i p mirrors there flushes) o k' passes stage there (ap after_data e) refl refl begun (now.1.0, now.1.1, now.1.2, pr, so_far, refl)
 
-  pub data-flushed : IsSecured o table fresh k' (Some i) (slice_set passes i (record p { ticket = None })) history (log ++ Reply (ticket_id t) Fine ∷ [])
+  pub data-flushed : HasSafeMirror o table fresh k' (Some i) (slice_set passes i (record p { ticket = None })) history (log ++ Reply (ticket_id t) Fine ∷ [])
   data-flushed =
-      let sending : core.Stage = Sending (call_of i p) now.1.0 now.1.1 now.1.2 snapshot (ticket_id t) in
+      let sending : core.Stage = Sending (call_id i p) now.1.0 now.1.1 now.1.2 snapshot (ticket_id t) in
       let after = primitive_keeps o (state s.log s.history s.memory s.marked s.flights sending) (state (s.log ++ Reply (ticket_id t) Fine ∷ []) s.history s.memory s.marked s.flights stage)
-      (Data_flushed s.log s.history s.memory s.marked s.flights (call_of i p) (ticket_id t) now.1.0 now.1.1 now.1.2 snapshot paged clean) (keeps-at o s sending now.1.5 was) in
+      (Data_flushed s.log s.history s.memory s.marked s.flights (call_id i p) (ticket_id t) now.1.0 now.1.1 now.1.2 snapshot paged clean) (keeps-at o s sending now.1.5 was) in
       ended o table fresh k passes history log s i p mirrors there flushes k' (Reply (ticket_id t) Fine) s.marked stage after (record { header = refl; stale = refl; owed = refl }) refl refl refl mirrors.marked (stage-after k.way refl)

@@ -4,13 +4,13 @@ use Rattle.std.proofs.lemmas.Bool.{cases_eq}
 use Rattle.vd_law.specs.declared.entry.CallId.{CallId}
 use Rattle.vd_device.specs.declared.ticket.Ticket.{Ticket}
 use Rattle.vd_device.specs.Tickets.{ticket_id}
-use Rattle.vd_crash.specs.Words.{IsUpdated}
-use Rattle.vd_flushes.specs.Stage.{Flight, Idle as NoFlight, Writing, Answering}
+use Rattle.vd_crash.specs.facts.Words.{IsUpdated}
+use Rattle.vd_crash.specs.flushes.Stage.{Flight, Idle as NoFlight, Writing, Answering}
 use Rattle.vd_passes.specs.declared.pass.Pass.{Pass}
 use Rattle.vd_passes.specs.declared.pass.Phase.{Phase}
 use Rattle.vd_passes.specs.declared.pass.Phase.TheVariants.{Idle, Asked, Held, Fetching, Filled, Issuing, Looking, Flushing, Ready}
 use Rattle.vd_passes.specs.declared.pass.Fault.{Fault}
-use Rattle.vd_passes.specs.Passes.{call_of}
+use Rattle.vd_passes.specs.Passes.{call_id}
 use Rattle.vd_safety.specs.Mirrors.{bit_of, IsFlightOf, AreFlightsOf, IsPendingOf}
 use Rattle.vd_safety.proofs.Updates.{some-inj, get-set-other, get-set-same, at-set, none-set}
 
@@ -60,7 +60,7 @@ ready-flight (Some why) i p f none is = is
 
 -- the flight of a pass that issues
 abbrev pub IsWritingOf : (i : ℕ) → Pass → Flight → Type 0
-IsWritingOf i p f = (t : Ticket) × (j : ℕ) × (n : ℕ) × (p.ticket ≡ Some t) × (f ≡ Writing p.block j n (call_of i p) (ticket_id t))
+IsWritingOf i p f = (t : Ticket) × (j : ℕ) × (n : ℕ) × (p.ticket ≡ Some t) × (f ≡ Writing p.block j n (call_id i p) (ticket_id t))
 
 pub flight-of : (passes : List Pass) (flights : ℕ → Flight) (i : ℕ) (p : Pass) (phase : Phase) → AreFlightsOf passes flights → slice_get passes i ≡ Some p → p.phase ≡ phase → IsFlightOf phase p.fault i p (flights i)
 flight-of passes flights i p phase are there is = subst (λ (x : Phase). IsFlightOf x p.fault i p (flights i)) is (are.each i p there)
@@ -82,7 +82,7 @@ module _ (Has : Flight → Type 0) (rests : Has NoFlight → ⊥) (answers : (c 
   writing-in Issuing fault i p f is has = (refl, is)
   writing-in Looking fault i p f is has = absurd (none f is has)
   writing-in Flushing fault i p f is has = absurd (none f is has)
-  writing-in Ready None i p f (inl a) has = absurd (answers (call_of i p) a.1.0 a.1.1 (subst Has a.1.2 has))
+  writing-in Ready None i p f (inl a) has = absurd (answers (call_id i p) a.1.0 a.1.1 (subst Has a.1.2 has))
   writing-in Ready None i p f (inr r) has = absurd (none f r.1 has)
   writing-in Ready (Some why) i p f is has = absurd (none f is has)
 

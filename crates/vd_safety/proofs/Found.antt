@@ -3,29 +3,29 @@ use Rattle.std.proofs.Common.{ℕ, ◌≡◌, ◌/◌, ◌<◌, ◌≤◌, ◌�
 use Rattle.std.specs.Prelude.{if◌then◌else◌}
 use Rattle.vd_law.specs.declared.entry.Sector.{Sector}
 use Rattle.vd_law.specs.Entries.{Entry}
-use Rattle.vd_law.specs.Histories.{Numbered}
+use Rattle.vd_law.specs.Histories.{HistoryState}
 use Rattle.vd_format.specs.declared.header.Header.{Header}
-use Rattle.vd_table.specs.Tables.{Given}
-use Rattle.vd_reading.specs.Background.{zero_sector as read_zero}
+use Rattle.vd_table.specs.Tables.{TableState}
 use Rattle.vd_image.specs.Log.{NoneSureFrom, May, IsImage}
-use Rattle.vd_image.specs.Image.{Header as ImageHeader, Mapping, DiskHas, background, unmapped}
+use Rattle.vd_image.specs.Image.{Header as ImageHeader, Mapping, DiskHas, unmapped_sector}
 use Rattle.vd_image.specs.Layouts.{layout_of}
 use Rattle.vd_image.specs.Decoders.{Entry as MapEntry, format_of}
-use Rattle.vd_image.specs.CrashImages.{sectors_or, base_at}
-use Rattle.vd_image.specs.Made.{zero_sector}
-use Rattle.vd_crash.specs.Safe.{NumberedEntry, Opening, events}
-use Rattle.vd_crash.specs.Facts.{IsDrop, Local, Memory, IsShown, Holds}
-use Rattle.vd_crash.proofs.Histories.{events_numbered}
-use Rattle.vd_crash.proofs.Recovered.{mapped, due_has, local_by, header_order, start_left}
-use Rattle.vd_primitives.specs.Primitives.{State}
-use Rattle.vd_primitives.specs.Keeping.{KeepsCrashSafety}
+use Rattle.vd_image.specs.CrashImages.{sectors_or}
+use Rattle.vd_crash.specs.facts.Safe.{NumberedEntry, Opening, events}
+use Rattle.vd_crash.specs.facts.Facts.{IsDrop, IsShown, Holds}
+use Rattle.vd_crash.proofs.facts.Histories.{events_numbered}
+use Rattle.vd_crash.proofs.facts.Recovered.{mapped, due_has, local_by, header_order, start_left}
+use Rattle.vd_crash.specs.primitives.Primitives.{State}
+use Rattle.vd_crash.specs.primitives.Keeping.{KeepsCrashSafety}
 use Rattle.vd_replay.specs.Images.{image_of}
-use Rattle.vd_meta.specs.Keeping.{Keeping}
+use Rattle.vd_keeper.specs.Keeping.{KeeperState}
 use Rattle.vd_passes.specs.declared.pass.Pass.{Pass}
-use Rattle.vd_safety.specs.Mirrors.{IsUndiscarded, bit_of, storage_of, opening_for, IsSecured}
+use Rattle.vd_safety.specs.Mirrors.{IsUndiscarded, bit_of, storage_of, opening_for, HasSafeMirror}
 use Rattle.vd_safety.specs.Held.{IsHeldNow, IsFound}
-use Rattle.vd_safety.proofs.Opening.{zeros-same}
 use Rattle.vd_safety.proofs.Held.{held_image}
+use Rattle.vd_format.specs.Background.{background, base_at, zero_sector}
+use Rattle.vd_crash.specs.facts.Memory.{Memory}
+use Rattle.vd_crash.specs.facts.Metadata.{Local}
 
 is_false : (x : Bool) → (x ≡ true → ⊥) → x ≡ false
 is_false true h = absurd (h refl)
@@ -39,7 +39,7 @@ FoundBy o m image s v =
     ((p : ℕ) × (m.index.table (o.layout.chunk_of (o.layout.block_of s)) ≡ Some p) × (m.fresh (o.layout.block_of s) ≡ true) × (v ≡ image (o.layout.place p s)))
     ⊎ ((m.index.stale (o.layout.block_of s) ≡ false) × (v ≡ background o.base o.zeros m.index.tracked s))
 
-by_kind : (o : Opening) (w : Mapping) (tracked s : ℕ) → w.zeros ≡ false → unmapped o.base o.zeros tracked w s ≡ background o.base o.zeros tracked s
+by_kind : (o : Opening) (w : Mapping) (tracked s : ℕ) → w.zeros ≡ false → unmapped_sector o.base o.zeros tracked w s ≡ background o.base o.zeros tracked s
 by_kind o w tracked s base = ap (λ (y : Bool). if y then o.zeros else background o.base o.zeros tracked s) base
 
 found_by : (o : Opening) (log : List Entry) (history : List NumberedEntry) (m : Memory) → Holds o log history m → IsUndiscarded m.discards → ((b : ℕ) → m.index.off_base b ≡ m.index.stale b) → ((b : ℕ) → m.index.tried b ≡ false) → (image : ℕ → Sector) → IsImage o.before log image
@@ -73,7 +73,7 @@ kept_holds o s kept = kept.core.holds
 
 -- ---- of a core
 
-module _ (o : Opening) (table : Given) (fresh : List Bool) (k : Keeping) (flusher : Option ℕ) (passes : List Pass) (history : Numbered) (log : List Entry) (secured : IsSecured o table fresh k flusher passes history log) where
+module _ (o : Opening) (table : TableState) (fresh : List Bool) (k : KeeperState) (flusher : Option ℕ) (passes : List Pass) (history : HistoryState) (log : List Entry) (secured : HasSafeMirror o table fresh k flusher passes history log) where
   holds : Holds o secured.state.log secured.state.history secured.state.memory
   holds = kept_holds o secured.state secured.keeps
 
@@ -96,14 +96,8 @@ module _ (o : Opening) (table : Given) (fresh : List Bool) (k : Keeping) (flushe
       ]
 
 -- Each sector of the disk that a held image stands for is found there.
-pub held-found : (h : Header) (entries : List MapEntry) (before : List Sector) (held : ℕ → Sector) (base disk : List Sector) (opened : ℕ) (table : Given) (fresh : List Bool) (k : Keeping) (flusher : Option ℕ) (passes : List Pass) (history : Numbered) (log : List Entry) (now : List Sector)
-    → IsSecured (opening_for h entries before held base disk opened) table fresh k flusher passes history log → IsHeldNow before log now
+pub held-found : (h : Header) (entries : List MapEntry) (before : List Sector) (held : ℕ → Sector) (base disk : List Sector) (opened : ℕ) (table : TableState) (fresh : List Bool) (k : KeeperState) (flusher : Option ℕ) (passes : List Pass) (history : HistoryState) (log : List Entry) (now : List Sector)
+    → HasSafeMirror (opening_for h entries before held base disk opened) table fresh k flusher passes history log → IsHeldNow before log now
     → (s : ℕ) (v : Sector) → s < h.size → DiskHas (format_of h) (layout_of h) (base_at zero_sector base) zero_sector (image_of now) s v → IsFound h base table fresh k now s v
 held-found h entries before held base disk opened table fresh k flusher passes history log now secured is_held s v inside has =
-    subst Found (sym zeros-same)
-    (secured-found (opening_for h entries before held base disk opened) table fresh k flusher passes history log secured (sectors_or read_zero now) (held_image read_zero before log now is_held) s v inside
-    (subst (λ (z : Sector). DiskHas (format_of h) (layout_of h) (base_at z base) z (sectors_or z now) s v) zeros-same has))
-  where
-    Found : Sector → Type 0
-    Found z = ((p : ℕ) × (storage_of table (s / h.block / h.chunk) ≡ Some p) × (bit_of fresh (s / h.block) ≡ true) × (v ≡ sectors_or z now ((layout_of h).place p s)))
-        ⊎ ((bit_of k.stale (s / h.block) ≡ false) × (v ≡ background (base_at z base) z k.header.tracked s))
+    secured-found (opening_for h entries before held base disk opened) table fresh k flusher passes history log secured (sectors_or zero_sector now) (held_image zero_sector before log now is_held) s v inside has

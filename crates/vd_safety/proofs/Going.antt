@@ -8,7 +8,7 @@ use Rattle.vd_law.specs.declared.entry.Sector.{Sector}
 use Rattle.vd_law.specs.declared.entry.CallId.{CallId}
 use Rattle.vd_law.specs.declared.entry.Answer.TheVariants.{StoreFault}
 use Rattle.vd_law.specs.Entries.{Asked, Flush as AsksFlush, Entry, Ask, Issue, Done as Ended, Broke, Seen, Reply, Past, ◌▸◌, past}
-use Rattle.vd_law.specs.Contents.{sector_in, Open, is_of_another, open_writes, looked_at, could, could_after}
+use Rattle.vd_law.specs.Contents.{sector_in, Open, is_of_another, open_writes, contents_after_seen, could, could_after}
 use Rattle.vd_law.proofs.Appending.{past-push, could-push}
 use Rattle.vd_law.proofs.Opening.{own_alone}
 use Rattle.vd_law.proofs.Sectors.{slice_get-inside, sector_in-place}
@@ -17,11 +17,11 @@ use Rattle.vd_device.specs.declared.ticket.Kind.{Kind}
 use Rattle.vd_device.specs.declared.ticket.Kind.TheVariants.{Read, Write, Flush}
 use Rattle.vd_device.specs.declared.settled.Settled.{Settled}
 use Rattle.vd_device.specs.declared.settled.Settled.TheVariants.{Done, NotYet, Failed}
-use Rattle.vd_device.specs.Tickets.{ticket_id, AreApart, IsClear}
-use Rattle.vd_device.specs.Calls.{issued, done_entry, failed_entry, Tells}
-use Rattle.vd_device.specs.Disks.{Disk, IsCalmAt, IsClean, IsOneOf, AreWrites, GrowsBy, Adds}
+use Rattle.vd_device.specs.Tickets.{ticket_id, AreRangesApart, IsClear}
+use Rattle.vd_device.specs.Calls.{issue_entry, done_entry, failed_entry, Tells}
+use Rattle.vd_device.specs.Disks.{Disk, IsUnwrittenAt, IsClean, IsOneOf, AreWrites, GrowsBy, Adds}
 use Rattle.vd_device.specs.Now.{call_number, flush_entries}
-use Rattle.vd_reading.specs.Quiet.{IsNoWrite, AddsNoWrite}
+use Rattle.vd_device.specs.Quiet.{IsNoWrite, AddsNoWrite}
 use Rattle.vd_image.specs.Log.{Fine, At, Covers, Writes, Flushes}
 use Rattle.vd_image.proofs.Logs.{length_push, writes_pushed}
 use Rattle.vd_safety.proofs.Orderly.{IsOrderly, orderly-ask, orderly-reply, orderly-issue, orderly-done, orderly-broke, orderly-seen}
@@ -49,16 +49,16 @@ calm_there : (tickets : List Ticket) (first count s : ℕ) (ws : List Open) → 
 calm_there tickets first count s [] clear all from to = refl
 calm_there tickets first count s (w ∷ ws) clear all from to = absurd (by_ticket (All-head (IsOneOf tickets s) w ws all))
   where
-    apart : (t : Ticket) → t.first ≤ s → s < t.first + t.count → AreApart t.first t.count first count → ⊥
+    apart : (t : Ticket) → t.first ≤ s → s < t.first + t.count → AreRangesApart t.first t.count first count → ⊥
     apart t low high (inl before) = omega (arith, low, high, before, from)
     apart t low high (inr after) = omega (arith, low, high, after, to)
 
     by_ticket : IsOneOf tickets s w → ⊥
     by_ticket one = apart one.ticket one.from one.to (each_at (IsClear first count) tickets one.among.0 one.ticket one.among.1 one.among.2 clear one.kind)
 
-pub orderly-issued : (old new : Disk) (ticket : Ticket) (content : List Sector) (tickets : List Ticket) → Adds (issued ticket content) old new → AreWrites tickets old → AllByRecursion (IsClear ticket.first (length content)) tickets
+pub orderly-issued : (old new : Disk) (ticket : Ticket) (content : List Sector) (tickets : List Ticket) → Adds (issue_entry ticket content) old new → AreWrites tickets old → AllByRecursion (IsClear ticket.first (length content)) tickets
     → IsOrderlyDisk old → IsOrderlyDisk new
-orderly-issued old new ticket content tickets adds writes clear orderly = more old new (issued ticket content) adds.start adds.log (orderly-issue old.start (past old.log) (ticket_id ticket) ticket.first content free orderly)
+orderly-issued old new ticket content tickets adds writes clear orderly = more old new (issue_entry ticket content) adds.start adds.log (orderly-issue old.start (past old.log) (ticket_id ticket) ticket.first content free orderly)
   where
     free : (s : ℕ) (v : Sector) → sector_in ticket.first content s ≡ Some v → open_writes (past old.log) s ≡ []
     free s v covers =
@@ -96,15 +96,15 @@ orderly-settled Done ticket out old new tickets tells writes apart orderly = by_
         held : slice_get new.held s ≡ Some v
         held = tells.gives read s v covers
 
-        could_is : could new.start new.log s ≡ looked_at (Some v) (list_any (is_of_another (ticket_id ticket)) (open_writes (past old.log) s)) (could old.start old.log s)
+        could_is : could new.start new.log s ≡ contents_after_seen (Some v) (list_any (is_of_another (ticket_id ticket)) (open_writes (past old.log) s)) (could old.start old.log s)
         could_is = ap (λ (xs : List Sector). could xs new.log s) grows.start ∙ ap (λ (l : List Entry). could old.start l s) grows.log ∙ could-push old.start old.log (Seen (ticket_id ticket) ticket.first out) s
-            ∙ ap (λ (o : Option Sector). looked_at o (list_any (is_of_another (ticket_id ticket)) (open_writes (past old.log) s)) (could old.start old.log s)) covers
+            ∙ ap (λ (o : Option Sector). contents_after_seen o (list_any (is_of_another (ticket_id ticket)) (open_writes (past old.log) s)) (could old.start old.log s)) covers
 
-        calm_still : open_writes (past old.log) s ≡ [] → IsCalmAt new s
+        calm_still : open_writes (past old.log) s ≡ [] → IsUnwrittenAt new s
         calm_still calm = ap (λ (l : List Entry). open_writes (past l) s) grows.log ∙ ap (λ (p : Past). open_writes p s) (past-push old.log (Seen (ticket_id ticket) ticket.first out)) ∙ calm
 
         by_others : (others : Bool) → list_any (is_of_another (ticket_id ticket)) (open_writes (past old.log) s) ≡ others → Contains (could old.start old.log s) v
-        by_others true is = subst (λ (c : List Sector). Contains c v) (could_is ∙ ap (λ (b : Bool). looked_at (Some v) b (could old.start old.log s)) is) (grows.honest s v held)
+        by_others true is = subst (λ (c : List Sector). Contains c v) (could_is ∙ ap (λ (b : Bool). contents_after_seen (Some v) b (could old.start old.log s)) is) (grows.honest s v held)
         by_others false is =
             let calm = none_own s (open_writes (past old.log) s) read (writes s) (own_alone (ticket_id ticket) (open_writes (past old.log) s) is) in
             grows.honest_before s v (sym (grows.others s calm (calm_still calm)) ∙ held)
@@ -121,9 +121,9 @@ inside_more : (old new : Disk) (e : Entry) → new.start ≡ old.start → new.l
 inside_more old new e start log covers inside i a v w =
     subst (λ (xs : List Sector). a < length xs) (sym start) (elim (writes_pushed old.log e i a v (subst (λ (l : List Entry). Writes l i a v) log w)) [ inl before ↦ inside i a v before | inr now ↦ covers a v now.1 ])
 
-pub inside-issued : (old new : Disk) (ticket : Ticket) (content : List Sector) → Adds (issued ticket content) old new → ticket.first + length content ≤ length old.start → AreInside old → AreInside new
+pub inside-issued : (old new : Disk) (ticket : Ticket) (content : List Sector) → Adds (issue_entry ticket content) old new → ticket.first + length content ≤ length old.start → AreInside old → AreInside new
 inside-issued old new ticket content adds room inside =
-    inside_more old new (issued ticket content) adds.start adds.log (λ s v covers. (let below = slice_get-inside content covers.0 v covers.2 in let at = covers.1 in omega (arith, below, at, room))) inside
+    inside_more old new (issue_entry ticket content) adds.start adds.log (λ s v covers. (let below = slice_get-inside content covers.0 v covers.2 in let at = covers.1 in omega (arith, below, at, room))) inside
 
 pub inside-asked : (old new : Disk) (id : CallId) (request : Asked) → Adds (Ask id request) old new → AreInside old → AreInside new
 inside-asked old new id request adds inside = inside_more old new (Ask id request) adds.start adds.log (λ s v covers. absurd covers) inside

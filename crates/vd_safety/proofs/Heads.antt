@@ -5,13 +5,13 @@ use Rattle.vd_format.specs.declared.header.Header.{Header}
 use Rattle.vd_format.specs.Headers.{spelling}
 use Rattle.vd_format.proofs.Headers.{header_of-spelling}
 use Rattle.vd_image.specs.Image.{geometry_of}
-use Rattle.vd_crash.specs.Safe.{Opening}
-use Rattle.vd_meta.specs.declared.stage.Way as way
-use Rattle.vd_meta.specs.declared.stage.Way.TheVariants as ways
-use Rattle.vd_meta.specs.Keeping.{Keeping}
-use Rattle.vd_meta.specs.Flushes.{IsKeeping, IsPossible, is_recycle}
-use Rattle.vd_meta.specs.Moves.{next_header}
-use Rattle.vd_meta.proofs.Ended.{next-valid}
+use Rattle.vd_crash.specs.facts.Safe.{Opening}
+use Rattle.vd_keeper.specs.declared.stage.Way as way
+use Rattle.vd_keeper.specs.declared.stage.Way.TheVariants as ways
+use Rattle.vd_keeper.specs.Keeping.{KeeperState}
+use Rattle.vd_keeper.specs.Flushes.{IsKeeping, IsPossible, is_recycle}
+use Rattle.vd_keeper.specs.Moves.{next_header}
+use Rattle.vd_keeper.proofs.Ended.{next-valid}
 use Rattle.vd_safety.specs.Mirrors.{IsOfHeader}
 use Rattle.vd_safety.proofs.Records.{by-header}
 
@@ -33,10 +33,10 @@ next-tracked ways.Records h same = refl
 next-tracked ways.Nothing h same = refl
 
 -- the sector of the next header says it
-pub head-reads : (h : Header) (o : Opening) (k : Keeping) (sector : Sector) → IsOfHeader h o k → IsKeeping k → IsPossible k → sector.bytes ≡ spelling (next_header k.way k.header) → o.format.header_of sector ≡ Ok (next_header k.way k.header)
+pub head-reads : (h : Header) (o : Opening) (k : KeeperState) (sector : Sector) → IsOfHeader h o k → IsKeeping k → IsPossible k → sector.bytes ≡ spelling (next_header k.way k.header) → o.format.header_of sector ≡ Ok (next_header k.way k.header)
 head-reads h o k sector of kept possible bytes =
     by-header h o k of (λ p. p.format.header_of sector ≡ Ok (next_header k.way k.header))
     (header_of-spelling sector (next_header k.way k.header) (record { valid = next-valid k.way k.header kept.valid possible.generation possible.tracked; bytes = bytes }))
 
-pub head-geometry : (h : Header) (o : Opening) (k : Keeping) → IsOfHeader h o k → geometry_of (next_header k.way k.header) ≡ o.layout.geometry
+pub head-geometry : (h : Header) (o : Opening) (k : KeeperState) → IsOfHeader h o k → geometry_of (next_header k.way k.header) ≡ o.layout.geometry
 head-geometry h o k of = by-header h o k of (λ p. geometry_of (next_header k.way k.header) ≡ p.layout.geometry) (next-geometry k.way k.header)

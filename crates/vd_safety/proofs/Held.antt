@@ -7,34 +7,32 @@ use Rattle.std.proofs.lemmas.Option.{get_or_from_slice_get}
 use Rattle.vd_law.specs.declared.entry.Sector.{Sector}
 use Rattle.vd_law.specs.Entries.{Entry}
 use Rattle.vd_law.specs.Contents.{may}
-use Rattle.vd_law.specs.Histories.{Numbered}
+use Rattle.vd_law.specs.Histories.{HistoryState}
 use Rattle.vd_format.specs.declared.header.Header.{Header}
-use Rattle.vd_table.specs.Tables.{Given}
-use Rattle.vd_reading.specs.Background.{zero_sector as read_zero}
+use Rattle.vd_table.specs.Tables.{TableState}
 use Rattle.vd_image.specs.Log.{May, IsImage}
 use Rattle.vd_image.specs.Image.{Format, Layout, Geometry, geometry_of, HasNoLater, IsSound, DiskHas}
 use Rattle.vd_image.specs.Layouts.{layout_of}
 use Rattle.vd_image.specs.Decoders.{Entry as MapEntry, this_version, format_of}
-use Rattle.vd_image.specs.CrashImages.{sectors_or, base_at}
+use Rattle.vd_image.specs.CrashImages.{sectors_or}
 use Rattle.vd_image.specs.Openings.{Opens, need_of}
-use Rattle.vd_image.specs.Made.{zero_sector}
 use Rattle.vd_image.proofs.CrashImages.{at_inside, past_end}
 use Rattle.vd_image.proofs.Exact.{may_is_exact}
 use Rattle.vd_image.proofs.Openings.{same_format, same_layout, sound_opens}
-use Rattle.vd_crash.specs.Safe.{Opening, numbered, up_to, IsSafeImage}
-use Rattle.vd_crash.specs.Facts.{IsOpened}
-use Rattle.vd_crash.proofs.Histories.{events_numbered}
-use Rattle.vd_crash.proofs.Moments.{up_to-all}
-use Rattle.vd_primitives.specs.Primitives.{State}
-use Rattle.vd_primitives.specs.Keeping.{KeepsCrashSafety}
+use Rattle.vd_crash.specs.facts.Safe.{Opening, numbered, events_up_to, IsSafeImage}
+use Rattle.vd_crash.specs.facts.Facts.{IsOpened}
+use Rattle.vd_crash.proofs.facts.Histories.{events_numbered}
+use Rattle.vd_crash.proofs.facts.Moments.{up_to-all}
+use Rattle.vd_crash.specs.primitives.Primitives.{State}
+use Rattle.vd_crash.specs.primitives.Keeping.{KeepsCrashSafety}
 use Rattle.vd_replay.specs.Images.{image_of}
 use Rattle.vd_replay.proofs.ListLaws.{get_some}
-use Rattle.vd_meta.specs.Keeping.{Keeping}
+use Rattle.vd_keeper.specs.Keeping.{KeeperState}
 use Rattle.vd_passes.specs.declared.pass.Pass.{Pass}
-use Rattle.vd_safety.specs.Mirrors.{opening_for, IsSecured}
+use Rattle.vd_safety.specs.Mirrors.{opening_for, HasSafeMirror}
 use Rattle.vd_safety.specs.Held.{IsHeldNow, IsOpenAgain}
-use Rattle.vd_safety.proofs.Opening.{zeros-same}
 use Rattle.vd_safety.proofs.Words.{secured-is-safe, secured-numbers}
+use Rattle.vd_format.specs.Background.{base_at, zero_sector}
 
 pub held_image : (zeros : Sector) (before : List Sector) (log : List Entry) (now : List Sector) → IsHeldNow before log now → IsImage (sectors_or zeros before) log (sectors_or zeros now)
 held_image zeros before log now held s = elim (cases_lt s (length before)) [
@@ -53,22 +51,22 @@ unfolding KeepsCrashSafety
 kept_opening o s kept = kept.core.holds.facts.opening
 
 -- an image that a crash may leave now is safe by the whole history
-safe_held : (o : Opening) (table : Given) (fresh : List Bool) (k : Keeping) (flusher : Option ℕ) (passes : List Pass) (history : Numbered) (log : List Entry) (image : ℕ → Sector) → IsSecured o table fresh k flusher passes history log
+safe_held : (o : Opening) (table : TableState) (fresh : List Bool) (k : KeeperState) (flusher : Option ℕ) (passes : List Pass) (history : HistoryState) (log : List Entry) (image : ℕ → Sector) → HasSafeMirror o table fresh k flusher passes history log
     → IsImage o.before log image → IsSafeImage o history.log.entries image
 safe_held o table fresh k flusher passes history log image secured left = subst (λ (es : List Entry). IsSafeImage o es image) all now
   where
     within : o.opened ≤ length log
     within = subst (λ (l : List Entry). o.opened ≤ length l) secured.mirrors.log_is (kept_opening o secured.state secured.keeps).within
 
-    now : IsSafeImage o (up_to (numbered history.log.entries history.numbers) (length log)) image
+    now : IsSafeImage o (events_up_to (numbered history.log.entries history.numbers) (length log)) image
     now = secured-is-safe o table fresh k flusher passes history log secured (length log) within (omega arith) image (subst (λ (l : List Entry). IsImage o.before l image) (sym (take_all (length log) log (omega arith))) left)
 
-    all : up_to (numbered history.log.entries history.numbers) (length log) ≡ history.log.entries
+    all : events_up_to (numbered history.log.entries history.numbers) (length log) ≡ history.log.entries
     all = up_to-all (numbered history.log.entries history.numbers) (length log) (secured-numbers o table fresh k flusher passes history log secured) ∙ events_numbered history.log.entries history.numbers secured.mirrors.many
 
 -- What the store of a secured core holds opens again.
-pub held-sound : (h : Header) (entries : List MapEntry) (before : List Sector) (held : ℕ → Sector) (base disk : List Sector) (opened : ℕ) (table : Given) (fresh : List Bool) (k : Keeping) (flusher : Option ℕ) (passes : List Pass) (history : Numbered) (log : List Entry) (now : List Sector)
-    → IsSecured (opening_for h entries before held base disk opened) table fresh k flusher passes history log → IsHeldNow before log now → h.version ≡ this_version → need_of h ≤ length now → length disk ≡ h.size
+pub held-sound : (h : Header) (entries : List MapEntry) (before : List Sector) (held : ℕ → Sector) (base disk : List Sector) (opened : ℕ) (table : TableState) (fresh : List Bool) (k : KeeperState) (flusher : Option ℕ) (passes : List Pass) (history : HistoryState) (log : List Entry) (now : List Sector)
+    → HasSafeMirror (opening_for h entries before held base disk opened) table fresh k flusher passes history log → IsHeldNow before log now → h.version ≡ this_version → need_of h ≤ length now → length disk ≡ h.size
     → IsOpenAgain h base disk history.log.entries now
 held-sound h entries before held base disk opened table fresh k flusher passes history log now secured holds version room size = record {
   sound = sound;
@@ -83,16 +81,16 @@ held-sound h entries before held base disk opened table fresh k flusher passes h
       (subst (λ (l : Layout). DiskHas (format_of again.0) l (base_at zero_sector base) zero_sector (image_of now) s v) (same_layout again.0 h again.1) has));
 }
   where
-    safe : IsSafeImage (opening_for h entries before held base disk opened) history.log.entries (sectors_or read_zero now)
-    safe = safe_held (opening_for h entries before held base disk opened) table fresh k flusher passes history log (sectors_or read_zero now) secured (held_image read_zero before log now holds)
+    safe : IsSafeImage (opening_for h entries before held base disk opened) history.log.entries (sectors_or zero_sector now)
+    safe = safe_held (opening_for h entries before held base disk opened) table fresh k flusher passes history log (sectors_or zero_sector now) secured (held_image zero_sector before log now holds)
 
     sound : IsSound (format_of h) (layout_of h) (image_of now)
-    sound = subst (λ (z : Sector). IsSound (format_of h) (layout_of h) (sectors_or z now)) (sym zeros-same) safe.sound
+    sound = safe.sound
 
     again : (g : Header) × (geometry_of g ≡ geometry_of h) × Opens (length now) (image_of now) g × HasNoLater (format_of g) (layout_of g) (image_of now) g.generation
     again = sound_opens h (length now) (image_of now) version room sound
 
     allowed : (s : ℕ) (v : Sector) → s < h.size → DiskHas (format_of h) (layout_of h) (base_at zero_sector base) zero_sector (image_of now) s v → Contains (may disk history.log.entries s) v
     allowed s v inside has =
-        (may_is_exact disk (sectors_or read_zero disk) history.log.entries s v (at_inside read_zero disk s (omega (arith, size, inside)))).1
-        (safe.allowed s v inside (subst (λ (z : Sector). DiskHas (format_of h) (layout_of h) (base_at z base) z (sectors_or z now) s v) zeros-same has))
+        (may_is_exact disk (sectors_or zero_sector disk) history.log.entries s v (at_inside zero_sector disk s (omega (arith, size, inside)))).1
+        (safe.allowed s v inside has)

@@ -5,34 +5,33 @@ use Rattle.std.proofs.lemmas.List.{length-take-le}
 use Rattle.std.proofs.lemmas.Option.{slice_get_within}
 use Rattle.vd_law.specs.declared.entry.Sector.{Sector}
 use Rattle.vd_law.specs.Entries.{Entry, Issue}
-use Rattle.vd_law.specs.Histories.{Numbered}
+use Rattle.vd_law.specs.Histories.{HistoryState}
 use Rattle.vd_device.specs.declared.ticket.Ticket.{Ticket}
 use Rattle.vd_device.specs.Tickets.{ticket_id}
 use Rattle.vd_device.specs.Disks.{Disk}
 use Rattle.vd_format.specs.declared.header.Header.{Header}
 use Rattle.vd_format.specs.Layouts.{blocks_of, storage_start}
-use Rattle.vd_table.specs.Tables.{Given}
-use Rattle.vd_reading.specs.Background.{background}
+use Rattle.vd_table.specs.Tables.{TableState}
 use Rattle.vd_image.specs.Image.{Layout}
-use Rattle.vd_crash.specs.Safe.{Opening}
-use Rattle.vd_crash.specs.Words.{IsUpdated, IsSameWrite, IsWholeWrite, with_blocks}
-use Rattle.vd_flushes.specs.Stage.{Flight, Writing}
-use Rattle.vd_flushes.specs.Moves.{entry_now}
-use Rattle.vd_primitives.specs.Primitives.{State, state}
-use Rattle.vd_primitives.specs.Primitives.IsPrimitive.{Issues as Issues_local, Issues_whole}
-use Rattle.vd_primitives.specs.Keeping.{KeepsCrashSafety}
-use Rattle.vd_primitives.proofs.Keeping.{primitive_keeps}
-use Rattle.vd_meta.specs.Keeping.{Keeping}
+use Rattle.vd_crash.specs.facts.Safe.{Opening}
+use Rattle.vd_crash.specs.facts.Words.{IsUpdated, IsSameWrite, IsWholeWrite, with_blocks}
+use Rattle.vd_crash.specs.flushes.Stage.{Flight, Writing}
+use Rattle.vd_crash.specs.flushes.Moves.{entry_now}
+use Rattle.vd_crash.specs.primitives.Primitives.{State, state}
+use Rattle.vd_crash.specs.primitives.Primitives.IsPrimitive.{Issues as Issues_local, Issues_whole}
+use Rattle.vd_crash.specs.primitives.Keeping.{KeepsCrashSafety}
+use Rattle.vd_crash.proofs.primitives.Keeping.{primitive_keeps}
+use Rattle.vd_keeper.specs.Keeping.{KeeperState}
 use Rattle.vd_passes.specs.declared.shape.Shape.{Shape}
 use Rattle.vd_passes.specs.declared.pass.Pass.{Pass}
 use Rattle.vd_passes.specs.declared.pass.Phase.{Phase}
 use Rattle.vd_passes.specs.declared.pass.Phase.TheVariants.{Idle, Held, Filled, Issuing, Flushing}
-use Rattle.vd_passes.specs.Laying.{laid, IsRest}
+use Rattle.vd_passes.specs.Laying.{content_with_part, IsRest}
 use Rattle.vd_passes.specs.Standings.{standing}
 use Rattle.vd_passes.specs.Places.{place_of}
-use Rattle.vd_passes.specs.Passes.{has_region, call_of, StandsAs, IsPiece, IsRequestOf, HasTicket, after_issue}
+use Rattle.vd_passes.specs.Passes.{has_region, call_id, IsAsHistorySays, IsPiece, IsRequestOf, HasInFlight, after_issue}
 use Rattle.vd_passes.specs.Steps.{IsAt, HasAskedWrite, Issues}
-use Rattle.vd_safety.specs.Mirrors.{bit_of, storage_of, given, AreFlightsOf, IsPendingOf, IsStageOf, Mirrors, IsSecured}
+use Rattle.vd_safety.specs.Mirrors.{bit_of, storage_of, storage_given, AreFlightsOf, IsPendingOf, IsStageOf, Mirrors, HasSafeMirror}
 use Rattle.vd_safety.proofs.Updates.{some-inj, bit-is, updated, is-updated}
 use Rattle.vd_safety.proofs.Places.{chunk-is, place-from}
 use Rattle.vd_safety.proofs.Writing.{Comes, comes-laid, length-laid, same-write, whole-write}
@@ -42,6 +41,7 @@ use Rattle.vd_safety.proofs.Stages.{stage-set}
 use Rattle.vd_safety.proofs.Mirroring.{mirrored, was-history, history-more}
 use Rattle.vd_safety.proofs.Backing.{buffer-is}
 use Rattle.vd_safety.proofs.Knowing.{at-this, may-issue, none-pending}
+use Rattle.vd_format.specs.Background.{background_of}
 
 -- a part has the length that was asked of it, where there is so much
 pub part-long : (content : List Sector) (done piece : ℕ) → done + piece ≤ length content → length (slice_range content done (done + piece)) ≡ piece
@@ -55,13 +55,13 @@ holding-phase : (P : Phase → Type 0) → P Held → P Filled → (p : Pass) �
 holding-phase P held filled p (inl is) = subst P (sym is) held
 holding-phase P held filled p (inr is) = subst P (sym is) filled
 
-module _ {h : Header} {o : Opening} {shape : Shape} {table : Given} {fresh : List Bool} {k : Keeping} {flusher : Option ℕ} {passes passes' : List Pass} {history : Numbered} {base content : List Sector}
-    {i last last' : ℕ} {flies flies' : List Ticket → Type 0} {tells tells' : Type 0} {disk disk' : Disk} (history' : Numbered)
+module _ {h : Header} {o : Opening} {shape : Shape} {table : TableState} {fresh : List Bool} {k : KeeperState} {flusher : Option ℕ} {passes passes' : List Pass} {history : HistoryState} {base content : List Sector}
+    {i last last' : ℕ} {flight flight' : List Ticket → Type 0} {tells tells' : Type 0} {disk disk' : Disk} (history' : HistoryState)
     (around : Surroundings h o shape table fresh k flusher passes history.log.entries base last)
     (at : IsAt passes i (λ p. ((p.phase ≡ Held) ⊎ (p.phase ≡ Filled)) × (p.write ≡ true))) (asked : HasAskedWrite history.log.entries i content)
-    (step : Issues shape fresh content i passes passes' history.log.entries history'.log.entries flies flies' tells tells' disk disk' last last')
+    (step : Issues shape fresh content i passes passes' history.log.entries history'.log.entries flight flight' tells tells' disk disk' last last')
     (numbers : history'.numbers ≡ history.numbers ++ length disk.log ∷ []) (telling : tells')
-    (secured : IsSecured o table fresh k flusher passes history disk.log) where
+    (secured : HasSafeMirror o table fresh k flusher passes history disk.log) where
   abbrev s : State
   s = secured.state
 
@@ -75,7 +75,7 @@ module _ {h : Header} {o : Opening} {shape : Shape} {table : Given} {fresh : Lis
   part = slice_range content p.done (p.done + p.piece)
 
   abbrev event : Entry
-  event = Issue (call_of i p) (p.first + p.done) part
+  event = Issue (call_id i p) (p.first + p.done) part
 
   abbrev stored-event : Entry
   stored-event = Issue (ticket_id t) t.first step.stored
@@ -86,7 +86,7 @@ module _ {h : Header} {o : Opening} {shape : Shape} {table : Given} {fresh : Lis
   this : ((p.phase ≡ Held) ⊎ (p.phase ≡ Filled)) × (p.write ≡ true)
   this = at-this passes i (λ p. ((p.phase ≡ Held) ⊎ (p.phase ≡ Filled)) × (p.write ≡ true)) p step.there at
 
-  stands : StandsAs shape fresh (place_of shape table.chunks) (standing history.log.entries i) p
+  stands : IsAsHistorySays shape fresh (place_of shape table.chunks) (standing history.log.entries i) p
   stands = around.each i p step.there
 
   region : has_region p.phase ≡ true
@@ -120,7 +120,7 @@ module _ {h : Header} {o : Opening} {shape : Shape} {table : Given} {fresh : Lis
   has-storage : s.memory.index.table (o.layout.chunk_of p.block) ≡ Some placed.0
   has-storage = mirrors.storage (o.layout.chunk_of p.block)
       ∙ ap (storage_of table) (chunk-is h o.layout around.header.layout p.block ∙ ap (λ (n : ℕ). p.block / n) (sym (chunk-same around)))
-      ∙ ap given placed.1
+      ∙ ap storage_given placed.1
 
   place : p.at ≡ storage_start h + (placed.0 * h.chunk + p.block % h.chunk) * h.block
   place = let a = placed.2 in let b = block-same around in let c = chunk-same around in let d = storage-same around in cc
@@ -150,16 +150,16 @@ module _ {h : Header} {o : Opening} {shape : Shape} {table : Given} {fresh : Lis
   log-after = ap (λ (es : List Entry). es ++ stored-event ∷ []) mirrors.log_is ∙ sym (step.told telling).0.log
 
   abbrev flights' : ℕ → Flight
-  flights' = updated s.flights i (Writing p.block (length s.history) (length s.log) (call_of i p) (ticket_id t))
+  flights' = updated s.flights i (Writing p.block (length s.history) (length s.log) (call_id i p) (ticket_id t))
 
-  put-flight : IsUpdated s.flights flights' i (Writing p.block (length s.history) (length s.log) (call_of i p) (ticket_id t))
-  put-flight = is-updated s.flights i (Writing p.block (length s.history) (length s.log) (call_of i p) (ticket_id t))
+  put-flight : IsUpdated s.flights flights' i (Writing p.block (length s.history) (length s.log) (call_id i p) (ticket_id t))
+  put-flight = is-updated s.flights i (Writing p.block (length s.history) (length s.log) (call_id i p) (ticket_id t))
 
   abbrev p' : Pass
   p' = after_issue p t step.buffer
 
   flights-after : AreFlightsOf (slice_set passes i p') flights'
-  flights-after = flights-set passes i p p' s.flights flights' (Writing p.block (length s.history) (length s.log) (call_of i p) (ticket_id t)) step.there mirrors.flights put-flight
+  flights-after = flights-set passes i p p' s.flights flights' (Writing p.block (length s.history) (length s.log) (call_id i p) (ticket_id t)) step.there mirrors.flights put-flight
       (t, length s.history, length s.log, refl, refl)
 
   stage-after : IsStageOf flusher o k (slice_set passes i p') s.stage
@@ -171,7 +171,7 @@ module _ {h : Header} {o : Opening} {shape : Shape} {table : Given} {fresh : Lis
   -- the whole state, with these blocks written whole
   after : (pending : ℕ → Option ℕ) → ((c : ℕ) → IsPendingOf fresh (slice_set passes i p') c (pending c))
       → KeepsCrashSafety o (state (s.log ++ stored-event ∷ []) (s.history ++ entry_now s.log event ∷ []) (with_blocks s.memory s.memory.fresh s.memory.born s.memory.owed pending) s.marked flights' s.stage)
-      → IsSecured o table fresh k flusher (slice_set passes i p') history' disk'.log
+      → HasSafeMirror o table fresh k flusher (slice_set passes i p') history' disk'.log
   after pending pending_is keeps = record {
     state = state (s.log ++ stored-event ∷ []) (s.history ++ entry_now s.log event ∷ []) (with_blocks s.memory s.memory.fresh s.memory.born s.memory.owed pending) s.marked flights' s.stage;
     keeps = keeps;
@@ -185,18 +185,18 @@ module _ {h : Header} {o : Opening} {shape : Shape} {table : Given} {fresh : Lis
   fresh-is v there = bit-is fresh p.block v there
 
   filled-not : p.phase ≡ Filled → bit_of fresh p.block ≡ false
-  filled-not is = fresh-is false (subst (λ ph. HasTicket ph shape fresh p) is stands.ticket).1
+  filled-not is = fresh-is false (subst (λ ph. HasInFlight ph shape fresh p) is stands.ticket).1
 
   -- the block is local, and the piece is written to its place
-  local : bit_of fresh p.block ≡ true → IsSecured o table fresh k flusher (slice_set passes i p') history' disk'.log
+  local : bit_of fresh p.block ≡ true → HasSafeMirror o table fresh k flusher (slice_set passes i p') history' disk'.log
   local is_fresh = after s.memory.pending others-pending
       (primitive_keeps o s (state (s.log ++ stored-event ∷ []) (s.history ++ entry_now s.log event ∷ []) s.memory s.marked flights' s.stage)
-      (Issues_local s.log s.history s.memory s.marked s.flights flights' s.stage i p.block placed.0 (call_of i p) (ticket_id t) (p.first + p.done) part stored-event
+      (Issues_local s.log s.history s.memory s.marked s.flights flights' s.stage i p.block placed.0 (call_id i p) (ticket_id t) (p.first + p.done) part stored-event
       (may-issue around mirrors i p t step.there region bare told) put-flight refl (mirrors.fresh_is p.block ∙ is_fresh) has-storage same) secured.keeps)
     where
       same : IsSameWrite o event stored-event p.block placed.0
       same = elim step.given.way [
-        | inl held ↦ subst (λ (xs : List Sector). IsSameWrite o event (Issue (ticket_id t) t.first xs) p.block placed.0) (sym held.0) (same-write h o around.header.layout some some-chunk p.block placed.0 (p.first + p.done) p.at part (call_of i p) (ticket_id t) from to place t.first (let e = scaled in let g = held.4 in omega arith))
+        | inl held ↦ subst (λ (xs : List Sector). IsSameWrite o event (Issue (ticket_id t) t.first xs) p.block placed.0) (sym held.0) (same-write h o around.header.layout some some-chunk p.block placed.0 (p.first + p.done) p.at part (call_id i p) (ticket_id t) from to place t.first (let e = scaled in let g = held.4 in omega arith))
         | inr filled ↦ absurd (let not_fresh = filled-not filled.2 in cc)
       ]
 
@@ -208,10 +208,10 @@ module _ {h : Header} {o : Opening} {shape : Shape} {table : Given} {fresh : Lis
   offset = p.first + p.done - shape.block * p.block
 
   -- it isn't, and the block is written whole
-  whole : bit_of fresh p.block ≡ false → IsSecured o table fresh k flusher (slice_set passes i p') history' disk'.log
+  whole : bit_of fresh p.block ≡ false → HasSafeMirror o table fresh k flusher (slice_set passes i p') history' disk'.log
   whole not_fresh = after pending' pending-after
       (primitive_keeps o s (state (s.log ++ stored-event ∷ []) (s.history ++ entry_now s.log event ∷ []) (with_blocks s.memory s.memory.fresh s.memory.born s.memory.owed pending') s.marked flights' s.stage)
-      (Issues_whole s.log s.history s.memory s.marked pending' s.flights flights' s.stage i p.block placed.0 (call_of i p) (ticket_id t) (p.first + p.done) part stored-event
+      (Issues_whole s.log s.history s.memory s.marked pending' s.flights flights' s.stage i p.block placed.0 (call_id i p) (ticket_id t) (p.first + p.done) part stored-event
       (may-issue around mirrors i p t step.there region bare told) put-flight refl (mirrors.fresh_is p.block ∙ not_fresh) (none-pending around mirrors i p step.there region bare)
       (let e : o.layout.blocks ≡ blocks_of h = ap (λ (l : Layout). l.blocks) around.header.layout in let g = in-disk in omega arith)
       has-storage put-pending write) secured.keeps)
@@ -228,10 +228,10 @@ module _ {h : Header} {o : Opening} {shape : Shape} {table : Given} {fresh : Lis
 
       block-whole : t.first ≡ p.at → (stored : List Sector) → length stored ≡ h.block → ((n : ℕ) (v : Sector) → slice_get stored n ≡ Some v → Comes offset part (λ m u. u ≡ o.disk (h.block * p.block + m)) n v)
           → IsWholeWrite o s.memory.discards event (Issue (ticket_id t) t.first stored) p.block placed.0
-      block-whole first stored stored_long comes = subst (λ (a : ℕ). IsWholeWrite o s.memory.discards event (Issue (ticket_id t) a stored) p.block placed.0) (sym first) (whole-write h o around.header.layout some some-chunk p.block placed.0 (p.first + p.done) p.at part (call_of i p) (ticket_id t) from to place s.memory.discards offset stored mirrors.undiscarded.zeros begins stored_long comes)
+      block-whole first stored stored_long comes = subst (λ (a : ℕ). IsWholeWrite o s.memory.discards event (Issue (ticket_id t) a stored) p.block placed.0) (sym first) (whole-write h o around.header.layout some some-chunk p.block placed.0 (p.first + p.done) p.at part (call_id i p) (ticket_id t) from to place s.memory.discards offset stored mirrors.undiscarded.zeros begins stored_long comes)
 
-      buffer-rest : p.phase ≡ Filled → IsRest (background base shape.tracked) (h.block * p.block) p.buffer
-      buffer-rest filled = subst (λ (n : ℕ). IsRest (background base shape.tracked) n p.buffer) scaled (around.buffers i p step.there filled)
+      buffer-rest : p.phase ≡ Filled → IsRest (background_of base shape.tracked) (h.block * p.block) p.buffer
+      buffer-rest filled = subst (λ (n : ℕ). IsRest (background_of base shape.tracked) n p.buffer) scaled (around.buffers i p step.there filled)
 
       fits : offset + length part ≤ length p.buffer
       fits = let e = scaled in let g = piece.from in let m = to in let b = block-same around in let l = stands.buffer in omega arith
@@ -251,17 +251,17 @@ module _ {h : Header} {o : Opening} {shape : Shape} {table : Given} {fresh : Lis
               block-whole (let g = held.4 in let e = piece.from in omega arith) part (let l = long in let b = block-same around in omega (arith, all))
               (λ n v there. inl (omega arith, (let e : n - offset ≡ n = omega arith in rw e there)))
         ])
-        | inr filled ↦ given-as (laid offset part p.buffer) (filled.0 ∙ filled.1) (block-whole filled.3 (laid offset part p.buffer) (length-laid offset part p.buffer fits ∙ stands.buffer ∙ block-same around)
+        | inr filled ↦ given-as (content_with_part offset part p.buffer) (filled.0 ∙ filled.1) (block-whole filled.3 (content_with_part offset part p.buffer) (length-laid offset part p.buffer fits ∙ stands.buffer ∙ block-same around)
             (λ n v there. elim (comes-laid offset part p.buffer fits n v there) [
               | inl own ↦ inl own
               | inr other ↦ inr (other.0, buffer-is around mirrors p.block n p.buffer v secured.keeps (within n v other.1) in-disk not_fresh (buffer-rest filled.2) other.1)
             ]))
       ]
 
-  issued : (v : Bool) → bit_of fresh p.block ≡ v → IsSecured o table fresh k flusher (slice_set passes i p') history' disk'.log
+  issued : (v : Bool) → bit_of fresh p.block ≡ v → HasSafeMirror o table fresh k flusher (slice_set passes i p') history' disk'.log
   issued true is = local is
   issued false is = whole is
 
   -- it stays secured
-  pub issue-secured : IsSecured o table fresh k flusher passes' history' disk'.log
-  issue-secured = subst (λ (ps : List Pass). IsSecured o table fresh k flusher ps history' disk'.log) (sym step.after) (issued (bit_of fresh p.block) refl)
+  pub issue-secured : HasSafeMirror o table fresh k flusher passes' history' disk'.log
+  issue-secured = subst (λ (ps : List Pass). HasSafeMirror o table fresh k flusher ps history' disk'.log) (sym step.after) (issued (bit_of fresh p.block) refl)

@@ -4,20 +4,20 @@ use Rattle.std.proofs.lemmas.Bool.{cases_eq}
 use Rattle.vd_law.specs.declared.entry.Sector.{Sector}
 use Rattle.vd_law.specs.declared.entry.CallId.{CallId}
 use Rattle.vd_law.specs.Entries.{Entry}
-use Rattle.vd_law.specs.Histories.{Numbered}
+use Rattle.vd_law.specs.Histories.{HistoryState}
 use Rattle.vd_device.specs.declared.ticket.Ticket.{Ticket}
 use Rattle.vd_device.specs.Tickets.{ticket_id}
 use Rattle.vd_format.specs.declared.header.Header.{Header}
-use Rattle.vd_table.specs.Tables.{Given}
-use Rattle.vd_crash.specs.Safe.{Opening}
-use Rattle.vd_flushes.specs.Stage.{Flight, HasTicket, HasBlock, HasCall}
-use Rattle.vd_primitives.specs.Core.{StageTicket, StageFlush}
-use Rattle.vd_primitives.specs.Primitives.{State, MayIssue}
-use Rattle.vd_meta.specs.Keeping.{Keeping}
+use Rattle.vd_table.specs.Tables.{TableState}
+use Rattle.vd_crash.specs.facts.Safe.{Opening}
+use Rattle.vd_crash.specs.flushes.Stage.{Flight, HasTicket, HasBlock, HasCall}
+use Rattle.vd_crash.specs.primitives.Core.{StageTicket, StageFlush}
+use Rattle.vd_crash.specs.primitives.Primitives.{State, MayIssue}
+use Rattle.vd_keeper.specs.Keeping.{KeeperState}
 use Rattle.vd_passes.specs.declared.shape.Shape.{Shape}
 use Rattle.vd_passes.specs.declared.pass.Pass.{Pass}
 use Rattle.vd_passes.specs.declared.pass.Phase.TheVariants.{Issuing}
-use Rattle.vd_passes.specs.Passes.{has_region, writes_in, call_of}
+use Rattle.vd_passes.specs.Passes.{has_region, writes_in, call_id}
 use Rattle.vd_passes.specs.Steps.{IsAt}
 use Rattle.vd_safety.specs.Mirrors.{Mirrors}
 use Rattle.vd_safety.proofs.Updates.{some-inj}
@@ -29,7 +29,7 @@ use Rattle.vd_safety.proofs.Stages.{stage-waits}
 pub at-this : (passes : List Pass) (i : ℕ) (P : Pass → Type 0) (p : Pass) → slice_get passes i ≡ Some p → IsAt passes i P → P p
 at-this passes i P p there at = subst P (some-inj (sym at.1 ∙ there)) at.2
 
-module _ {h : Header} {o : Opening} {shape : Shape} {table : Given} {fresh : List Bool} {k : Keeping} {flusher : Option ℕ} {passes : List Pass} {history : Numbered} {log : List Entry} {base : List Sector} {last : ℕ} {s : State}
+module _ {h : Header} {o : Opening} {shape : Shape} {table : TableState} {fresh : List Bool} {k : KeeperState} {flusher : Option ℕ} {passes : List Pass} {history : HistoryState} {log : List Entry} {base : List Sector} {last : ℕ} {s : State}
     (around : Surroundings h o shape table fresh k flusher passes history.log.entries base last) (is : Mirrors o table fresh k flusher passes history log s) where
   -- A ticket that is given now is none of the passes',
   pub new-ticket : (t : Ticket) → last < t.number → (i : ℕ) (p : Pass) (u : Ticket) → slice_get passes i ≡ Some p → p.ticket ≡ Some u → ticket_id u ≡ ticket_id t → ⊥
@@ -67,7 +67,7 @@ module _ {h : Header} {o : Opening} {shape : Shape} {table : Given} {fresh : Lis
   none-pending i p there region bare = pending-none fresh passes p.block (s.memory.pending p.block) (λ l q at issuing same not_fresh. no-issuer i l p q there region bare at issuing same) (is.pending p.block)
 
   -- and it may issue it.
-  pub may-issue : (i : ℕ) (p : Pass) (t : Ticket) → slice_get passes i ≡ Some p → has_region p.phase ≡ true → is_bare p.phase ≡ true → last < t.number → MayIssue s.flights s.stage i p.block (call_of i p) (ticket_id t)
+  pub may-issue : (i : ℕ) (p : Pass) (t : Ticket) → slice_get passes i ≡ Some p → has_region p.phase ≡ true → is_bare p.phase ≡ true → last < t.number → MayIssue s.flights s.stage i p.block (call_id i p) (ticket_id t)
   may-issue i p t there region bare later = record {
     idle = idle-flight passes s.flights i p is.flights there bare;
     block = λ l has.
@@ -76,8 +76,8 @@ module _ {h : Header} {o : Opening} {shape : Shape} {table : Given} {fresh : Lis
     ticket_new = ticket-flight t later;
     stage_new = λ waits. ticket-stage t later (inl waits);
     call_new = λ l has.
-        let f = flying (λ (g : Flight). HasCall g (call_of i p)) (λ x. x) (λ c a n x. x) passes s.flights l is.flights has in
-        let same : call_of l f.0 ≡ call_of i p = subst (λ (g : Flight). HasCall g (call_of i p)) f.3.4 has in
+        let f = flying (λ (g : Flight). HasCall g (call_id i p)) (λ x. x) (λ c a n x. x) passes s.flights l is.flights has in
+        let same : call_id l f.0 ≡ call_id i p = subst (λ (g : Flight). HasCall g (call_id i p)) f.3.4 has in
         let e : l ≡ i = ap (λ (c : CallId). c.pass) same in
         let g : f.0 ≡ p = some-inj (sym f.1 ∙ ap (slice_get passes) e ∙ there) in
         let b : is_bare p.phase ≡ false = ap (λ (x : Pass). is_bare x.phase) (sym g) ∙ ap is_bare f.2 in

@@ -11,13 +11,13 @@ use Rattle.vd_format.specs.declared.header.Header.{Header}
 use Rattle.vd_format.specs.Headers.{IsValid}
 use Rattle.vd_format.specs.Layouts.{blocks_of, chunks_of}
 use Rattle.vd_format.proofs.Rules.{chunk_within}
-use Rattle.vd_meta.specs.Keeping.{pages_of}
-use Rattle.vd_meta.specs.Entries.{chunks_with, has_block}
-use Rattle.vd_meta.specs.Moves.{marked_with, pages_with}
-use Rattle.vd_meta.proofs.Rows.{within, get_or-either}
-use Rattle.vd_meta.proofs.NextChunks.{block-place, block-chunk, some-of-chunk}
-use Rattle.vd_meta.proofs.Flushed.{count-is}
-use Rattle.vd_meta.proofs.PageMarks.{get_or-pages_with}
+use Rattle.vd_keeper.specs.Keeping.{pages_of}
+use Rattle.vd_keeper.specs.Entries.{chunks_with, has_block}
+use Rattle.vd_keeper.specs.Moves.{marked_with, pages_with}
+use Rattle.vd_keeper.proofs.Rows.{within, get_or-either}
+use Rattle.vd_keeper.proofs.NextChunks.{block-place, block-chunk, some-of-chunk}
+use Rattle.vd_keeper.proofs.Flushed.{count-is}
+use Rattle.vd_keeper.proofs.PageMarks.{get_or-pages_with}
 use Rattle.vd_safety.specs.Mirrors.{bit_of}
 
 -- what passes a test stays

@@ -1,17 +1,17 @@
 -- The state of a core after a step of a guest's pass: the header, the keeper's slots and its pages stay as they are.
 use Rattle.std.proofs.Common.{◌≡◌, ℕ, ◌+◌, ◌++◌, [], ◌∷◌, Bool, List, length, sym, ◌∙◌, ap, Option}
 use Rattle.vd_law.specs.Entries.{Entry}
-use Rattle.vd_law.specs.Histories.{Numbered}
-use Rattle.vd_table.specs.Tables.{Given}
-use Rattle.vd_crash.specs.Safe.{Opening, NumberedEntry, numbered}
-use Rattle.vd_crash.specs.Facts.{Memory}
-use Rattle.vd_flushes.specs.Stage.{Flight}
-use Rattle.vd_flushes.specs.Moves.{entry_now}
-use Rattle.vd_primitives.specs.Primitives.{State, state}
-use Rattle.vd_meta.specs.Keeping.{Keeping}
+use Rattle.vd_law.specs.Histories.{HistoryState}
+use Rattle.vd_table.specs.Tables.{TableState}
+use Rattle.vd_crash.specs.facts.Safe.{Opening, NumberedEntry, numbered}
+use Rattle.vd_crash.specs.flushes.Stage.{Flight}
+use Rattle.vd_crash.specs.flushes.Moves.{entry_now}
+use Rattle.vd_crash.specs.primitives.Primitives.{State, state}
+use Rattle.vd_keeper.specs.Keeping.{KeeperState}
 use Rattle.vd_passes.specs.declared.pass.Pass.{Pass}
 use Rattle.vd_safety.specs.Mirrors.{bit_of, storage_of, AreFlightsOf, IsPendingOf, IsStageOf, Mirrors}
 use Rattle.vd_safety.proofs.Updates.{numbered-more, length-more}
+use Rattle.vd_crash.specs.facts.Memory.{Memory}
 
 -- the memory with other storage and other blocks
 abbrev pub changed : Memory → (table : ℕ → Option ℕ) → (fresh : ℕ → Bool) → (born : ℕ → ℕ) → (owed : ℕ → Bool) → (pending : ℕ → Option ℕ) → Memory
@@ -25,12 +25,12 @@ changed m table fresh born owed pending = record {
 }
 
 -- a history that has these numbered entries
-pub record IsHistory (history : Numbered) (events : List NumberedEntry) : Type 0 where
+pub record IsHistory (history : HistoryState) (events : List NumberedEntry) : Type 0 where
   pub is : events ≡ numbered history.log.entries history.numbers
   pub many : length history.numbers ≡ length history.log.entries
 
 -- one entry more
-pub history-more : (history history' : Numbered) (events : List NumberedEntry) (store log : List Entry) (e : Entry) → IsHistory history events → store ≡ log → history'.log.entries ≡ history.log.entries ++ e ∷ []
+pub history-more : (history history' : HistoryState) (events : List NumberedEntry) (store log : List Entry) (e : Entry) → IsHistory history events → store ≡ log → history'.log.entries ≡ history.log.entries ++ e ∷ []
     → history'.numbers ≡ history.numbers ++ length log ∷ [] → IsHistory history' (events ++ entry_now store e ∷ [])
 history-more history history' events store log e was told entries numbers = record {
   is =
@@ -43,15 +43,15 @@ history-more history history' events store log e was told entries numbers = reco
 }
 
 -- the same entries
-pub history-same : (history history' : Numbered) (events : List NumberedEntry) → IsHistory history events → history'.log.entries ≡ history.log.entries → history'.numbers ≡ history.numbers → IsHistory history' events
+pub history-same : (history history' : HistoryState) (events : List NumberedEntry) → IsHistory history events → history'.log.entries ≡ history.log.entries → history'.numbers ≡ history.numbers → IsHistory history' events
 history-same history history' events was entries numbers = record {
   is = was.is ∙ ap (λ (es : List Entry). numbered es history.numbers) (sym entries) ∙ ap (numbered history'.log.entries) (sym numbers);
   many = ap length numbers ∙ was.many ∙ sym (ap length entries);
 }
 
-module _ (o : Opening) (table : Given) (fresh : List Bool) (k : Keeping) (flusher : Option ℕ) (passes : List Pass) (history : Numbered) (log : List Entry) (s : State)
+module _ (o : Opening) (table : TableState) (fresh : List Bool) (k : KeeperState) (flusher : Option ℕ) (passes : List Pass) (history : HistoryState) (log : List Entry) (s : State)
     (was : Mirrors o table fresh k flusher passes history log s) where
-  pub mirrored : (table' : Given) (fresh' owed' : List Bool) (passes' : List Pass) (history' : Numbered) (log' store : List Entry) (events : List NumberedEntry)
+  pub mirrored : (table' : TableState) (fresh' owed' : List Bool) (passes' : List Pass) (history' : HistoryState) (log' store : List Entry) (events : List NumberedEntry)
       (t : ℕ → Option ℕ) (f : ℕ → Bool) (born : ℕ → ℕ) (w : ℕ → Bool) (pending : ℕ → Option ℕ) (flights : ℕ → Flight)
       → store ≡ log' → IsHistory history' events → ((c : ℕ) → t c ≡ storage_of table' c) → ((b : ℕ) → f b ≡ bit_of fresh' b) → ((b : ℕ) → w b ≡ bit_of owed' b) → ((b : ℕ) → IsPendingOf fresh' passes' b (pending b))
       → AreFlightsOf passes' flights → IsStageOf flusher o (record k { owed = owed' }) passes' s.stage

@@ -3,25 +3,25 @@ use Rattle.std.proofs.Common.{◌≡◌, ℕ, ◌⊎◌, Bool, true, List, [], �
 use Rattle.vd_law.specs.declared.entry.Sector.{Sector}
 use Rattle.vd_law.specs.declared.entry.CallId.{CallId}
 use Rattle.vd_law.specs.Entries.{Flush, Entry, Ask, Issue, Done, Broke, Seen, Reply}
-use Rattle.vd_law.specs.Histories.{Numbered}
+use Rattle.vd_law.specs.Histories.{HistoryState}
 use Rattle.vd_format.specs.declared.header.Header.{Header}
-use Rattle.vd_table.specs.Tables.{Given}
+use Rattle.vd_table.specs.Tables.{TableState}
 use Rattle.vd_image.specs.Log.{Fine, IsIssueOf}
-use Rattle.vd_crash.specs.Safe.{Opening, NumberedEntry}
-use Rattle.vd_crash.specs.Facts.{Numbered as Stands}
-use Rattle.vd_crash.specs.Words.{IsUpdated, IsQuiet}
-use Rattle.vd_flushes.specs.Stage.{Flight, Idle as NoFlight, IsOtherCall}
-use Rattle.vd_flushes.specs.Moves.{entry_now}
-use Rattle.vd_primitives.specs.Core.{AsksNone}
-use Rattle.vd_primitives.specs.Primitives.{State, state, with_table}
-use Rattle.vd_primitives.specs.Primitives.IsPrimitive.{Tells, Notes}
-use Rattle.vd_primitives.specs.Keeping.{KeepsCrashSafety}
-use Rattle.vd_primitives.proofs.Keeping.{primitive_keeps}
-use Rattle.vd_meta.specs.Keeping.{Keeping}
+use Rattle.vd_crash.specs.facts.Safe.{Opening, NumberedEntry}
+use Rattle.vd_crash.specs.facts.Facts.{HasEntry as Stands}
+use Rattle.vd_crash.specs.facts.Words.{IsUpdated, IsQuiet}
+use Rattle.vd_crash.specs.flushes.Stage.{Flight, Idle as NoFlight, IsOtherCall}
+use Rattle.vd_crash.specs.flushes.Moves.{entry_now}
+use Rattle.vd_crash.specs.primitives.Core.{AsksNone}
+use Rattle.vd_crash.specs.primitives.Primitives.{State, state, with_table}
+use Rattle.vd_crash.specs.primitives.Primitives.IsPrimitive.{Tells, Notes}
+use Rattle.vd_crash.specs.primitives.Keeping.{KeepsCrashSafety}
+use Rattle.vd_crash.proofs.primitives.Keeping.{primitive_keeps}
+use Rattle.vd_keeper.specs.Keeping.{KeeperState}
 use Rattle.vd_passes.specs.declared.shape.Shape.{Shape}
 use Rattle.vd_passes.specs.declared.pass.Pass.{Pass}
 use Rattle.vd_passes.specs.declared.pass.Phase.TheVariants.{Issuing, Flushing}
-use Rattle.vd_safety.specs.Mirrors.{storage_of, IsFlightOf, Mirrors, IsSecured}
+use Rattle.vd_safety.specs.Mirrors.{storage_of, IsFlightOf, Mirrors, HasSafeMirror}
 use Rattle.vd_safety.proofs.Updates.{updated-same}
 use Rattle.vd_safety.proofs.Surroundings.{Surroundings, not-flusher}
 use Rattle.vd_safety.proofs.Flying.{is_bare, flights-set, idle-flight, pending-other}
@@ -29,15 +29,15 @@ use Rattle.vd_safety.proofs.Stages.{stage-set}
 use Rattle.vd_safety.proofs.Mirroring.{IsHistory, mirrored, was-history}
 
 -- an entry that begins and ends no write
-abbrev pub IsCalm : Entry → Type 0
-IsCalm (Ask id request) = Unit {0}
-IsCalm (Issue id first content) = ⊥
-IsCalm (Done id) = ⊥
-IsCalm (Broke id) = ⊥
-IsCalm (Seen id first content) = Unit {0}
-IsCalm (Reply id answer) = Unit {0}
+abbrev pub IsNoWriteEvent : Entry → Type 0
+IsNoWriteEvent (Ask id request) = Unit {0}
+IsNoWriteEvent (Issue id first content) = ⊥
+IsNoWriteEvent (Done id) = ⊥
+IsNoWriteEvent (Broke id) = ⊥
+IsNoWriteEvent (Seen id first content) = Unit {0}
+IsNoWriteEvent (Reply id answer) = Unit {0}
 
-calm-quiet : (e : Entry) → IsCalm e → IsQuiet e
+calm-quiet : (e : Entry) → IsNoWriteEvent e → IsQuiet e
 calm-quiet (Ask id request) calm a v covers = covers
 calm-quiet (Issue id first content) calm a v covers = calm
 calm-quiet (Done id) calm a v covers = covers
@@ -45,11 +45,11 @@ calm-quiet (Broke id) calm a v covers = covers
 calm-quiet (Seen id first content) calm a v covers = covers
 calm-quiet (Reply id answer) calm a v covers = covers
 
-calm-ends : (e : Entry) → IsCalm e → (id : CallId) → (Done id ≡ e) ⊎ (Broke id ≡ e) → ⊥
-calm-ends e calm id (inl is) = subst IsCalm (sym is) calm
-calm-ends e calm id (inr is) = subst IsCalm (sym is) calm
+calm-ends : (e : Entry) → IsNoWriteEvent e → (id : CallId) → (Done id ≡ e) ⊎ (Broke id ≡ e) → ⊥
+calm-ends e calm id (inl is) = subst IsNoWriteEvent (sym is) calm
+calm-ends e calm id (inr is) = subst IsNoWriteEvent (sym is) calm
 
-calm-issue : (e : Entry) → IsCalm e → (id : CallId) → IsIssueOf e id → ⊥
+calm-issue : (e : Entry) → IsNoWriteEvent e → (id : CallId) → IsIssueOf e id → ⊥
 calm-issue (Ask id request) calm call is = is
 calm-issue (Issue id first content) calm call is = calm
 calm-issue (Done id) calm call is = is
@@ -57,24 +57,24 @@ calm-issue (Broke id) calm call is = is
 calm-issue (Seen id first content) calm call is = is
 calm-issue (Reply id answer) calm call is = is
 
-calm-other : (e : Entry) → IsCalm e → (n : ℕ) (id : CallId) → IsOtherCall (record { event = e; number = n }) id
+calm-other : (e : Entry) → IsNoWriteEvent e → (n : ℕ) (id : CallId) → IsOtherCall (record { event = e; number = n }) id
 calm-other e calm n id (inl is) = calm-ends e calm id (inl is)
 calm-other e calm n id (inr (inl is)) = calm-ends e calm id (inr is)
 calm-other e calm n id (inr (inr is)) = calm-issue e calm id is
 
 -- the guest's history has one entry more
-pub notes : (o : Opening) (s : State) (e : Entry) → IsCalm e → ((id : CallId) (a n : ℕ) → Stands s.history a n (Ask id Flush) → e ≡ Reply id Fine → ⊥) → KeepsCrashSafety o s
+pub notes : (o : Opening) (s : State) (e : Entry) → IsNoWriteEvent e → ((id : CallId) (a n : ℕ) → Stands s.history a n (Ask id Flush) → e ≡ Reply id Fine → ⊥) → KeepsCrashSafety o s
     → KeepsCrashSafety o (state s.log (s.history ++ entry_now s.log e ∷ []) s.memory s.marked s.flights s.stage)
 notes o s e calm no_answer keeps = primitive_keeps o s (state s.log (s.history ++ entry_now s.log e ∷ []) s.memory s.marked s.flights s.stage)
     (Notes s.log s.history s.memory s.marked s.flights s.stage e (calm-quiet e calm) (λ id is. calm-ends e calm id (inl (sym is))) (calm-issue e calm) (λ l id has. calm-other e calm (length s.log) id) no_answer) keeps
 
 -- and so has the store's log
-pub tells : (o : Opening) (s : State) (e : Entry) → IsCalm e → AsksNone s.stage e → KeepsCrashSafety o s → KeepsCrashSafety o (state (s.log ++ e ∷ []) s.history s.memory s.marked s.flights s.stage)
+pub tells : (o : Opening) (s : State) (e : Entry) → IsNoWriteEvent e → AsksNone s.stage e → KeepsCrashSafety o s → KeepsCrashSafety o (state (s.log ++ e ∷ []) s.history s.memory s.marked s.flights s.stage)
 tells o s e calm asks keeps = primitive_keeps o s (state (s.log ++ e ∷ []) s.history s.memory s.marked s.flights s.stage)
     (Tells s.log s.history s.memory s.marked s.flights s.stage e (calm-quiet e calm) (λ l id has. calm-ends e calm id) (λ id waits. calm-ends e calm id) asks) keeps
 
-module _ {h : Header} {o : Opening} {shape : Shape} {table : Given} {fresh : List Bool} {k : Keeping} {flusher : Option ℕ} {passes : List Pass} {history : Numbered} {base : List Sector} {last : ℕ} {log : List Entry}
-    (around : Surroundings h o shape table fresh k flusher passes history.log.entries base last) (secured : IsSecured o table fresh k flusher passes history log)
+module _ {h : Header} {o : Opening} {shape : Shape} {table : TableState} {fresh : List Bool} {k : KeeperState} {flusher : Option ℕ} {passes : List Pass} {history : HistoryState} {base : List Sector} {last : ℕ} {log : List Entry}
+    (around : Surroundings h o shape table fresh k flusher passes history.log.entries base last) (secured : HasSafeMirror o table fresh k flusher passes history log)
     (i : ℕ) (p p' : Pass) (there : slice_get passes i ≡ Some p) (not_issuing : p.phase ≡ Issuing → ⊥) (not_flushing : p.phase ≡ Flushing → ⊥) where
   abbrev s : State
   s = secured.state
@@ -83,9 +83,9 @@ module _ {h : Header} {o : Opening} {shape : Shape} {table : Given} {fresh : Lis
   mirrors = secured.mirrors
 
   -- The state after a step of pass i, with this storage, these logs and these flights.
-  pub moved : (table' : Given) (history' : Numbered) (log' store : List Entry) (events : List NumberedEntry) (t : ℕ → Option ℕ) (flights : ℕ → Flight) (f : Flight)
+  pub moved : (table' : TableState) (history' : HistoryState) (log' store : List Entry) (events : List NumberedEntry) (t : ℕ → Option ℕ) (flights : ℕ → Flight) (f : Flight)
       → store ≡ log' → IsHistory history' events → ((c : ℕ) → t c ≡ storage_of table' c) → IsUpdated s.flights flights i f → IsFlightOf p'.phase p'.fault i p' f
-      → KeepsCrashSafety o (state store events (with_table s.memory t) s.marked flights s.stage) → IsSecured o table' fresh k flusher (slice_set passes i p') history' log'
+      → KeepsCrashSafety o (state store events (with_table s.memory t) s.marked flights s.stage) → HasSafeMirror o table' fresh k flusher (slice_set passes i p') history' log'
   moved table' history' log' store events t flights f told events_are storage put idle keeps = record {
     state = state store events (with_table s.memory t) s.marked flights s.stage;
     keeps = keeps;
@@ -95,8 +95,8 @@ module _ {h : Header} {o : Opening} {shape : Shape} {table : Given} {fresh : Lis
   }
 
   -- the same where the pass has nothing in flight and owes nothing, before and after
-  pub moved-bare : s.flights i ≡ NoFlight → IsFlightOf p'.phase p'.fault i p' NoFlight → (history' : Numbered) (log' store : List Entry) (events : List NumberedEntry) → store ≡ log' → IsHistory history' events
-      → KeepsCrashSafety o (state store events s.memory s.marked s.flights s.stage) → IsSecured o table fresh k flusher (slice_set passes i p') history' log'
+  pub moved-bare : s.flights i ≡ NoFlight → IsFlightOf p'.phase p'.fault i p' NoFlight → (history' : HistoryState) (log' store : List Entry) (events : List NumberedEntry) → store ≡ log' → IsHistory history' events
+      → KeepsCrashSafety o (state store events s.memory s.marked s.flights s.stage) → HasSafeMirror o table fresh k flusher (slice_set passes i p') history' log'
   moved-bare was idle history' log' store events told events_are keeps =
       moved table history' log' store events s.memory.index.table s.flights NoFlight told events_are mirrors.storage (updated-same s.flights i NoFlight was) idle keeps
 
@@ -104,5 +104,5 @@ module _ {h : Header} {o : Opening} {shape : Shape} {table : Given} {fresh : Lis
   bare-before bare = idle-flight passes s.flights i p mirrors.flights there bare
 
   -- A step that changes the pass alone.
-  pub only-passes : is_bare p.phase ≡ true → IsFlightOf p'.phase p'.fault i p' NoFlight → IsSecured o table fresh k flusher (slice_set passes i p') history log
+  pub only-passes : is_bare p.phase ≡ true → IsFlightOf p'.phase p'.fault i p' NoFlight → HasSafeMirror o table fresh k flusher (slice_set passes i p') history log
   only-passes bare idle = moved-bare (bare-before bare) idle history log s.log s.history mirrors.log_is (was-history o table fresh k flusher passes history log s mirrors) secured.keeps

@@ -6,44 +6,43 @@ use Rattle.std.proofs.lemmas.Bool.{cases_lt, cases_eq}
 use Rattle.std.proofs.lemmas.Option.{slice_get_within, get_or_from_slice_get}
 use Rattle.vd_law.specs.declared.entry.Sector.{Sector}
 use Rattle.vd_law.specs.Entries.{Entry as Event}
-use Rattle.vd_law.specs.Histories.{Numbered}
+use Rattle.vd_law.specs.Histories.{HistoryState}
 use Rattle.vd_format.specs.declared.header.Header.{Header}
 use Rattle.vd_format.specs.Layouts.{blocks_of, chunks_of, sectors_of, map_start}
 use Rattle.vd_format.specs.Entries.{has_kind, entry_at}
-use Rattle.vd_reading.specs.Background.{zero_sector as read_zero}
 use Rattle.vd_image.specs.Log.{May, Flushes}
 use Rattle.vd_image.specs.Image.{Format, Layout, Mapping, Image, Maps, IsMapping, HasNoLater, DiskHas}
 use Rattle.vd_image.specs.Layouts.{layout_of}
 use Rattle.vd_image.specs.Decoders.{Entry, mapping_in, entry_place, entry_byte, format_of}
-use Rattle.vd_image.specs.CrashImages.{sectors_or, base_at}
-use Rattle.vd_image.specs.Made.{zero_sector}
+use Rattle.vd_image.specs.CrashImages.{sectors_or}
 use Rattle.vd_image.proofs.CrashImages.{past_end}
 use Rattle.vd_image.proofs.Deciding.{maps_one, disk_one}
 use Rattle.vd_image.proofs.Layouts.{parts_apart}
-use Rattle.vd_crash.specs.Safe.{Opening, numbered}
-use Rattle.vd_crash.specs.Facts.{Memory}
-use Rattle.vd_crash.specs.Opened.{IsAtOpening}
-use Rattle.vd_flushes.specs.Flushing.{IsWantedMapping, nothing_new, AreOpeningMarks}
-use Rattle.vd_flushes.specs.Stage.{Idle as NoFlight}
-use Rattle.vd_primitives.specs.Primitives.{at_rest}
-use Rattle.vd_primitives.proofs.Keeping.{opening_keeps_all}
+use Rattle.vd_crash.specs.facts.Safe.{Opening, numbered}
+use Rattle.vd_crash.specs.facts.Memory.{Memory}
+use Rattle.vd_crash.specs.facts.Opened.{IsAtOpening}
+use Rattle.vd_crash.specs.flushes.Flushing.{IsWantedMapping, nothing_new, AreOpeningMarks}
+use Rattle.vd_crash.specs.flushes.Stage.{Idle as NoFlight}
+use Rattle.vd_crash.specs.primitives.Primitives.{at_rest}
+use Rattle.vd_crash.proofs.primitives.Keeping.{opening_keeps_all}
 use Rattle.vd_replay.specs.Images.{image_of}
-use Rattle.vd_replay.specs.States.{IsWhole, IsState}
+use Rattle.vd_replay.specs.States.{IsWholeState, IsState}
 use Rattle.vd_replay.specs.declared.state.State.{State}
 use Rattle.vd_replay.proofs.ListLaws.{get_some}
-use Rattle.vd_meta.specs.declared.stage.Stage.TheVariants as stage
-use Rattle.vd_meta.specs.declared.stage.Way.TheVariants as ways
-use Rattle.vd_meta.specs.Keeping.{Keeping, pages_of, nothing}
+use Rattle.vd_keeper.specs.declared.stage.Stage.TheVariants as stage
+use Rattle.vd_keeper.specs.declared.stage.Way.TheVariants as ways
+use Rattle.vd_keeper.specs.Keeping.{KeeperState, pages_of, no_marks}
 use Rattle.vd_passes.specs.declared.pass.Pass.{Pass}
 use Rattle.vd_passes.specs.declared.pass.Phase.{Phase}
 use Rattle.vd_passes.specs.declared.pass.Phase.TheVariants.{Idle}
-use Rattle.vd_safety.specs.Mirrors.{bit_of, storage_of, is_in, opening_for, IsFlightOf, IsSecured}
+use Rattle.vd_safety.specs.Mirrors.{bit_of, storage_of, is_in, opening_for, IsFlightOf, HasSafeMirror}
 use Rattle.vd_safety.proofs.Stated.{maps_grammar, up_there, down_there, stored_has, has_stored, has_gives, gives_has, up_mask, up_local, local_up, below_next, disk_past}
+use Rattle.vd_format.specs.Background.{zero_sector, base_at}
 
 -- what a core is made from: a state that was read from what the store holds now, after a log that leaves no other content
 -- in any sector, and has a flush that succeeded; and the disk that the held image stands for
 pub record IsStart (s : State) (before held base disk : List Sector) (log : List Event) : Type 0 where
-  pub whole : IsWhole s
+  pub whole : IsWholeState s
   pub state : IsState (length held) (image_of held) s.header s
   pub no_later : HasNoLater (format_of s.header) (layout_of s.header) (image_of held) s.header.generation
   pub left : (a : ℕ) (v : Sector) → May (sectors_or zero_sector before) log a v → v ≡ image_of held a
@@ -53,7 +52,7 @@ pub record IsStart (s : State) (before held base disk : List Sector) (log : List
   pub shows : (x : ℕ) (v : Sector) → slice_get disk x ≡ Some v → DiskHas (format_of s.header) (layout_of s.header) (base_at zero_sector base) zero_sector (image_of held) x v
 
 -- the keeper of such a core
-abbrev pub keeper_of : State → Keeping
+abbrev pub keeper_of : State → KeeperState
 keeper_of s = record {
   header = s.header;
   sure = true;
@@ -61,10 +60,10 @@ keeper_of s = record {
   stage = stage.Rest;
   way = ways.Nothing;
   stale = s.fresh.bits;
-  owed = nothing (blocks_of s.header);
-  snapshot = nothing (blocks_of s.header);
+  owed = no_marks (blocks_of s.header);
+  snapshot = no_marks (blocks_of s.header);
   marked = s.more;
-  put = nothing (pages_of s.header);
+  put = no_marks (pages_of s.header);
   logged = 0;
   head = false;
 }
@@ -84,29 +83,6 @@ memory_of s = record {
 abbrev pub marked_of : State → ℕ → Bool
 marked_of s a = bit_of s.more (a - map_start s.header)
 
--- the opening, with whatever is the sector of zeros
-abbrev opening_with : (zeros : Sector) → Header → List Entry → (before : List Sector) → (held : ℕ → Sector) → (base disk : List Sector) → ℕ → Opening
-opening_with zeros h entries before held base disk opened = record {
-  format = format_of h;
-  layout = layout_of h;
-  base = base_at zeros base;
-  zeros = zeros;
-  before = sectors_or zeros before;
-  held = held;
-  disk = sectors_or zeros disk;
-  was_local = λ b. is_in (slice_get entries (b / h.chunk)) (b / h.chunk * h.chunk) b;
-  opened = opened;
-}
-
-pub zeros-same : zero_sector ≡ read_zero
-unfolding read_zero
-zeros-same = refl
-
--- the disk of an image, sector by sector the same, with either word for the sector of zeros
-pub shown-same : (f : Format) (l : Layout) (base : List Sector) (image other : Image) (x : ℕ) (v : Sector) → ((a : ℕ) → image a ≡ other a) → DiskHas f l (base_at read_zero base) read_zero image x v → DiskHas f l (base_at zero_sector base) zero_sector other x v
-shown-same f l base image other x v same has =
-    subst (λ (z : Sector). DiskHas f l (base_at z base) z other x v) (sym zeros-same) (subst (λ (i : Image). DiskHas f l (base_at read_zero base) read_zero i x v) (fun_ext same) has)
-
 disk_is : (s : State) (before held base disk : List Sector) (log : List Event) → IsStart s before held base disk log
     → (x : ℕ) (v : Sector) → DiskHas (format_of s.header) (layout_of s.header) (base_at zero_sector base) zero_sector (image_of held) x v → v ≡ sectors_or zero_sector disk x
 disk_is s before held base disk log start x v has = elim (cases_lt x s.header.size) [
@@ -120,7 +96,7 @@ disk_is s before held base disk log start x v has = elim (cases_lt x s.header.si
 ]
 
 at_opening : (s : State) (before held base disk : List Sector) (log : List Event) → IsStart s before held base disk log
-    → IsAtOpening (opening_with zero_sector s.header s.map before (image_of held) base disk (length log)) log (memory_of s)
+    → IsAtOpening (opening_for s.header s.map before (image_of held) base disk (length log)) log (memory_of s)
 at_opening s before held base disk log start = record {
   apart = parts_apart s.header start.whole.sized.valid;
   opened = refl;
@@ -206,7 +182,7 @@ unmarked_read sectors image h s c is size within down =
     (page.0, page.1, page.2, subst (λ (m : Mapping). Maps (format_of h) (layout_of h) image h.generation c m) mapping w.maps)
 
 opening_marks : (s : State) (before held base disk : List Sector) (log : List Event) → IsStart s before held base disk log
-    → AreOpeningMarks (opening_with zero_sector s.header s.map before (image_of held) base disk (length log)) (memory_of s) (marked_of s)
+    → AreOpeningMarks (opening_for s.header s.map before (image_of held) base disk (length log)) (memory_of s) (marked_of s)
 opening_marks s before held base disk log start c within unmarked = record { mapping = page.0; reads = page.1; wanted = wanted }
   where
     h : Header
@@ -224,7 +200,7 @@ opening_marks s before held base disk log start c within unmarked = record { map
         let maps : Maps (format_of s.header) (layout_of s.header) (image_of held) s.header.generation c w.1.0 = subst (λ (d : ℕ). Maps (format_of s.header) (layout_of s.header) (image_of held) s.header.generation d w.1.0) of_chunk w.1.1 in
         ap (λ (m : Mapping). m.has b) (maps_one (format_of s.header) (layout_of s.header) (image_of held) s.header.generation c page.0 w.1.0 page.3 maps) ∙ w.1.2.1
 
-    wanted : IsWantedMapping (opening_with zero_sector s.header s.map before (image_of held) base disk (length log)) (memory_of s) (nothing_new (memory_of s)) c page.0
+    wanted : IsWantedMapping (opening_for s.header s.map before (image_of held) base disk (length log)) (memory_of s) (nothing_new (memory_of s)) c page.0
     wanted = record {
       kind = page.2.kind refl;
       in_grammar = page.2.kind;
@@ -259,14 +235,14 @@ idle_flight : (phase : Phase) (i : ℕ) (p : Pass) → phase ≡ Idle → IsFlig
 idle_flight phase i p idle = subst (λ (x : Phase). IsFlightOf x p.fault i p NoFlight) (sym idle) refl
 
 -- A core as it is made, of passes that have asked nothing yet, is secured.
-pub opened-secured : (s : State) (before held base disk : List Sector) (log : List Event) (passes : List Pass) (history : Numbered) → IsStart s before held base disk log
+pub opened-secured : (s : State) (before held base disk : List Sector) (log : List Event) (passes : List Pass) (history : HistoryState) → IsStart s before held base disk log
     → ((i : ℕ) (p : Pass) → slice_get passes i ≡ Some p → p.phase ≡ Idle) → history.log.entries ≡ [] → history.numbers ≡ []
-    → IsSecured (opening_for s.header s.map before (image_of held) base disk (length log)) s.table s.fresh.bits (keeper_of s) None passes history log
+    → HasSafeMirror (opening_for s.header s.map before (image_of held) base disk (length log)) s.table s.fresh.bits (keeper_of s) None passes history log
 opened-secured s before held base disk log passes history start idle no_entry no_number = record {
   state = at_rest log (memory_of s) (marked_of s);
   keeps = opening_keeps_all (opening_for s.header s.map before (image_of held) base disk (length log)) log (memory_of s) (marked_of s)
-      (subst (λ (z : Sector). IsAtOpening (opening_with z s.header s.map before (image_of held) base disk (length log)) log (memory_of s)) zeros-same (at_opening s before held base disk log start))
-      (subst (λ (z : Sector). AreOpeningMarks (opening_with z s.header s.map before (image_of held) base disk (length log)) (memory_of s) (marked_of s)) zeros-same (opening_marks s before held base disk log start));
+      (at_opening s before held base disk log start)
+      (opening_marks s before held base disk log start);
   mirrors = record {
     log_is = refl;
     history_is = sym (ap (λ (es : List Event). numbered es history.numbers) no_entry);
@@ -285,7 +261,7 @@ opened-secured s before held base disk log passes history start idle no_entry no
     owed = λ b. sym (none_of (blocks_of s.header) b);
     pending = λ b. inl refl;
     marked = λ c within. (let e : map_start s.header + c / 32 - map_start s.header ≡ c / 32 = omega arith in
-        ap (bit_of s.more) e ∙ or_none (bit_of s.more (c / 32)) (bit_of (nothing (pages_of s.header)) (c / 32)) (none_of (pages_of s.header) (c / 32)));
+        ap (bit_of s.more) e ∙ or_none (bit_of s.more (c / 32)) (bit_of (no_marks (pages_of s.header)) (c / 32)) (none_of (pages_of s.header) (c / 32)));
     flights = record { each = λ i p at. idle_flight p.phase i p (idle i p at); beyond = λ i none. refl };
     stage = refl;
   };

@@ -9,7 +9,7 @@ use Rattle.vd_law.specs.declared.entry.CallId.{CallId}
 use Rattle.vd_law.specs.declared.entry.Answer.{Answer}
 use Rattle.vd_law.specs.Entries.{Asked, Entry, Ask, Issue, Done, Broke, Seen, Reply, Past, nothing, ◌▸◌, past, same_call}
 use Rattle.vd_law.specs.Calls.{progress, before_ask}
-use Rattle.vd_law.specs.Contents.{sector_in, written, Open, opened, is_of, is_of_another, open_writes, settled, looked_at, could_after, could, number_of, last_done, is_flushed, firm_after, versions, may}
+use Rattle.vd_law.specs.Contents.{sector_in, issued_contents, Open, open_after_issue, is_of, is_of_another, open_writes, contents_after_done, contents_after_seen, could_after, could, issue_number, last_done, is_flushed, firm_after, versions, may}
 use Rattle.vd_law.proofs.Appending.{last_done-le, either}
 use Rattle.vd_image.specs.Log.{At}
 use Rattle.vd_image.proofs.Logs.{at_end, at_below, at_prefix, at_pushed}
@@ -27,7 +27,7 @@ abbrev pub OpenAt : Sector → List Open → ℕ → List Sector → Type 0
 OpenAt x current last issued = (current ≡ []) ⊎ IsOpenOne x current last issued
 
 issue_open : (x : Sector) (current : List Open) (last : ℕ) (issued : List Sector) (c : CallId) (o : Option Sector) → ((v : Sector) → o ≡ Some v → current ≡ []) → last ≤ length issued → OpenAt x current last issued
-    → OpenAt x (opened c (length issued + 1) o ++ current) last (issued ++ option_to_list o)
+    → OpenAt x (open_after_issue c (length issued + 1) o ++ current) last (issued ++ option_to_list o)
 issue_open x current last issued c None free below at = subst (λ (i : List Sector). OpenAt x current last i) (sym (append-nil issued)) at
 issue_open x current last issued c (Some v) free below at = inr (record {
   write = record { call = c; number = length issued + 1; content = v };
@@ -36,14 +36,14 @@ issue_open x current last issued c (Some v) free below at = inr (record {
   content = subst (λ (n : ℕ). At (x ∷ issued ++ v ∷ []) n v) (sym (add-one (length issued))) (at_end issued v);
 })
 
-closed_one : (x : Sector) (last : ℕ) (issued : List Sector) (w : Open) (own : Bool) → last ≤ w.number → At (x ∷ issued) w.number w.content → OpenAt x (if not own then w ∷ [] else []) (max last (number_of (if own then Some w else None))) issued
+closed_one : (x : Sector) (last : ℕ) (issued : List Sector) (w : Open) (own : Bool) → last ≤ w.number → At (x ∷ issued) w.number w.content → OpenAt x (if not own then w ∷ [] else []) (max last (issue_number (if own then Some w else None))) issued
 closed_one x last issued w true later content = inl refl
 closed_one x last issued w false later content = inr (record { write = w; one = refl; later = omega (arith, later); content = content })
 
-done_open : (x : Sector) (current : List Open) (last : ℕ) (issued : List Sector) (id : CallId) → OpenAt x current last issued → OpenAt x (filter (is_of_another id) current) (max last (number_of (find (is_of id) current))) issued
-done_open x current last issued id (inl none) = subst (λ (ws : List Open). OpenAt x (filter (is_of_another id) ws) (max last (number_of (find (is_of id) ws))) issued) (sym none) (inl refl)
+done_open : (x : Sector) (current : List Open) (last : ℕ) (issued : List Sector) (id : CallId) → OpenAt x current last issued → OpenAt x (filter (is_of_another id) current) (max last (issue_number (find (is_of id) current))) issued
+done_open x current last issued id (inl none) = subst (λ (ws : List Open). OpenAt x (filter (is_of_another id) ws) (max last (issue_number (find (is_of id) ws))) issued) (sym none) (inl refl)
 done_open x current last issued id (inr w) =
-    subst (λ (ws : List Open). OpenAt x (filter (is_of_another id) ws) (max last (number_of (find (is_of id) ws))) issued) (sym w.one) (closed_one x last issued w.write (is_of id w.write) w.later w.content)
+    subst (λ (ws : List Open). OpenAt x (filter (is_of_another id) ws) (max last (issue_number (find (is_of id) ws))) issued) (sym w.one) (closed_one x last issued w.write (is_of id w.write) w.later w.content)
 
 broken_one : (x : Sector) (last : ℕ) (issued : List Sector) (w : Open) (own : Bool) → last ≤ w.number → At (x ∷ issued) w.number w.content → OpenAt x (if not own then w ∷ [] else []) last issued
 broken_one x last issued w true later content = inl refl
@@ -71,22 +71,22 @@ issue_among x last issued could (Some v) below before k u at = elim (at_pushed c
 ]
 
 ended_among : (x : Sector) (last : ℕ) (issued could : List Sector) (w : Open) (own : Bool) → last ≤ w.number → At (x ∷ issued) w.number w.content → ((k : ℕ) (u : Sector) → At could k u → IsAmong x last issued u)
-    → (k : ℕ) (u : Sector) → At (settled (if own then Some w else None) could) k u → IsAmong x (max last (number_of (if own then Some w else None))) issued u
+    → (k : ℕ) (u : Sector) → At (contents_after_done (if own then Some w else None) could) k u → IsAmong x (max last (issue_number (if own then Some w else None))) issued u
 ended_among x last issued could w true later content before zero u at = (w.number, omega (arith, later), (let same : w.content ≡ u = cc in subst (λ (v : Sector). At (x ∷ issued) w.number v) same content))
 ended_among x last issued could w true later content before (suc k) u at = absurd cc
 ended_among x last issued could w false later content before k u at = let h = before k u at in (h.0, omega (arith, h.1), h.2)
 
 done_among : (x : Sector) (current : List Open) (last : ℕ) (issued could : List Sector) (id : CallId) → OpenAt x current last issued → ((k : ℕ) (u : Sector) → At could k u → IsAmong x last issued u)
-    → (k : ℕ) (u : Sector) → At (settled (find (is_of id) current) could) k u → IsAmong x (max last (number_of (find (is_of id) current))) issued u
+    → (k : ℕ) (u : Sector) → At (contents_after_done (find (is_of id) current) could) k u → IsAmong x (max last (issue_number (find (is_of id) current))) issued u
 done_among x current last issued could id (inl none) before =
-    subst (λ (ws : List Open). (k : ℕ) (u : Sector) → At (settled (find (is_of id) ws) could) k u → IsAmong x (max last (number_of (find (is_of id) ws))) issued u) (sym none)
+    subst (λ (ws : List Open). (k : ℕ) (u : Sector) → At (contents_after_done (find (is_of id) ws) could) k u → IsAmong x (max last (issue_number (find (is_of id) ws))) issued u) (sym none)
     (λ k u at. let h = before k u at in (h.0, omega (arith, h.1), h.2))
 done_among x current last issued could id (inr w) before =
-    subst (λ (ws : List Open). (k : ℕ) (u : Sector) → At (settled (find (is_of id) ws) could) k u → IsAmong x (max last (number_of (find (is_of id) ws))) issued u) (sym w.one)
+    subst (λ (ws : List Open). (k : ℕ) (u : Sector) → At (contents_after_done (find (is_of id) ws) could) k u → IsAmong x (max last (issue_number (find (is_of id) ws))) issued u) (sym w.one)
     (ended_among x last issued could w.write (is_of id w.write) w.later w.content before)
 
 seen_among : (x : Sector) (last : ℕ) (issued could : List Sector) (o : Option Sector) (others : Bool) → ((v : Sector) → o ≡ Some v → Contains could v) → ((k : ℕ) (u : Sector) → At could k u → IsAmong x last issued u)
-    → (k : ℕ) (u : Sector) → At (looked_at o others could) k u → IsAmong x last issued u
+    → (k : ℕ) (u : Sector) → At (contents_after_seen o others could) k u → IsAmong x last issued u
 seen_among x last issued could None others shown before k u at = before k u at
 seen_among x last issued could (Some v) true shown before k u at = before k u at
 seen_among x last issued could (Some v) false shown before zero u at = let same : v ≡ u = cc in let there = contains_at could v (shown v refl) in before there.0 u (subst (λ (w : Sector). At could there.0 w) same there.1)
@@ -94,8 +94,8 @@ seen_among x last issued could (Some v) false shown before (suc k) u at = absurd
 
 -- in each sector of the store
 pub record IsOrderly (start : List Sector) (p : Past) : Type 0 where
-  pub one : (s : ℕ) (x : Sector) → slice_get start s ≡ Some x → OpenAt x (open_writes p s) (last_done p s) (written p s)
-  pub among : (s : ℕ) (x : Sector) → slice_get start s ≡ Some x → (k : ℕ) (u : Sector) → At (could_after start p s) k u → IsAmong x (last_done p s) (written p s) u
+  pub one : (s : ℕ) (x : Sector) → slice_get start s ≡ Some x → OpenAt x (open_writes p s) (last_done p s) (issued_contents p s)
+  pub among : (s : ℕ) (x : Sector) → slice_get start s ≡ Some x → (k : ℕ) (u : Sector) → At (could_after start p s) k u → IsAmong x (last_done p s) (issued_contents p s) u
 
 -- ---- the log goes on
 
@@ -111,24 +111,24 @@ orderly-reply start p c answer o = record { one = o.one; among = o.among }
 -- a write is begun over none that is open
 pub orderly-issue : (start : List Sector) (p : Past) (c : CallId) (first : ℕ) (content : List Sector) → ((s : ℕ) (v : Sector) → sector_in first content s ≡ Some v → open_writes p s ≡ []) → IsOrderly start p → IsOrderly start (p ▸ Issue c first content)
 orderly-issue start p c first content free o = record {
-  one = λ s x told. issue_open x (open_writes p s) (last_done p s) (written p s) c (sector_in first content s) (λ v covers. free s v covers) (last_done-le p s) (o.one s x told);
-  among = λ s x told. issue_among x (last_done p s) (written p s) (could_after start p s) (sector_in first content s) (last_done-le p s) (o.among s x told);
+  one = λ s x told. issue_open x (open_writes p s) (last_done p s) (issued_contents p s) c (sector_in first content s) (λ v covers. free s v covers) (last_done-le p s) (o.one s x told);
+  among = λ s x told. issue_among x (last_done p s) (issued_contents p s) (could_after start p s) (sector_in first content s) (last_done-le p s) (o.among s x told);
 }
 
 pub orderly-done : (start : List Sector) (p : Past) (c : CallId) → IsOrderly start p → IsOrderly start (p ▸ Done c)
 orderly-done start p c o = record {
-  one = λ s x told. done_open x (open_writes p s) (last_done p s) (written p s) c (o.one s x told);
-  among = λ s x told. done_among x (open_writes p s) (last_done p s) (written p s) (could_after start p s) c (o.one s x told) (o.among s x told);
+  one = λ s x told. done_open x (open_writes p s) (last_done p s) (issued_contents p s) c (o.one s x told);
+  among = λ s x told. done_among x (open_writes p s) (last_done p s) (issued_contents p s) (could_after start p s) c (o.one s x told) (o.among s x told);
 }
 
 pub orderly-broke : (start : List Sector) (p : Past) (c : CallId) → IsOrderly start p → IsOrderly start (p ▸ Broke c)
-orderly-broke start p c o = record { one = λ s x told. broke_open x (open_writes p s) (last_done p s) (written p s) c (o.one s x told); among = o.among }
+orderly-broke start p c o = record { one = λ s x told. broke_open x (open_writes p s) (last_done p s) (issued_contents p s) c (o.one s x told); among = o.among }
 
 -- what is seen could be there
 pub orderly-seen : (start : List Sector) (p : Past) (c : CallId) (first : ℕ) (content : List Sector) → ((s : ℕ) (v : Sector) → sector_in first content s ≡ Some v → Contains (could_after start p s) v) → IsOrderly start p → IsOrderly start (p ▸ Seen c first content)
 orderly-seen start p c first content shown o = record {
   one = o.one;
-  among = λ s x told. seen_among x (last_done p s) (written p s) (could_after start p s) (sector_in first content s) (list_any (is_of_another c) (open_writes p s)) (λ v covers. shown s v covers) (o.among s x told);
+  among = λ s x told. seen_among x (last_done p s) (issued_contents p s) (could_after start p s) (sector_in first content s) (list_any (is_of_another c) (open_writes p s)) (λ v covers. shown s v covers) (o.among s x told);
 }
 
 -- ---- so a crash may leave it
@@ -155,8 +155,8 @@ firm_done (p ▸ Reply c answer) s =
     let b = done_before p c s in
     either (λ (n : ℕ). n ≤ last_done p s) (is_flushed (progress p c).asked answer) (max (firm_after p s) (last_done (before_ask p c) s)) (firm_after p s) (omega arith) k
 
-versions_are : (start : List Sector) (p : Past) (s : ℕ) (x : Sector) → slice_get start s ≡ Some x → versions start p s ≡ x ∷ written p s
-versions_are start p s x told = ap (λ (o : Option Sector). option_to_list o ++ written p s) told
+versions_are : (start : List Sector) (p : Past) (s : ℕ) (x : Sector) → slice_get start s ≡ Some x → versions start p s ≡ x ∷ issued_contents p s
+versions_are start p s x told = ap (λ (o : Option Sector). option_to_list o ++ issued_contents p s) told
 
 -- What could be in a sector is what a crash may leave there.
 pub could-may : (start : List Sector) (log : List Entry) (s : ℕ) (x u : Sector) → slice_get start s ≡ Some x → IsOrderly start (past log) → Contains (could start log s) u → Contains (may start log s) u
@@ -169,11 +169,11 @@ could-may start log s x u told orderly could_be =
     (subst (λ (vs : List Sector). At vs h.0 u) (sym (versions_are start (past log) s x told)) h.2))
 
 -- Where each write to a sector is done, what could be there is the last version alone.
-pub could-last : (start : List Sector) (log : List Entry) (s : ℕ) (x u : Sector) → slice_get start s ≡ Some x → IsOrderly start (past log) → last_done (past log) s ≡ length (written (past log) s) → Contains (could start log s) u
-    → At (versions start (past log) s) (length (written (past log) s)) u
+pub could-last : (start : List Sector) (log : List Entry) (s : ℕ) (x u : Sector) → slice_get start s ≡ Some x → IsOrderly start (past log) → last_done (past log) s ≡ length (issued_contents (past log) s) → Contains (could start log s) u
+    → At (versions start (past log) s) (length (issued_contents (past log) s)) u
 could-last start log s x u told orderly all could_be =
     let there = contains_at (could start log s) u could_be in
     let h = orderly.among s x told there.0 u there.1 in
-    let below = at_below (x ∷ written (past log) s) h.0 u h.2 in
-    let last : h.0 ≡ length (written (past log) s) = (let l = h.1 in omega (arith, l, below, all)) in
-    subst (λ (vs : List Sector). At vs (length (written (past log) s)) u) (sym (versions_are start (past log) s x told)) (subst (λ (n : ℕ). At (x ∷ written (past log) s) n u) last h.2)
+    let below = at_below (x ∷ issued_contents (past log) s) h.0 u h.2 in
+    let last : h.0 ≡ length (issued_contents (past log) s) = (let l = h.1 in omega (arith, l, below, all)) in
+    subst (λ (vs : List Sector). At vs (length (issued_contents (past log) s)) u) (sym (versions_are start (past log) s x told)) (subst (λ (n : ℕ). At (x ∷ issued_contents (past log) s) n u) last h.2)

@@ -2,8 +2,8 @@
 use Rattle.std.proofs.Common.{◌≡◌, ℕ, ◌<◌, ◌⊎◌, Bool, true, false, List, length, refl, sym, ◌∙◌, ap, inl, inr}
 use Rattle.std.specs.Prelude.{if◌then◌else◌, slice_set}
 use Rattle.std.proofs.lemmas.Bool.{cases_eq}
-use Rattle.vd_meta.specs.Keeping.{Keeping}
-use Rattle.vd_meta.specs.Moves.{owing}
+use Rattle.vd_keeper.specs.Keeping.{KeeperState}
+use Rattle.vd_keeper.specs.Moves.{after_owe}
 use Rattle.vd_safety.specs.Mirrors.{bit_of}
 use Rattle.vd_safety.proofs.Updates.{bit-set-same, bit-set-other}
 
@@ -11,7 +11,7 @@ use Rattle.vd_safety.proofs.Updates.{bit-set-same, bit-set-other}
 abbrev pub owed-by : (stale : Bool) (owed : List Bool) (b : ℕ) → List Bool
 owed-by stale owed b = if stale then owed else slice_set owed b true
 
-pub owing-is : (b : ℕ) (k : Keeping) → owing b k ≡ record k { owed = owed-by (bit_of k.stale b) k.owed b }
+pub owing-is : (b : ℕ) (k : KeeperState) → after_owe b k ≡ record k { owed = owed-by (bit_of k.stale b) k.owed b }
 owing-is b k = of (bit_of k.stale b)
   where
     of : (stale : Bool) → (if stale then k else record k { owed = slice_set k.owed b true }) ≡ record k { owed = owed-by stale k.owed b }

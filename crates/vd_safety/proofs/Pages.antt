@@ -12,23 +12,23 @@ use Rattle.vd_format.specs.Entries.{entry_bytes, page_bytes, has_kind, entry_at,
 use Rattle.vd_format.proofs.Entries.{entry_at-bytes, has_kind-at, fits_grammar}
 use Rattle.vd_format.proofs.Pages.{page-at}
 use Rattle.vd_format.proofs.Rules.{storage_within}
-use Rattle.vd_table.specs.Tables.{Given}
+use Rattle.vd_table.specs.Tables.{TableState}
 use Rattle.vd_image.specs.Layouts.{chunks_of, map_start}
 use Rattle.vd_image.specs.Decoders.{format_of, shape_of, mapping_in}
-use Rattle.vd_crash.specs.Safe.{Opening}
-use Rattle.vd_crash.specs.Facts.{Memory}
-use Rattle.vd_flushes.specs.Flushing.{Snapshot, IsWantedPage}
-use Rattle.vd_meta.specs.Keeping.{Keeping, pages_of}
-use Rattle.vd_meta.specs.Entries.{entry_of, HasStorage, wanted, page_entries}
-use Rattle.vd_meta.specs.Flushes.{IsKeeping}
-use Rattle.vd_meta.proofs.Laws.{wanted-grammar}
+use Rattle.vd_crash.specs.facts.Safe.{Opening}
+use Rattle.vd_crash.specs.flushes.Flushing.{Snapshot, IsWantedPage}
+use Rattle.vd_keeper.specs.Keeping.{KeeperState, pages_of}
+use Rattle.vd_keeper.specs.Entries.{map_entry, HasStorage, wanted_blocks, page_entries}
+use Rattle.vd_keeper.specs.Flushes.{IsKeeping}
+use Rattle.vd_keeper.proofs.Laws.{wanted-grammar}
 use Rattle.vd_safety.specs.Mirrors.{IsOfHeader}
 use Rattle.vd_safety.proofs.Records.{with_header, by-header, IsMemoryOf, wanted-mapping}
+use Rattle.vd_crash.specs.facts.Memory.{Memory}
 
 -- a page that begins with chunk 32 * page has chunk c at its place
-pub page-place : (table : Given) (k : Keeping) (c : ℕ) → c < chunks_of k.header → slice_get (page_entries table k (c / 32)) (c % 32) ≡ Some (entry_of k.header table (wanted k) c)
+pub page-place : (table : TableState) (k : KeeperState) (c : ℕ) → c < chunks_of k.header → slice_get (page_entries table k (c / 32)) (c % 32) ≡ Some (map_entry k.header table (wanted_blocks k) c)
 page-place table k c inside =
-    let f = entry_of k.header table (wanted k) in
+    let f = map_entry k.header table (wanted_blocks k) in
     let n : ℕ = min 32 (chunks_of k.header - 32 * (c / 32)) in
     let whole = div-add-mod' c 32 in
     let rest = mod_below c 32 (omega arith) in
@@ -37,12 +37,12 @@ page-place table k c inside =
     slice_get-get_or (map f (range_with_len (32 * (c / 32)) n)) (c % 32) (f c) (omega arith)
     ∙ ap (λ (e : Entry). Some e) (get_or-map-range_with_len f (32 * (c / 32)) n (c % 32) c (f c) less (omega arith))
 
-module _ (o : Opening) (m : Memory) (snapshot : Snapshot) (table : Given) (k : Keeping) (is : IsMemoryOf m snapshot table k) (kept : IsKeeping k) (has : HasStorage table k) where
+module _ (o : Opening) (m : Memory) (snapshot : Snapshot) (table : TableState) (k : KeeperState) (is : IsMemoryOf m snapshot table k) (kept : IsKeeping k) (has : HasStorage table k) where
   -- the page at a chunk of it
   page-reads : (page c : ℕ) (sector : Sector) → sector.bytes ≡ page_bytes (page_entries table k page) → c < chunks_of k.header → c / 32 ≡ page
-      → (format_of k.header).mapping_of sector c ≡ Some (mapping_in k.header c (entry_of k.header table (wanted k) c))
+      → (format_of k.header).mapping_of sector c ≡ Some (mapping_in k.header c (map_entry k.header table (wanted_blocks k) c))
   page-reads page c sector bytes inside of_page =
-      let e = entry_of k.header table (wanted k) c in
+      let e = map_entry k.header table (wanted_blocks k) c in
       let spelled : sector.bytes ≡ page_bytes (page_entries table k (c / 32)) = bytes ∙ ap (λ (p : ℕ). page_bytes (page_entries table k p)) (sym of_page) in
       let at : bytes_at sector (c % 32) ≡ entry_bytes e = ap (λ (b : List ℕ). take 16 (drop (16 * (c % 32)) b)) spelled ∙ page-at (page_entries table k (c / 32)) (c % 32) e (page-place table k c inside) in
       let fits : Fits e = fits_grammar (shape_of k.header) c e (omega (arith, storage_within k.header kept.valid)) (wanted-grammar table k c kept has) in
@@ -52,7 +52,7 @@ module _ (o : Opening) (m : Memory) (snapshot : Snapshot) (table : Given) (k : K
 
   page-there : (page c : ℕ) (sector : Sector) → sector.bytes ≡ page_bytes (page_entries table k page) → c < chunks_of k.header → c / 32 ≡ page → IsWantedPage (with_header o k.header) m snapshot c sector
   page-there page c sector bytes inside of_page = record {
-    mapping = mapping_in k.header c (entry_of k.header table (wanted k) c);
+    mapping = mapping_in k.header c (map_entry k.header table (wanted_blocks k) c);
     reads = page-reads page c sector bytes inside of_page;
     wanted = wanted-mapping o m snapshot table k is c kept has;
   }
@@ -62,7 +62,7 @@ same-page : (start c d : ℕ) → start + c / 32 ≡ start + d / 32 → c / 32 �
 same-page start c d e = omega arith
 
 -- The next sector of the map is one that the laws want, at each of its chunks.
-pub page-wanted : (h : Header) (o : Opening) (m : Memory) (snapshot : Snapshot) (table : Given) (k : Keeping) (page : ℕ) (sector : Sector) → IsOfHeader h o k → IsMemoryOf m snapshot table k → IsKeeping k → HasStorage table k
+pub page-wanted : (h : Header) (o : Opening) (m : Memory) (snapshot : Snapshot) (table : TableState) (k : KeeperState) (page : ℕ) (sector : Sector) → IsOfHeader h o k → IsMemoryOf m snapshot table k → IsKeeping k → HasStorage table k
     → sector.bytes ≡ page_bytes (page_entries table k page) → (c d : ℕ) → d / 32 ≡ page → c < o.layout.chunks → o.layout.map_at c ≡ o.layout.map_at d → IsWantedPage o m snapshot c sector
 page-wanted h o m snapshot table k page sector of is kept has bytes c d at =
     by-header h o k of (λ p. c < p.layout.chunks → p.layout.map_at c ≡ p.layout.map_at d → IsWantedPage p m snapshot c sector)

@@ -5,7 +5,7 @@ use Rattle.std.proofs.lemmas.Bool.{cases_eq, cases_lt}
 use Rattle.std.proofs.lemmas.List.{get_or_past}
 use Rattle.vd_law.specs.declared.entry.Sector.{Sector}
 use Rattle.vd_law.specs.Entries.{Entry, Issue}
-use Rattle.vd_law.specs.Histories.{Numbered}
+use Rattle.vd_law.specs.Histories.{HistoryState}
 use Rattle.vd_device.specs.declared.store.Store as store
 use Rattle.vd_device.specs.declared.ticket.Ticket.{Ticket}
 use Rattle.vd_device.specs.declared.ticket.Kind.{Kind}
@@ -16,32 +16,32 @@ use Rattle.vd_format.specs.Layouts.{chunks_of, slots_start, map_start}
 use Rattle.vd_format.specs.Headers.{spelling}
 use Rattle.vd_format.specs.Entries.{page_bytes}
 use Rattle.vd_format.specs.Records.{record_bytes}
-use Rattle.vd_table.specs.Tables.{Given}
-use Rattle.vd_crash.specs.Safe.{Opening}
-use Rattle.vd_crash.specs.Words.{with_index}
-use Rattle.vd_flushes.specs.Stage.{Progress, HasTicket}
-use Rattle.vd_primitives.specs.Core.{Stage, Working, Putting, Puts_next as Puts_head}
-use Rattle.vd_primitives.specs.Primitives.{State, state}
-use Rattle.vd_primitives.specs.Primitives.IsPrimitive.{Puts_record, Puts_page, Puts_header}
-use Rattle.vd_primitives.specs.Keeping.{KeepsCrashSafety}
-use Rattle.vd_primitives.proofs.Keeping.{primitive_keeps}
-use Rattle.vd_primitives.proofs.Using.{kept_same_tracked}
-use Rattle.vd_meta.specs.declared.stage.Stage.TheVariants.{Puts}
-use Rattle.vd_meta.specs.declared.stage.Way.TheVariants as ways
-use Rattle.vd_meta.specs.declared.stage.Put as put
-use Rattle.vd_meta.specs.Keeping.{Keeping, pages_of}
-use Rattle.vd_meta.specs.Entries.{next_chunks, next_facts, page_entries}
-use Rattle.vd_meta.specs.Flushes.{IsKeeping, is_recycle}
-use Rattle.vd_meta.specs.Moves.{IsDue, Puts_next, next_header}
-use Rattle.vd_meta.specs.Moves.Puts_next.{Next_record, Next_page, Next_header}
-use Rattle.vd_meta.proofs.Moving.{lowest-inside}
+use Rattle.vd_table.specs.Tables.{TableState}
+use Rattle.vd_crash.specs.facts.Safe.{Opening}
+use Rattle.vd_crash.specs.facts.Words.{with_index}
+use Rattle.vd_crash.specs.flushes.Stage.{Progress, HasTicket}
+use Rattle.vd_crash.specs.primitives.Core.{Stage, Working, Putting, Puts_next as Puts_head}
+use Rattle.vd_crash.specs.primitives.Primitives.{State, state}
+use Rattle.vd_crash.specs.primitives.Primitives.IsPrimitive.{Puts_record, Puts_page, Puts_header}
+use Rattle.vd_crash.specs.primitives.Keeping.{KeepsCrashSafety}
+use Rattle.vd_crash.proofs.primitives.Keeping.{primitive_keeps}
+use Rattle.vd_crash.proofs.primitives.Using.{kept_same_tracked}
+use Rattle.vd_keeper.specs.declared.stage.Stage.TheVariants.{Puts}
+use Rattle.vd_keeper.specs.declared.stage.Way.TheVariants as ways
+use Rattle.vd_keeper.specs.declared.stage.Put as put
+use Rattle.vd_keeper.specs.Keeping.{KeeperState, pages_of}
+use Rattle.vd_keeper.specs.Entries.{next_chunks, next_facts, page_entries}
+use Rattle.vd_keeper.specs.Flushes.{IsKeeping, is_recycle}
+use Rattle.vd_keeper.specs.Moves.{HasPutDue, IsNextPut, next_header}
+use Rattle.vd_keeper.specs.Moves.IsNextPut.{Next_record, Next_page, Next_header}
+use Rattle.vd_keeper.proofs.Moving.{lowest-inside}
 use Rattle.vd_passes.specs.declared.shape.Shape.{Shape}
 use Rattle.vd_passes.specs.declared.pass.Pass.{Pass}
 use Rattle.vd_passes.specs.declared.pass.Phase.TheVariants.{Flushing}
-use Rattle.vd_passes.specs.Passes.{call_of, after_meta}
+use Rattle.vd_passes.specs.Passes.{call_id, after_meta}
 use Rattle.vd_passes.specs.Steps.{meta_entry}
-use Rattle.vd_metadata.specs.Flushing.{meta_state, PutsNext, put_at, put_sector}
-use Rattle.vd_safety.specs.Mirrors.{bit_of, IsBegunOf, IsProgressOf, Nowhere, InRecordOf, InPageOf, IsStageBy, Mirrors, IsSecured}
+use Rattle.vd_metadata.specs.Flushing.{meta_state, PutsNext, place_of_put, put_sector}
+use Rattle.vd_safety.specs.Mirrors.{bit_of, IsBegunOf, IsProgressOf, Nowhere, InRecordOf, InPageOf, IsStageBy, Mirrors, HasSafeMirror}
 use Rattle.vd_safety.proofs.Records.{IsMemoryOf}
 use Rattle.vd_safety.proofs.Slots.{record-wanted, record-names, logged-more}
 use Rattle.vd_safety.proofs.Pages.{page-wanted, page-chunk, page-first}
@@ -52,7 +52,7 @@ use Rattle.vd_safety.proofs.Stepping.{IsFlushing, flusher-is, flusher-as, keeps-
 use Rattle.vd_safety.proofs.Putting.{one-writes, one-covers, puts-data, puts-syncs, puts-seals, puts-possible, puts-due, records-recycle, records-plain, plain-recycle, slot-left, kept-apart, kept-first, slot-at, map-at, header-at, same-chunks, same-slots, same-map, map-same}
 
 -- what a flush was begun with, after a put
-begun-put : (k k' : Keeping) → IsBegunOf k → k.stage ≡ Puts → k'.stage ≡ Puts → (is_recycle k'.way ≡ false → (k'.sure ≡ k.sure) × (k'.marked ≡ k.marked) × (k'.put ≡ k.put) × (k'.head ≡ k.head)) → k'.header ≡ k.header → k'.way ≡ k.way → k'.snapshot ≡ k.snapshot
+begun-put : (k k' : KeeperState) → IsBegunOf k → k.stage ≡ Puts → k'.stage ≡ Puts → (is_recycle k'.way ≡ false → (k'.sure ≡ k.sure) × (k'.marked ≡ k.marked) × (k'.put ≡ k.put) × (k'.head ≡ k.head)) → k'.header ≡ k.header → k'.way ≡ k.way → k'.snapshot ≡ k.snapshot
     → (k'.head ≡ true → (page : ℕ) → bit_of k'.put page ≡ false) → IsBegunOf k'
 begun-put k k' was puts puts' plain header way snapshot headed = record {
   surely = λ e. (plain e).0 ∙ was.surely (ap is_recycle (sym way) ∙ e);
@@ -84,7 +84,7 @@ none-marked marked empty page = elim (cases_lt page (length marked)) [
 ]
 
 -- A core where a pass that flushes is about to put something.
-module _ (h : Header) (o : Opening) (shape : Shape) (table : Given) (fresh : List Bool) (k : Keeping) (passes : List Pass) (history : Numbered) (log : List Entry) (s : State) (last i : ℕ) (p : Pass) (t : Ticket)
+module _ (h : Header) (o : Opening) (shape : Shape) (table : TableState) (fresh : List Bool) (k : KeeperState) (passes : List Pass) (history : HistoryState) (log : List Entry) (s : State) (last i : ℕ) (p : Pass) (t : Ticket)
     (around : IsFlushing h o shape table fresh k (Some i) passes last) (was : KeepsCrashSafety o s) (mirrors : Mirrors o table fresh k (Some i) passes history log s)
     (there : slice_get passes i ≡ Some p) (flushes : p.phase ≡ Flushing) (none : p.ticket ≡ None) (puts : k.stage ≡ Puts) (above : last < t.number) where
   abbrev p' : Pass
@@ -93,10 +93,10 @@ module _ (h : Header) (o : Opening) (shape : Shape) (table : Given) (fresh : Lis
   abbrev kept : IsKeeping k
   kept = around.attended.keeping
 
-  due : IsDue k
+  due : HasPutDue k
   due = puts-due i p around there none puts
 
-  now : IsBegunOf k × IsStageBy Puts k.head None o k (call_of i p) s.stage
+  now : IsBegunOf k × IsStageBy Puts k.head None o k (call_id i p) s.stage
   now = stage-at Puts k.head None i p o k (Some i) passes s.stage refl there puts refl none mirrors.stage
 
   abbrev a : ℕ
@@ -114,8 +114,8 @@ module _ (h : Header) (o : Opening) (shape : Shape) (table : Given) (fresh : Lis
   progress : IsProgressOf k pr Nowhere Nowhere
   progress = now.1.4
 
-  keeps : KeepsCrashSafety o (state s.log s.history s.memory s.marked s.flights (Working (call_of i p) a n q pr))
-  keeps = keeps-at o s (Working (call_of i p) a n q pr) now.1.5 was
+  keeps : KeepsCrashSafety o (state s.log s.history s.memory s.marked s.flights (Working (call_id i p) a n q pr))
+  keeps = keeps-at o s (Working (call_id i p) a n q pr) now.1.5 was
 
   memory-is : IsMemoryOf s.memory pr.snapshot table k
   memory-is = record { generation = mirrors.generation; table_is = mirrors.storage; stale = mirrors.stale; snapshot_is = progress.snapshot }
@@ -132,20 +132,20 @@ module _ (h : Header) (o : Opening) (shape : Shape) (table : Given) (fresh : Lis
   -- ---- a record
 
   put-record : (v : Sector) → k.way ≡ ways.Records → v.bytes ≡ record_bytes k.header.generation (next_facts table k) → t.first ≡ slots_start k.header + k.next
-      → IsSecured o table fresh (record k { next = k.next + 1; logged = k.logged + length (next_chunks k) }) (Some i) (slice_set passes i p') history (log ++ entry v ∷ [])
+      → HasSafeMirror o table fresh (record k { next = k.next + 1; logged = k.logged + length (next_chunks k) }) (Some i) (slice_set passes i p') history (log ++ entry v ∷ [])
   put-record v way bytes at =
-      let k' : Keeping = record k { next = k.next + 1; logged = k.logged + length (next_chunks k) } in
+      let k' : KeeperState = record k { next = k.next + 1; logged = k.logged + length (next_chunks k) } in
       let m = s.memory in
       let short = due.records way in
       let room : k.next < k.header.slots = slot-left k (puts-possible k kept puts) way short in
       let cursor : m.index.cursor < o.layout.slots = (let e = same-slots h o k around.header in omega (arith, e, mirrors.cursor, room)) in
       let here : t.first ≡ o.layout.slot_at m.index.cursor = at ∙ slot-at h o k around.header k.next ∙ ap o.layout.slot_at (sym mirrors.cursor) in
       let wanted = record-wanted h o m pr.snapshot table k v around.header memory-is kept around.storage short bytes in
-      let stage : Stage = Putting (call_of i p) a n q pr (o.layout.slot_at m.index.cursor) (length s.log) v (ticket_id t) in
-      let after = primitive_keeps o (state s.log s.history m s.marked s.flights (Working (call_of i p) a n q pr)) (state (s.log ++ entry v ∷ []) s.history (with_index m m.index.sure m.index.tried (m.index.cursor + 1)) s.marked s.flights stage)
-      (Puts_record s.log s.history m s.marked s.flights (call_of i p) (ticket_id t) a n q pr (entry v) v wanted.0 fresh-ticket refl cursor
+      let stage : Stage = Putting (call_id i p) a n q pr (o.layout.slot_at m.index.cursor) (length s.log) v (ticket_id t) in
+      let after = primitive_keeps o (state s.log s.history m s.marked s.flights (Working (call_id i p) a n q pr)) (state (s.log ++ entry v ∷ []) s.history (with_index m m.index.sure m.index.tried (m.index.cursor + 1)) s.marked s.flights stage)
+      (Puts_record s.log s.history m s.marked s.flights (call_id i p) (ticket_id t) a n q pr (entry v) v wanted.0 fresh-ticket refl cursor
       (one-writes (ticket_id t) t.first (o.layout.slot_at m.index.cursor) v here) (one-covers (ticket_id t) t.first (o.layout.slot_at m.index.cursor) v here) wanted.1 wanted.2) keeps in
-      let first : pr.first ≤ k.next = (let f = kept-first o s.log s.history m s.marked s.flights (call_of i p) a n q pr keeps in omega (arith, f, mirrors.cursor)) in
+      let first : pr.first ≤ k.next = (let f = kept-first o s.log s.history m s.marked s.flights (call_id i p) a n q pr keeps in omega (arith, f, mirrors.cursor)) in
       let so_far : IsProgressOf k' pr (InRecordOf o k' pr.first (o.layout.slot_at m.index.cursor) v) (InPageOf o (o.layout.slot_at m.index.cursor)) = record {
         snapshot = progress.snapshot;
         recorded = λ way b snap found. elim (logged-more k (b / k.header.chunk) found) [
@@ -174,9 +174,9 @@ module _ (h : Header) (o : Opening) (shape : Shape) (table : Given) (fresh : Lis
   -- ---- a sector of the map
 
   put-page : (page : ℕ) (v : Sector) → is_recycle k.way ≡ true → IsLowest k.marked 0 page → v.bytes ≡ page_bytes (page_entries table k page) → t.first ≡ map_start k.header + page
-      → IsSecured o table fresh (record k { marked = slice_set k.marked page false; put = slice_set k.put page true }) (Some i) (slice_set passes i p') history (log ++ entry v ∷ [])
+      → HasSafeMirror o table fresh (record k { marked = slice_set k.marked page false; put = slice_set k.put page true }) (Some i) (slice_set passes i p') history (log ++ entry v ∷ [])
   put-page page v recycle lowest bytes at =
-      let k' : Keeping = record k { marked = slice_set k.marked page false; put = slice_set k.put page true } in
+      let k' : KeeperState = record k { marked = slice_set k.marked page false; put = slice_set k.put page true } in
       let m = s.memory in
       let of = around.header in
       let few : page < length k.marked = lowest-inside k.marked 0 page lowest in
@@ -188,9 +188,9 @@ module _ (h : Header) (o : Opening) (shape : Shape) (table : Given) (fresh : Lis
       let chunk : first < o.layout.chunks = (let e = same-chunks h o k of in omega (arith, e, there_is)) in
       let marked : bit_of k.marked page ≡ true = bit-is k.marked page true lowest.is_marked in
       let here : t.first ≡ o.layout.map_at first = at ∙ ap (λ (x : ℕ). map_start k.header + x) (sym its) ∙ map-at h o k of first in
-      let stage : Stage = Putting (call_of i p) a n q pr (o.layout.map_at first) (length s.log) v (ticket_id t) in
-      let after = primitive_keeps o (state s.log s.history m s.marked s.flights (Working (call_of i p) a n q pr)) (state (s.log ++ entry v ∷ []) s.history (with_index m m.index.sure m.index.tried m.index.cursor) s.marked s.flights stage)
-      (Puts_page s.log s.history m s.marked s.flights (call_of i p) (ticket_id t) a n q pr (entry v) v first fresh-ticket refl chunk
+      let stage : Stage = Putting (call_id i p) a n q pr (o.layout.map_at first) (length s.log) v (ticket_id t) in
+      let after = primitive_keeps o (state s.log s.history m s.marked s.flights (Working (call_id i p) a n q pr)) (state (s.log ++ entry v ∷ []) s.history (with_index m m.index.sure m.index.tried m.index.cursor) s.marked s.flights stage)
+      (Puts_page s.log s.history m s.marked s.flights (call_id i p) (ticket_id t) a n q pr (entry v) v first fresh-ticket refl chunk
       (one-writes (ticket_id t) t.first (o.layout.map_at first) v here) (one-covers (ticket_id t) t.first (o.layout.map_at first) v here)
       (λ c within same. page-wanted h o m pr.snapshot table k page v of memory-is kept around.storage bytes c first its within same)
       (λ c written same. (let e : bit_of k.marked page ≡ false = ap (bit_of k.marked) (sym (same-map h o k of c first same ∙ its)) ∙ progress.written_unmarked c written in absurd cc))) keeps in
@@ -231,9 +231,9 @@ module _ (h : Header) (o : Opening) (shape : Shape) (table : Given) (fresh : Lis
   -- ---- the header
 
   put-header : (v : Sector) → is_recycle k.way ≡ true → NoneFrom k.marked 0 → v.bytes ≡ spelling (next_header k.way k.header) → t.first ≡ 0
-      → IsSecured o table fresh (record k { sure = false; head = true }) (Some i) (slice_set passes i p') history (log ++ entry v ∷ [])
+      → HasSafeMirror o table fresh (record k { sure = false; head = true }) (Some i) (slice_set passes i p') history (log ++ entry v ∷ [])
   put-header v recycle empty bytes at =
-      let k' : Keeping = record k { sure = false; head = true } in
+      let k' : KeeperState = record k { sure = false; head = true } in
       let m = s.memory in
       let of = around.header in
       let next : Header = next_header k.way k.header in
@@ -246,12 +246,12 @@ module _ (h : Header) (o : Opening) (shape : Shape) (table : Given) (fresh : Lis
         | inr (inr (inr is)) ↦ absurd (let e = unmarked (c / 32) in cc)
       ] in
       let reads = head-reads h o k v of kept (puts-possible k kept puts) bytes in
-      let is_next = kept_same_tracked o s.log s.history m s.marked s.flights (call_of i p) a n q pr v next keeps reads (head-geometry h o k of)
+      let is_next = kept_same_tracked o s.log s.history m s.marked s.flights (call_id i p) a n q pr v next keeps reads (head-geometry h o k of)
       (next-generation k.way k.header recycle ∙ ap (λ (x : ℕ). x + 1) (sym mirrors.generation)) (next-tracked k.way k.header mirrors.same_tracked ∙ sym mirrors.tracked) paged in
       let here : t.first ≡ o.layout.header_at = at ∙ header-at h o k of in
-      let stage : Stage = Puts_head (call_of i p) a n q pr (length s.log) v next (ticket_id t) in
-      let after = primitive_keeps o (state s.log s.history m s.marked s.flights (Working (call_of i p) a n q pr)) (state (s.log ++ entry v ∷ []) s.history (with_index m false m.index.tried m.index.cursor) s.marked s.flights stage)
-      (Puts_header s.log s.history m s.marked s.flights (call_of i p) (ticket_id t) a n q pr (entry v) v next m.index.tried fresh-ticket refl
+      let stage : Stage = Puts_head (call_id i p) a n q pr (length s.log) v next (ticket_id t) in
+      let after = primitive_keeps o (state s.log s.history m s.marked s.flights (Working (call_id i p) a n q pr)) (state (s.log ++ entry v ∷ []) s.history (with_index m false m.index.tried m.index.cursor) s.marked s.flights stage)
+      (Puts_header s.log s.history m s.marked s.flights (call_id i p) (ticket_id t) a n q pr (entry v) v next m.index.tried fresh-ticket refl
       (one-writes (ticket_id t) t.first o.layout.header_at v here) (one-covers (ticket_id t) t.first o.layout.header_at v here) is_next) keeps in
       let so_far : IsProgressOf k' pr Nowhere Nowhere = record {
         snapshot = progress.snapshot;
@@ -270,20 +270,20 @@ module _ (h : Header) (o : Opening) (shape : Shape) (table : Given) (fresh : Lis
 
   -- ---- each of them
 
-  put-any : (what : put.Put) (k' : Keeping) → Puts_next table k what k' → t.first ≡ put_at k.header what → IsSecured o table fresh k' (Some i) (slice_set passes i p') history (log ++ entry (put_sector what) ∷ [])
+  put-any : (what : put.Put) (k' : KeeperState) → IsNextPut table k what k' → t.first ≡ place_of_put k.header what → HasSafeMirror o table fresh k' (Some i) (slice_set passes i p') history (log ++ entry (put_sector what) ∷ [])
   put-any what k' (Next_record v way bytes) at = put-record v way bytes at
   put-any what k' (Next_page page v recycle lowest bytes) at = put-page page v recycle lowest bytes at
   put-any what k' (Next_header v recycle empty bytes) at = put-header v recycle empty bytes at
 
-module _ {h : Header} {o : Opening} {shape : Shape} {table : Given} {fresh : List Bool} {k k' : Keeping} {flusher : Option ℕ} {passes passes' : List Pass} {history : Numbered} {i : ℕ} {S : Type 0} {g : store.Ghosts S} {from to : S} where
+module _ {h : Header} {o : Opening} {shape : Shape} {table : TableState} {fresh : List Bool} {k k' : KeeperState} {flusher : Option ℕ} {passes passes' : List Pass} {history : HistoryState} {i : ℕ} {S : Type 0} {g : store.Ghosts S} {from to : S} where
   pub put-secured : IsFlushing h o shape table fresh k flusher passes (g.last from) → PutsNext g table shape i (meta_state k passes) (meta_state k' passes') from to → k.stage ≡ Puts → g.tells to
-      → IsSecured o table fresh k flusher passes history (g.disk from).log → IsSecured o table fresh k' flusher passes' history (g.disk to).log
+      → HasSafeMirror o table fresh k flusher passes history (g.disk from).log → HasSafeMirror o table fresh k' flusher passes' history (g.disk to).log
   put-secured around step puts told was =
       let p : Pass = step.sends.pass in
       let t : Ticket = step.sends.ticket in
       let flush : flusher ≡ Some i = flusher-is around i p step.sends.there step.under_way in
       let mine : IsFlushing h o shape table fresh k (Some i) passes (g.last from) = subst (λ (f : Option ℕ). IsFlushing h o shape table fresh k f passes (g.last from)) flush around in
-      let secured : IsSecured o table fresh k (Some i) passes history (g.disk from).log = subst (λ (f : Option ℕ). IsSecured o table fresh k f passes history (g.disk from).log) flush was in
+      let secured : HasSafeMirror o table fresh k (Some i) passes history (g.disk from).log = subst (λ (f : Option ℕ). HasSafeMirror o table fresh k f passes history (g.disk from).log) flush was in
       let tale = step.sends.told told in
       let done = put-any h o shape table fresh k passes history (g.disk from).log secured.state (g.last from) i p t mine secured.keeps secured.mirrors step.sends.there step.under_way step.sends.none puts tale.1 step.put k' step.next step.at in
       flusher-as flusher (Some i) flush

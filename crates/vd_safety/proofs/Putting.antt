@@ -5,25 +5,24 @@ use Rattle.vd_law.specs.declared.entry.CallId.{CallId}
 use Rattle.vd_law.specs.Entries.{Issue}
 use Rattle.vd_format.specs.declared.header.Header.{Header}
 use Rattle.vd_format.specs.Layouts.{chunks_of, slots_start, map_start}
-use Rattle.vd_table.specs.Tables.{Given}
+use Rattle.vd_table.specs.Tables.{TableState}
 use Rattle.vd_image.specs.Log.{Covers}
 use Rattle.vd_image.specs.Image.{IsApart}
-use Rattle.vd_crash.specs.Safe.{Opening, NumberedEntry}
-use Rattle.vd_crash.specs.Facts.{Memory}
-use Rattle.vd_crash.specs.Words.{WritesOnly}
-use Rattle.vd_flushes.specs.Stage.{Flight, Progress}
-use Rattle.vd_primitives.specs.Core.{Working}
-use Rattle.vd_primitives.specs.Primitives.{State, state}
-use Rattle.vd_primitives.specs.Keeping.{KeepsCrashSafety}
+use Rattle.vd_crash.specs.facts.Safe.{Opening, NumberedEntry}
+use Rattle.vd_crash.specs.facts.Words.{WritesOnly}
+use Rattle.vd_crash.specs.flushes.Stage.{Flight, Progress}
+use Rattle.vd_crash.specs.primitives.Core.{Working}
+use Rattle.vd_crash.specs.primitives.Primitives.{State, state}
+use Rattle.vd_crash.specs.primitives.Keeping.{KeepsCrashSafety}
 use Rattle.vd_law.specs.Entries.{Entry}
-use Rattle.vd_meta.specs.declared.stage.Stage.{Stage}
-use Rattle.vd_meta.specs.declared.stage.Stage.TheVariants.{Rest, DataFlush, Puts, Syncs, Seals, Broken}
-use Rattle.vd_meta.specs.declared.stage.Way.TheVariants as ways
-use Rattle.vd_meta.specs.Keeping.{Keeping}
-use Rattle.vd_meta.specs.Entries.{chunks_with}
-use Rattle.vd_meta.specs.Flushes.{IsKeeping, IsPossible, is_recycle, records_for}
-use Rattle.vd_meta.specs.Moves.{IsDue}
-use Rattle.vd_meta.proofs.Flushed.{is-possible}
+use Rattle.vd_keeper.specs.declared.stage.Stage.{Stage}
+use Rattle.vd_keeper.specs.declared.stage.Stage.TheVariants.{Rest, DataFlush, Puts, Syncs, Seals, Broken}
+use Rattle.vd_keeper.specs.declared.stage.Way.TheVariants as ways
+use Rattle.vd_keeper.specs.Keeping.{KeeperState}
+use Rattle.vd_keeper.specs.Entries.{chunks_with}
+use Rattle.vd_keeper.specs.Flushes.{IsKeeping, IsPossible, is_recycle, records_for}
+use Rattle.vd_keeper.specs.Moves.{HasPutDue}
+use Rattle.vd_keeper.proofs.Flushed.{is-possible}
 use Rattle.vd_passes.specs.declared.shape.Shape.{Shape}
 use Rattle.vd_passes.specs.declared.pass.Pass.{Pass}
 use Rattle.vd_metadata.specs.Attending.{IsAtStage}
@@ -31,6 +30,7 @@ use Rattle.vd_safety.specs.Mirrors.{IsOfHeader}
 use Rattle.vd_safety.proofs.Records.{by-header}
 use Rattle.vd_safety.proofs.Updates.{some-inj}
 use Rattle.vd_safety.proofs.Stepping.{IsFlushing}
+use Rattle.vd_crash.specs.facts.Memory.{Memory}
 
 -- ---- an event that writes one sector
 
@@ -43,7 +43,7 @@ one-covers id first a v is = (0, omega (arith, is), refl)
 
 -- ---- the stage in which something is put
 
-pub not-stage : (k : Keeping) (a b : Stage) → k.stage ≡ a → k.stage ≡ b → (a ≡ b → ⊥) → ⊥
+pub not-stage : (k : KeeperState) (a b : Stage) → k.stage ≡ a → k.stage ≡ b → (a ≡ b → ⊥) → ⊥
 not-stage k a b is other apart = apart (sym is ∙ other)
 
 pub puts-data : Puts ≡ DataFlush → ⊥
@@ -61,12 +61,12 @@ puts-rest e = absurd cc
 puts-broken : Puts ≡ Broken → ⊥
 puts-broken e = absurd cc
 
-pub puts-possible : (k : Keeping) → IsKeeping k → k.stage ≡ Puts → IsPossible k
+pub puts-possible : (k : KeeperState) → IsKeeping k → k.stage ≡ Puts → IsPossible k
 puts-possible k kept is = is-possible k kept (λ e. puts-rest (sym is ∙ e)) (λ e. puts-broken (sym is ∙ e))
 
 -- something is due where nothing is in flight
-pub puts-due : {h : Header} {o : Opening} {shape : Shape} {table : Given} {fresh : List Bool} {k : Keeping} {passes : List Pass} {last : ℕ} (i : ℕ) (p : Pass) → IsFlushing h o shape table fresh k (Some i) passes last
-    → slice_get passes i ≡ Some p → p.ticket ≡ None → k.stage ≡ Puts → IsDue k
+pub puts-due : {h : Header} {o : Opening} {shape : Shape} {table : TableState} {fresh : List Bool} {k : KeeperState} {passes : List Pass} {last : ℕ} (i : ℕ) (p : Pass) → IsFlushing h o shape table fresh k (Some i) passes last
+    → slice_get passes i ≡ Some p → p.ticket ≡ None → k.stage ≡ Puts → HasPutDue k
 puts-due {h} {o} {shape} {table} {fresh} {k} i p around there none is =
     let w = around.attended.working i refl in
     let same : w.0 ≡ p = some-inj (sym w.1 ∙ there) in
@@ -75,17 +75,17 @@ puts-due {h} {o} {shape} {table} {fresh} {k} i p around there none is =
     elim here [ inl rests ↦ rests.1 | inr out ↦ absurd (let e = out.1 in cc) ]
 
 -- a way that is one is no other
-pub records-recycle : (k : Keeping) → k.way ≡ ways.Records → is_recycle k.way ≡ true → ⊥
+pub records-recycle : (k : KeeperState) → k.way ≡ ways.Records → is_recycle k.way ≡ true → ⊥
 records-recycle k records recycle = (let e : is_recycle ways.Records ≡ true = ap is_recycle (sym records) ∙ recycle in cc)
 
-pub records-plain : (k : Keeping) → k.way ≡ ways.Records → is_recycle k.way ≡ false
+pub records-plain : (k : KeeperState) → k.way ≡ ways.Records → is_recycle k.way ≡ false
 records-plain k records = ap is_recycle records
 
-pub plain-recycle : (k : Keeping) → is_recycle k.way ≡ false → is_recycle k.way ≡ true → ⊥
+pub plain-recycle : (k : KeeperState) → is_recycle k.way ≡ false → is_recycle k.way ≡ true → ⊥
 plain-recycle k plain recycle = (let e : false ≡ true = sym plain ∙ recycle in cc)
 
 -- a slot is left
-pub slot-left : (k : Keeping) → IsPossible k → k.way ≡ ways.Records → k.logged < length (chunks_with k.header k.snapshot) → k.next < k.header.slots
+pub slot-left : (k : KeeperState) → IsPossible k → k.way ≡ ways.Records → k.logged < length (chunks_with k.header k.snapshot) → k.next < k.header.slots
 slot-left k possible records due = fits k.next (length (chunks_with k.header k.snapshot)) k.logged k.header.slots (possible.slots records) due
   where
     fits : (next all logged slots : ℕ) → next + records_for (all - logged) ≤ slots → logged < all → next < slots
@@ -104,7 +104,7 @@ kept-first o log history m marked flights call a n q pr keeps = keeps.core.so_fa
 
 -- ---- where the parts of the store stand
 
-module _ (h : Header) (o : Opening) (k : Keeping) (of : IsOfHeader h o k) where
+module _ (h : Header) (o : Opening) (k : KeeperState) (of : IsOfHeader h o k) where
   pub slot-at : (slot : ℕ) → slots_start k.header + slot ≡ o.layout.slot_at slot
   slot-at slot = by-header h o k of (λ p. slots_start k.header + slot ≡ p.layout.slot_at slot) refl
 

@@ -10,22 +10,22 @@ use Rattle.vd_bits.specs.Masks.{mask_of}
 use Rattle.vd_format.specs.declared.header.Header.{Header}
 use Rattle.vd_format.specs.Headers.{IsValid}
 use Rattle.vd_format.proofs.Rules.{chunk_within}
-use Rattle.vd_table.specs.Tables.{Given}
+use Rattle.vd_table.specs.Tables.{TableState}
 use Rattle.vd_image.specs.Image.{Geometry, Format, Layout, IsMapping}
 use Rattle.vd_image.specs.Layouts.{layout_of}
 use Rattle.vd_image.specs.Decoders.{format_of, mapping_in, mask_has, storage_in}
 use Rattle.vd_image.proofs.Decoders.{entry_is_mapping}
-use Rattle.vd_crash.specs.Safe.{Opening}
-use Rattle.vd_crash.specs.Facts.{Memory}
-use Rattle.vd_flushes.specs.Flushing.{Snapshot, IsWantedMapping}
-use Rattle.vd_meta.specs.Keeping.{Keeping}
-use Rattle.vd_meta.specs.Entries.{entry_of, storage_number, HasStorage, wanted}
-use Rattle.vd_meta.specs.Flushes.{IsKeeping}
-use Rattle.vd_meta.proofs.Rows.{get_or-either, within}
-use Rattle.vd_meta.proofs.Chunked.{length-bits_in, get_or-bits_in}
-use Rattle.vd_meta.proofs.Chunked as chunked
-use Rattle.vd_meta.proofs.Laws.{wanted-grammar}
-use Rattle.vd_safety.specs.Mirrors.{IsSnapshotOf, bit_of, given, storage_of, IsOfHeader}
+use Rattle.vd_crash.specs.facts.Safe.{Opening}
+use Rattle.vd_crash.specs.flushes.Flushing.{Snapshot, IsWantedMapping}
+use Rattle.vd_keeper.specs.Keeping.{KeeperState}
+use Rattle.vd_keeper.specs.Entries.{map_entry, storage_number, HasStorage, wanted_blocks}
+use Rattle.vd_keeper.specs.Flushes.{IsKeeping}
+use Rattle.vd_keeper.proofs.Rows.{get_or-either, within}
+use Rattle.vd_keeper.proofs.Chunked.{length-bits_in, get_or-bits_in}
+use Rattle.vd_keeper.proofs.Chunked as chunked
+use Rattle.vd_keeper.proofs.Laws.{wanted-grammar}
+use Rattle.vd_safety.specs.Mirrors.{IsSnapshotOf, bit_of, storage_given, storage_of, IsOfHeader}
+use Rattle.vd_crash.specs.facts.Memory.{Memory}
 
 -- ---- the opening, by the keeper's header
 
@@ -36,23 +36,23 @@ header_by g = record { version = g.version; block = g.block; chunk = g.chunk; st
 abbrev pub with_header : Opening → Header → Opening
 with_header o h = record o { format = format_of h; layout = layout_of h }
 
-pub own-format : (h : Header) (o : Opening) (k : Keeping) → IsOfHeader h o k → o.format ≡ format_of k.header
+pub own-format : (h : Header) (o : Opening) (k : KeeperState) → IsOfHeader h o k → o.format ≡ format_of k.header
 own-format h o k is = is.format ∙ ap (λ (g : Geometry). format_of (header_by g)) (sym is.same)
 
-pub own-layout : (h : Header) (o : Opening) (k : Keeping) → IsOfHeader h o k → o.layout ≡ layout_of k.header
+pub own-layout : (h : Header) (o : Opening) (k : KeeperState) → IsOfHeader h o k → o.layout ≡ layout_of k.header
 own-layout h o k is = is.layout ∙ ap (λ (g : Geometry). layout_of (header_by g)) (sym is.same)
 
-pub same-opening : (h : Header) (o : Opening) (k : Keeping) → IsOfHeader h o k → with_header o k.header ≡ o
+pub same-opening : (h : Header) (o : Opening) (k : KeeperState) → IsOfHeader h o k → with_header o k.header ≡ o
 same-opening h o k is =
     ap (λ (f : Format). record o { format = f; layout = layout_of k.header }) (sym (own-format h o k is))
     ∙ ap (λ (l : Layout). record o { layout = l }) (sym (own-layout h o k is))
 
 -- what holds by the keeper's header holds of the opening
-pub by-header : (h : Header) (o : Opening) (k : Keeping) → IsOfHeader h o k → (P : Opening → Type 0) → P (with_header o k.header) → P o
+pub by-header : (h : Header) (o : Opening) (k : KeeperState) → IsOfHeader h o k → (P : Opening → Type 0) → P (with_header o k.header) → P o
 by-header h o k is P holds = subst P (same-opening h o k is) holds
 
 -- What the memory says of a keeper and its table, and which blocks the flush under way logs.
-pub record IsMemoryOf (m : Memory) (snapshot : Snapshot) (table : Given) (k : Keeping) : Type 0 where
+pub record IsMemoryOf (m : Memory) (snapshot : Snapshot) (table : TableState) (k : KeeperState) : Type 0 where
   pub generation : m.index.generation ≡ k.header.generation
   pub table_is : (c : ℕ) → m.index.table c ≡ storage_of table c
   pub stale : (b : ℕ) → m.index.stale b ≡ bit_of k.stale b
@@ -102,7 +102,7 @@ module _ (h : Header) (valid : IsValid h) (blocks : List Bool) (chunk b : ℕ) w
       both (nat_le (chunk * h.chunk) b) (nat_eq (bit_at mask (b - chunk * h.chunk)) 1) (le-leb (chunk * h.chunk) b from) (chunked.bit_of (bits_in set chunk) (b - chunk * h.chunk) ∙ bit)
 
 -- the storage number gives the storage
-number-given : (place : Option (Option ℕ)) (n p : ℕ) → n ≡ storage_number place → storage_in n ≡ Some p → given place ≡ Some p
+number-given : (place : Option (Option ℕ)) (n p : ℕ) → n ≡ storage_number place → storage_in n ≡ Some p → storage_given place ≡ Some p
 number-given (Some (Some q)) n p is says = (let e : storage_in (q + 1) ≡ Some p = subst (λ (x : ℕ). storage_in x ≡ Some p) is says in let same : storage_in (q + 1) ≡ Some q = from q in cc)
   where
     from : (q : ℕ) → storage_in (q + 1) ≡ Some q
@@ -114,40 +114,40 @@ number-given (Some None) n p is says = absurd (let e : storage_in 0 ≡ Some p =
 number-given None n p is says = absurd (let e : storage_in 0 ≡ Some p = subst (λ (x : ℕ). storage_in x ≡ Some p) is says in cc)
 
 -- the storage of an entry is that of the table
-entry-given : (h : Header) (table : Given) (blocks : List Bool) (chunk p : ℕ) → storage_in (entry_of h table blocks chunk).storage ≡ Some p → storage_of table chunk ≡ Some p
-unfolding entry_of
+entry-given : (h : Header) (table : TableState) (blocks : List Bool) (chunk p : ℕ) → storage_in (map_entry h table blocks chunk).storage ≡ Some p → storage_of table chunk ≡ Some p
+unfolding map_entry
 entry-given h table blocks chunk p says = elim (cases_Bool (nat_eq (mask_of (bits_in (record { chunk = h.chunk; bits = blocks }) chunk)) 0)) [
   | inl none ↦ absurd (let e : storage_in 0 ≡ Some p = ap (λ (x : Bool). storage_in (cond {A = ℕ} x 0 (storage_number (slice_get table.chunks chunk)))) (sym none) ∙ says in cc)
   | inr some ↦ number-given (slice_get table.chunks chunk) (storage_number (slice_get table.chunks chunk)) p refl (ap (λ (x : Bool). storage_in (cond {A = ℕ} x 0 (storage_number (slice_get table.chunks chunk)))) (sym some) ∙ says)
 ]
 
 -- the mask of an entry
-entry-mask : (h : Header) (table : Given) (blocks : List Bool) (chunk : ℕ) → (entry_of h table blocks chunk).mask ≡ mask_of (bits_in (record { chunk = h.chunk; bits = blocks }) chunk)
-unfolding entry_of
+entry-mask : (h : Header) (table : TableState) (blocks : List Bool) (chunk : ℕ) → (map_entry h table blocks chunk).mask ≡ mask_of (bits_in (record { chunk = h.chunk; bits = blocks }) chunk)
+unfolding map_entry
 entry-mask h table blocks chunk = refl
 
-module _ (o : Opening) (m : Memory) (snapshot : Snapshot) (table : Given) (k : Keeping) (is : IsMemoryOf m snapshot table k) where
+module _ (o : Opening) (m : Memory) (snapshot : Snapshot) (table : TableState) (k : KeeperState) (is : IsMemoryOf m snapshot table k) where
   -- what is wanted is what the keeper writes
-  pub wanted-is : (b : ℕ) → bit_of (wanted k) b ≡ true → snapshot.wanted b ≡ true
+  pub wanted-is : (b : ℕ) → bit_of (wanted_blocks k) b ≡ true → snapshot.wanted b ≡ true
   wanted-is b has = is.snapshot_is.wanted b ∙ sym (get_or-either k.stale k.snapshot b) ∙ has
 
-  pub is-wanted : (b : ℕ) → snapshot.wanted b ≡ true → bit_of (wanted k) b ≡ true
+  pub is-wanted : (b : ℕ) → snapshot.wanted b ≡ true → bit_of (wanted_blocks k) b ≡ true
   is-wanted b is_wanted = get_or-either k.stale k.snapshot b ∙ sym (is.snapshot_is.wanted b) ∙ is_wanted
 
   -- the mapping that a flush writes of a chunk is the wanted one
-  pub wanted-mapping : (chunk : ℕ) → IsKeeping k → HasStorage table k → IsWantedMapping (with_header o k.header) m snapshot chunk (mapping_in k.header chunk (entry_of k.header table (wanted k) chunk))
+  pub wanted-mapping : (chunk : ℕ) → IsKeeping k → HasStorage table k → IsWantedMapping (with_header o k.header) m snapshot chunk (mapping_in k.header chunk (map_entry k.header table (wanted_blocks k) chunk))
   wanted-mapping chunk kept has =
-      let grammar : IsMapping (layout_of k.header) chunk (mapping_in k.header chunk (entry_of k.header table (wanted k) chunk)) =
-      (entry_is_mapping k.header chunk (entry_of k.header table (wanted k) chunk) kept.valid).0 (wanted-grammar table k chunk kept has) in
-      let masks : (b : ℕ) → mask_has (chunk * k.header.chunk) (entry_of k.header table (wanted k) chunk).mask b ≡ mask_has (chunk * k.header.chunk) (mask_of (bits_in (record { chunk = k.header.chunk; bits = wanted k }) chunk)) b =
-      λ b. ap (λ (n : ℕ). mask_has (chunk * k.header.chunk) n b) (entry-mask k.header table (wanted k) chunk) in
-      let gives : (p : ℕ) → storage_in (entry_of k.header table (wanted k) chunk).storage ≡ Some p → m.index.table chunk ≡ Some p = λ p says. is.table_is chunk ∙ entry-given k.header table (wanted k) chunk p says in
+      let grammar : IsMapping (layout_of k.header) chunk (mapping_in k.header chunk (map_entry k.header table (wanted_blocks k) chunk)) =
+      (entry_is_mapping k.header chunk (map_entry k.header table (wanted_blocks k) chunk) kept.valid).0 (wanted-grammar table k chunk kept has) in
+      let masks : (b : ℕ) → mask_has (chunk * k.header.chunk) (map_entry k.header table (wanted_blocks k) chunk).mask b ≡ mask_has (chunk * k.header.chunk) (mask_of (bits_in (record { chunk = k.header.chunk; bits = wanted_blocks k }) chunk)) b =
+      λ b. ap (λ (n : ℕ). mask_has (chunk * k.header.chunk) n b) (entry-mask k.header table (wanted_blocks k) chunk) in
+      let gives : (p : ℕ) → storage_in (map_entry k.header table (wanted_blocks k) chunk).storage ≡ Some p → m.index.table chunk ≡ Some p = λ p says. is.table_is chunk ∙ entry-given k.header table (wanted_blocks k) chunk p says in
       record {
         kind = grammar.kind refl ∙ sym (is.snapshot_is.zeros chunk);
         in_grammar = grammar.kind;
         blocks = λ b. (
-          λ says. (let two = mask-has k.header kept.valid (wanted k) chunk b (sym (masks b) ∙ says) in (two.0, wanted-is b two.1)),
-          λ two. masks b ∙ has-mask k.header kept.valid (wanted k) chunk b two.0 (is-wanted b two.1),
+          λ says. (let two = mask-has k.header kept.valid (wanted_blocks k) chunk b (sym (masks b) ∙ says) in (two.0, wanted-is b two.1)),
+          λ two. masks b ∙ has-mask k.header kept.valid (wanted_blocks k) chunk b two.0 (is-wanted b two.1),
         );
         storage = λ p. (
           λ says. (gives p says, grammar.has_block p says),

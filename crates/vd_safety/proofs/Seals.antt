@@ -1,35 +1,35 @@
 -- A flush is over: its blocks are logged, and its pass has its answer.
-use Rattle.vd_crash.specs.Facts.{IsDrop}
+use Rattle.vd_crash.specs.facts.Facts.{IsDrop}
 use Rattle.std.proofs.Common.{◌≡◌, ◌⊎◌, inl, inr, ℕ, ◌+◌, ◌/◌, ◌<◌, Bool, true, false, not, cond, List, Option, Some, None, slice_get, slice_set, sym, refl, ap, ◌∙◌, arith, subst}
 use Rattle.std.specs.Prelude.{◌||◌}
 use Rattle.std.proofs.lemmas.Bool.{or_cases, or_right, cases_Bool, and_parts, and_from, or_left}
 use Rattle.vd_law.specs.Entries.{Entry}
-use Rattle.vd_law.specs.Histories.{Numbered}
+use Rattle.vd_law.specs.Histories.{HistoryState}
 use Rattle.vd_format.specs.declared.header.Header.{Header}
-use Rattle.vd_table.specs.Tables.{Given}
-use Rattle.vd_crash.specs.Safe.{Opening}
-use Rattle.vd_crash.specs.Words.{Sealing, sealed_memory}
-use Rattle.vd_flushes.specs.Flushing.{IsLogged}
-use Rattle.vd_flushes.specs.Stage.{Flight, Idle as NoFlight, Answering, Progress}
-use Rattle.vd_primitives.specs.Core.{Resting, Working, Is_next}
-use Rattle.vd_primitives.specs.Primitives.{State, state}
-use Rattle.vd_primitives.specs.Primitives.IsPrimitive.{Seals as Seals_records, Seals_recycle}
-use Rattle.vd_primitives.specs.Keeping.{KeepsCrashSafety}
-use Rattle.vd_primitives.proofs.Keeping.{primitive_keeps}
-use Rattle.vd_meta.specs.declared.stage.Stage.TheVariants.{Seals}
-use Rattle.vd_meta.specs.declared.stage.Way as way
-use Rattle.vd_meta.specs.declared.stage.Way.TheVariants as ways
-use Rattle.vd_meta.specs.Keeping.{Keeping}
-use Rattle.vd_meta.specs.Entries.{either}
-use Rattle.vd_meta.specs.Flushes.{is_recycle}
-use Rattle.vd_meta.specs.Moves.{without, sealed, next_header}
-use Rattle.vd_meta.proofs.Rows.{get_or-either, get_or-without}
+use Rattle.vd_table.specs.Tables.{TableState}
+use Rattle.vd_crash.specs.facts.Safe.{Opening}
+use Rattle.vd_crash.specs.facts.Words.{Sealing, sealed_memory}
+use Rattle.vd_crash.specs.flushes.Flushing.{IsLogged}
+use Rattle.vd_crash.specs.flushes.Stage.{Flight, Idle as NoFlight, Answering, Progress}
+use Rattle.vd_crash.specs.primitives.Core.{Resting, Working, Is_next}
+use Rattle.vd_crash.specs.primitives.Primitives.{State, state}
+use Rattle.vd_crash.specs.primitives.Primitives.IsPrimitive.{Seals as Seals_records, Seals_recycle}
+use Rattle.vd_crash.specs.primitives.Keeping.{KeepsCrashSafety}
+use Rattle.vd_crash.proofs.primitives.Keeping.{primitive_keeps}
+use Rattle.vd_keeper.specs.declared.stage.Stage.TheVariants.{Seals}
+use Rattle.vd_keeper.specs.declared.stage.Way as way
+use Rattle.vd_keeper.specs.declared.stage.Way.TheVariants as ways
+use Rattle.vd_keeper.specs.Keeping.{KeeperState}
+use Rattle.vd_keeper.specs.Entries.{union_of}
+use Rattle.vd_keeper.specs.Flushes.{is_recycle}
+use Rattle.vd_keeper.specs.Moves.{difference_of, after_seal, next_header}
+use Rattle.vd_keeper.proofs.Rows.{get_or-either, get_or-without}
 use Rattle.vd_passes.specs.declared.shape.Shape.{Shape}
 use Rattle.vd_passes.specs.declared.pass.Pass.{Pass}
 use Rattle.vd_passes.specs.declared.pass.Phase.TheVariants.{Flushing}
-use Rattle.vd_passes.specs.Passes.{call_of, after_flush}
+use Rattle.vd_passes.specs.Passes.{call_id, after_flush}
 use Rattle.vd_metadata.specs.Flushing.{SealsFlush}
-use Rattle.vd_safety.specs.Mirrors.{IsSnapshotOf, bit_of, Mirrors, IsSecured}
+use Rattle.vd_safety.specs.Mirrors.{IsSnapshotOf, bit_of, Mirrors, HasSafeMirror}
 use Rattle.vd_safety.proofs.Updates.{updated, is-updated}
 use Rattle.vd_safety.proofs.Flying.{is_bare, flights-set, idle-flight}
 use Rattle.vd_safety.proofs.Records.{by-header}
@@ -48,7 +48,7 @@ tracked-after : (w : way.Way) (h : Header) (t : ℕ) → w ≡ ways.Recycle t �
 tracked-after w h t e = ap (λ (x : way.Way). (next_header x h).tracked) (sym e)
 
 -- A core whose pass has its flush behind it.
-module _ (h : Header) (o : Opening) (shape : Shape) (table : Given) (fresh : List Bool) (k : Keeping) (passes : List Pass) (history : Numbered) (log : List Entry) (s : State) (last i : ℕ) (p : Pass)
+module _ (h : Header) (o : Opening) (shape : Shape) (table : TableState) (fresh : List Bool) (k : KeeperState) (passes : List Pass) (history : HistoryState) (log : List Entry) (s : State) (last i : ℕ) (p : Pass)
     (around : IsFlushing h o shape table fresh k (Some i) passes last) (was : KeepsCrashSafety o s) (mirrors : Mirrors o table fresh k (Some i) passes history log s)
     (there : slice_get passes i ≡ Some p) (flushes : p.phase ≡ Flushing) (serves : p.flush ≡ true) (none : p.ticket ≡ None) (seals : k.stage ≡ Seals) where
   abbrev p' : Pass
@@ -61,9 +61,9 @@ module _ (h : Header) (o : Opening) (shape : Shape) (table : Given) (fresh : Lis
   abbrev left : ℕ → Sealing
   left reach = record {
     table = s.memory.index.table;
-    stale = λ b. bit_of (either k.stale k.snapshot) b;
-    off_base = λ b. bit_of (either k.stale k.snapshot) b;
-    owed = λ b. bit_of (without k.owed k.snapshot) b;
+    stale = λ b. bit_of (union_of k.stale k.snapshot) b;
+    off_base = λ b. bit_of (union_of k.stale k.snapshot) b;
+    owed = λ b. bit_of (difference_of k.owed k.snapshot) b;
     lost = λ c. false;
     reach = reach;
   }
@@ -105,12 +105,12 @@ module _ (h : Header) (o : Opening) (shape : Shape) (table : Given) (fresh : Lis
 
   -- the core after it
   over : (generation tracked : ℕ) (sure : Bool) (tried : ℕ → Bool) (cursor a n reach : ℕ)
-      → KeepsCrashSafety o (state s.log s.history (sealed_memory s.memory generation tracked sure tried cursor (left reach)) s.marked (updated s.flights i (Answering (call_of i p) a n)) Resting)
-      → generation ≡ (sealed k).header.generation → tracked ≡ (sealed k).header.tracked → sure ≡ (sealed k).sure → ((b : ℕ) → tried b ≡ false) → cursor ≡ (sealed k).next
-      → IsSecured o table fresh (sealed k) None (slice_set passes i p') history log
+      → KeepsCrashSafety o (state s.log s.history (sealed_memory s.memory generation tracked sure tried cursor (left reach)) s.marked (updated s.flights i (Answering (call_id i p) a n)) Resting)
+      → generation ≡ (after_seal k).header.generation → tracked ≡ (after_seal k).header.tracked → sure ≡ (after_seal k).sure → ((b : ℕ) → tried b ≡ false) → cursor ≡ (after_seal k).next
+      → HasSafeMirror o table fresh (after_seal k) None (slice_set passes i p') history log
   over generation tracked sure tried cursor a n reach after generation_is tracked_is sure_is tried_is cursor_is =
-      let new : ℕ → Flight = updated s.flights i (Answering (call_of i p) a n) in
-      let mine : Mirrors o table fresh (sealed k) None (slice_set passes i p') history log (state s.log s.history (sealed_memory s.memory generation tracked sure tried cursor (left reach)) s.marked new Resting) = record {
+      let new : ℕ → Flight = updated s.flights i (Answering (call_id i p) a n) in
+      let mine : Mirrors o table fresh (after_seal k) None (slice_set passes i p') history log (state s.log s.history (sealed_memory s.memory generation tracked sure tried cursor (left reach)) s.marked new Resting) = record {
         log_is = mirrors.log_is;
         history_is = mirrors.history_is;
         many = mirrors.many;
@@ -128,20 +128,20 @@ module _ (h : Header) (o : Opening) (shape : Shape) (table : Given) (fresh : Lis
         owed = λ b. refl;
         pending = pending-after o table fresh k (Some i) passes history log s mirrors i p p' there bare;
         marked = mirrors.marked;
-        flights = flights-set passes i p p' s.flights new (Answering (call_of i p) a n) there mirrors.flights (is-updated s.flights i (Answering (call_of i p) a n)) (inl (serves, (a, n, refl)));
+        flights = flights-set passes i p p' s.flights new (Answering (call_id i p) a n) there mirrors.flights (is-updated s.flights i (Answering (call_id i p) a n)) (inl (serves, (a, n, refl)));
         stage = refl;
       } in
       record { state = _; keeps = after; mirrors = mine }
 
   -- by records, or with nothing
-  sealed-plain : k.head ≡ false → IsSecured o table fresh (sealed k) None (slice_set passes i p') history log
+  sealed-plain : k.head ≡ false → HasSafeMirror o table fresh (after_seal k) None (slice_set passes i p') history log
   sealed-plain head =
       let now = stage-at Seals false None i p o k (Some i) passes s.stage refl there seals head none mirrors.stage in
       let w = now.1 in
       let pr : Progress = w.3 in
       let m = s.memory in
       let plain : is_recycle k.way ≡ false = now.0.recycled seals head in
-      let header : (sealed k).header ≡ k.header = plain-header k.way k.header plain in
+      let header : (after_seal k).header ≡ k.header = plain-header k.way k.header plain in
       let sure : m.index.sure ≡ true = mirrors.sure ∙ now.0.surely plain in
       let behind : (b : ℕ) → pr.snapshot.blocks b ≡ true → (s.marked (o.layout.map_at (o.layout.chunk_of b)) ≡ true) ⊎ (pr.paged (o.layout.chunk_of b) ≡ true) =
       λ b snap.
@@ -151,10 +151,10 @@ module _ (h : Header) (o : Opening) (shape : Shape) (table : Given) (fresh : Lis
       let within : o.layout.chunk_of b < o.layout.chunks = (let e = same-chunks h o k around.header in omega (arith, e, inside, chunk)) in
       let marked : bit_of k.marked (o.layout.chunk_of b / 32) ≡ true = ap (λ (x : ℕ). bit_of k.marked (x / 32)) (sym chunk) ∙ now.0.behind (inl plain) b on in
       inl (mirrors.marked (o.layout.chunk_of b) within ∙ or_left (bit_of k.marked (o.layout.chunk_of b / 32)) (bit_of k.put (o.layout.chunk_of b / 32)) marked) in
-      let after = primitive_keeps o (state s.log s.history m s.marked s.flights (Working (call_of i p) w.0 w.1 w.2 pr))
-      (state s.log s.history (sealed_memory m m.index.generation m.index.tracked m.index.sure m.index.tried m.index.cursor (left pr.snapshot.begun)) s.marked (updated s.flights i (Answering (call_of i p) w.0 w.1)) Resting)
-      (Seals_records s.log s.history m s.marked s.flights (updated s.flights i (Answering (call_of i p) w.0 w.1)) i (call_of i p) w.0 w.1 w.2 pr (left pr.snapshot.begun) idle (is-updated s.flights i (Answering (call_of i p) w.0 w.1))
-      (logged pr w.4.snapshot) sure (λ b snap. w.5 b (sym (w.4.snapshot.blocks b) ∙ snap)) (λ b lost. absurd (let none_lost = w.4.snapshot.lost (o.layout.chunk_of b) in cc)) behind (λ c lost. absurd (let none_lost = w.4.snapshot.lost c in cc))) (keeps-at o s (Working (call_of i p) w.0 w.1 w.2 pr) w.6 was) in
+      let after = primitive_keeps o (state s.log s.history m s.marked s.flights (Working (call_id i p) w.0 w.1 w.2 pr))
+      (state s.log s.history (sealed_memory m m.index.generation m.index.tracked m.index.sure m.index.tried m.index.cursor (left pr.snapshot.begun)) s.marked (updated s.flights i (Answering (call_id i p) w.0 w.1)) Resting)
+      (Seals_records s.log s.history m s.marked s.flights (updated s.flights i (Answering (call_id i p) w.0 w.1)) i (call_id i p) w.0 w.1 w.2 pr (left pr.snapshot.begun) idle (is-updated s.flights i (Answering (call_id i p) w.0 w.1))
+      (logged pr w.4.snapshot) sure (λ b snap. w.5 b (sym (w.4.snapshot.blocks b) ∙ snap)) (λ b lost. absurd (let none_lost = w.4.snapshot.lost (o.layout.chunk_of b) in cc)) behind (λ c lost. absurd (let none_lost = w.4.snapshot.lost c in cc))) (keeps-at o s (Working (call_id i p) w.0 w.1 w.2 pr) w.6 was) in
       over m.index.generation m.index.tracked m.index.sure m.index.tried m.index.cursor w.0 w.1 pr.snapshot.begun after (mirrors.generation ∙ ap (λ (x : Header). x.generation) (sym header)) (mirrors.tracked ∙ ap (λ (x : Header). x.tracked) (sym header))
       (mirrors.sure ∙ sym (kept-sure k.sure (is_recycle k.way) plain)) mirrors.tried (mirrors.cursor ∙ sym (kept-next k.next (is_recycle k.way) plain))
     where
@@ -166,7 +166,7 @@ module _ (h : Header) (o : Opening) (shape : Shape) (table : Given) (fresh : Lis
       kept-next n x e = ap (λ (b : Bool). cond {A = ℕ} b 0 n) e
 
   -- of a recycle
-  sealed-recycle : k.head ≡ true → IsSecured o table fresh (sealed k) None (slice_set passes i p') history log
+  sealed-recycle : k.head ≡ true → HasSafeMirror o table fresh (after_seal k) None (slice_set passes i p') history log
   sealed-recycle head =
       let now = stage-at Seals true None i p o k (Some i) passes s.stage refl there seals head none mirrors.stage in
       let w = now.1 in
@@ -174,10 +174,10 @@ module _ (h : Header) (o : Opening) (shape : Shape) (table : Given) (fresh : Lis
       let m = s.memory in
       let next : Header = next_header k.way k.header in
       let recycle : is_recycle k.way ≡ true = elim (cases_Bool (is_recycle k.way)) [ inl is ↦ is | inr not ↦ absurd (let e = now.0.headless not in cc) ] in
-      let after = primitive_keeps o (state s.log s.history m s.marked s.flights (Is_next (call_of i p) w.0 w.1 w.2 pr w.3 w.6 next w.4))
-      (state s.log s.history (sealed_memory m (m.index.generation + 1) next.tracked true (λ b. false) 0 (left pr.snapshot.begun)) s.marked (updated s.flights i (Answering (call_of i p) w.0 w.1)) Resting)
-      (Seals_recycle s.log s.history m s.marked s.marked s.flights (updated s.flights i (Answering (call_of i p) w.0 w.1)) i (call_of i p) w.0 w.1 w.2 w.3 w.4 pr w.6 next (left pr.snapshot.begun) (λ b. false) idle
-      (is-updated s.flights i (Answering (call_of i p) w.0 w.1)) (logged pr w.7.snapshot) (λ b. refl)) (keeps-at o s (Is_next (call_of i p) w.0 w.1 w.2 pr w.3 w.6 next w.4) w.8 was) in
+      let after = primitive_keeps o (state s.log s.history m s.marked s.flights (Is_next (call_id i p) w.0 w.1 w.2 pr w.3 w.6 next w.4))
+      (state s.log s.history (sealed_memory m (m.index.generation + 1) next.tracked true (λ b. false) 0 (left pr.snapshot.begun)) s.marked (updated s.flights i (Answering (call_id i p) w.0 w.1)) Resting)
+      (Seals_recycle s.log s.history m s.marked s.marked s.flights (updated s.flights i (Answering (call_id i p) w.0 w.1)) i (call_id i p) w.0 w.1 w.2 w.3 w.4 pr w.6 next (left pr.snapshot.begun) (λ b. false) idle
+      (is-updated s.flights i (Answering (call_id i p) w.0 w.1)) (logged pr w.7.snapshot) (λ b. refl)) (keeps-at o s (Is_next (call_id i p) w.0 w.1 w.2 pr w.3 w.6 next w.4) w.8 was) in
       over (m.index.generation + 1) next.tracked true (λ b. false) 0 w.0 w.1 pr.snapshot.begun after (ap (λ (x : ℕ). x + 1) mirrors.generation ∙ sym (next-generation k.way k.header recycle)) refl
       (sym (now-sure k.sure (is_recycle k.way) recycle)) (λ b. refl) (sym (first-next k.next (is_recycle k.way) recycle))
     where
@@ -188,16 +188,16 @@ module _ (h : Header) (o : Opening) (shape : Shape) (table : Given) (fresh : Lis
       first-next : (n : ℕ) (x : Bool) → x ≡ true → cond {A = ℕ} x 0 n ≡ 0
       first-next n x e = ap (λ (b : Bool). cond {A = ℕ} b 0 n) e
 
-  sealed-any : IsSecured o table fresh (sealed k) None (slice_set passes i p') history log
+  sealed-any : HasSafeMirror o table fresh (after_seal k) None (slice_set passes i p') history log
   sealed-any = elim (cases_Bool k.head) [ inl head ↦ sealed-recycle head | inr plain ↦ sealed-plain plain ]
 
-module _ {h : Header} {o : Opening} {shape : Shape} {table : Given} {fresh : List Bool} {k k' : Keeping} {flusher : Option ℕ} {passes passes' : List Pass} {history : Numbered} {log : List Entry} {last i : ℕ} where
-  pub seal-secured : IsFlushing h o shape table fresh k flusher passes last → SealsFlush i k k' passes passes' → k.stage ≡ Seals → IsSecured o table fresh k flusher passes history log → IsSecured o table fresh k' None passes' history log
+module _ {h : Header} {o : Opening} {shape : Shape} {table : TableState} {fresh : List Bool} {k k' : KeeperState} {flusher : Option ℕ} {passes passes' : List Pass} {history : HistoryState} {log : List Entry} {last i : ℕ} where
+  pub seal-secured : IsFlushing h o shape table fresh k flusher passes last → SealsFlush i k k' passes passes' → k.stage ≡ Seals → HasSafeMirror o table fresh k flusher passes history log → HasSafeMirror o table fresh k' None passes' history log
   seal-secured around step seals was =
       let p : Pass = step.ends.pass in
       let flushes : p.phase ≡ Flushing = elim step.ends.cause [ inl is ↦ is.1 | inr worn ↦ absurd (let e = worn.1 in cc) ] in
       let flush : flusher ≡ Some i = flusher-is around i p step.ends.there flushes in
       let mine : IsFlushing h o shape table fresh k (Some i) passes last = subst (λ (f : Option ℕ). IsFlushing h o shape table fresh k f passes last) flush around in
-      let secured : IsSecured o table fresh k (Some i) passes history log = subst (λ (f : Option ℕ). IsSecured o table fresh k f passes history log) flush was in
-      secured-as o table fresh k' (sealed k) None passes' (slice_set passes i (after_flush p None)) history log log step.after step.ends.after refl
+      let secured : HasSafeMirror o table fresh k (Some i) passes history log = subst (λ (f : Option ℕ). HasSafeMirror o table fresh k f passes history log) flush was in
+      secured-as o table fresh k' (after_seal k) None passes' (slice_set passes i (after_flush p None)) history log log step.after step.ends.after refl
       (sealed-any h o shape table fresh k passes history log secured.state last i p mine secured.keeps secured.mirrors step.ends.there flushes step.ends.serves step.ends.none seals)

@@ -3,30 +3,30 @@ use Rattle.std.proofs.Common.{◌≡◌, ◌⊎◌, inl, inr, ℕ, ◌/◌, ◌<
 use Rattle.std.specs.Prelude.{◌||◌, ◌&&◌, nat_lt}
 use Rattle.std.proofs.lemmas.Bool.{cases_Bool, ltb-false}
 use Rattle.vd_law.specs.Entries.{Entry}
-use Rattle.vd_law.specs.Histories.{Numbered}
+use Rattle.vd_law.specs.Histories.{HistoryState}
 use Rattle.vd_device.specs.declared.ticket.Ticket.{Ticket}
 use Rattle.vd_device.specs.declared.ticket.Kind.TheVariants.{Write, Flush}
 use Rattle.vd_bits.specs.Marks.{NoneFrom}
 use Rattle.vd_format.specs.declared.header.Header.{Header}
-use Rattle.vd_table.specs.Tables.{Given}
-use Rattle.vd_crash.specs.Safe.{Opening}
-use Rattle.vd_primitives.specs.Core as core
-use Rattle.vd_primitives.specs.Primitives.{State, state}
-use Rattle.vd_primitives.specs.Keeping.{KeepsCrashSafety}
-use Rattle.vd_meta.specs.declared.stage.Stage.{Stage}
-use Rattle.vd_meta.specs.declared.stage.Stage.TheVariants.{Rest, DataFlush, Puts, Syncs, Seals, Broken}
-use Rattle.vd_meta.specs.declared.stage.Way as way
-use Rattle.vd_meta.specs.declared.stage.Way.TheVariants as ways
-use Rattle.vd_meta.specs.Keeping.{Keeping}
-use Rattle.vd_meta.specs.Entries.{chunks_with}
-use Rattle.vd_meta.specs.Flushes.{is_recycle}
-use Rattle.vd_meta.specs.Moves.{after_data, after_put, after_sync, none_of}
-use Rattle.vd_meta.proofs.NextChunks.{all-none}
+use Rattle.vd_table.specs.Tables.{TableState}
+use Rattle.vd_crash.specs.facts.Safe.{Opening}
+use Rattle.vd_crash.specs.primitives.Core as core
+use Rattle.vd_crash.specs.primitives.Primitives.{State, state}
+use Rattle.vd_crash.specs.primitives.Keeping.{KeepsCrashSafety}
+use Rattle.vd_keeper.specs.declared.stage.Stage.{Stage}
+use Rattle.vd_keeper.specs.declared.stage.Stage.TheVariants.{Rest, DataFlush, Puts, Syncs, Seals, Broken}
+use Rattle.vd_keeper.specs.declared.stage.Way as way
+use Rattle.vd_keeper.specs.declared.stage.Way.TheVariants as ways
+use Rattle.vd_keeper.specs.Keeping.{KeeperState}
+use Rattle.vd_keeper.specs.Entries.{chunks_with}
+use Rattle.vd_keeper.specs.Flushes.{is_recycle}
+use Rattle.vd_keeper.specs.Moves.{after_data, after_put, after_sync, none_of}
+use Rattle.vd_keeper.proofs.NextChunks.{all-none}
 use Rattle.vd_passes.specs.declared.shape.Shape.{Shape}
 use Rattle.vd_passes.specs.declared.pass.Pass.{Pass}
 use Rattle.vd_passes.specs.declared.pass.Phase.TheVariants.{Flushing}
 use Rattle.vd_metadata.specs.Attending.{IsAtStage}
-use Rattle.vd_safety.specs.Mirrors.{bit_of, IsBegunOf, IsStageOf, Mirrors, IsSecured}
+use Rattle.vd_safety.specs.Mirrors.{bit_of, IsBegunOf, IsStageOf, Mirrors, HasSafeMirror}
 use Rattle.vd_safety.proofs.Updates.{some-inj}
 use Rattle.vd_safety.proofs.Flying.{is_bare}
 use Rattle.vd_safety.proofs.Puts.{none-marked}
@@ -38,7 +38,7 @@ use Rattle.vd_safety.proofs.Stepping.{IsFlushing, IsSameDisk, moved, flights-aft
 abbrev pub IsOutAt : Stage → Ticket → Type 0
 IsOutAt st t = ((st ≡ DataFlush) × (t.kind ≡ Flush)) ⊎ ((st ≡ Puts) × (t.kind ≡ Write)) ⊎ ((st ≡ Syncs) × (t.kind ≡ Flush))
 
-out-at : (st : Stage) (k : Keeping) (p : Pass) (t : Ticket) → p.ticket ≡ Some t → IsAtStage st k p → IsOutAt st t
+out-at : (st : Stage) (k : KeeperState) (p : Pass) (t : Ticket) → p.ticket ≡ Some t → IsAtStage st k p → IsOutAt st t
 out-at Rest k p t has is = absurd is
 out-at DataFlush k p t has is = inl (refl, (let same : is.0.0 ≡ t = some-inj (sym is.0.1 ∙ has) in ap (λ (u : Ticket). u.kind) (sym same) ∙ is.0.2))
 out-at Puts k p t has (inl rests) = absurd (let e = rests.0 in cc)
@@ -48,7 +48,7 @@ out-at Syncs k p t has (put, marked, inr out) = inr (inr (refl, (let same : out.
 out-at Seals k p t has is = absurd cc
 out-at Broken k p t has is = absurd is
 
-pub what-is-out : {h : Header} {o : Opening} {shape : Shape} {table : Given} {fresh : List Bool} {k : Keeping} {passes : List Pass} {last : ℕ} (i : ℕ) (p : Pass) (t : Ticket) → IsFlushing h o shape table fresh k (Some i) passes last
+pub what-is-out : {h : Header} {o : Opening} {shape : Shape} {table : TableState} {fresh : List Bool} {k : KeeperState} {passes : List Pass} {last : ℕ} (i : ℕ) (p : Pass) (t : Ticket) → IsFlushing h o shape table fresh k (Some i) passes last
     → slice_get passes i ≡ Some p → p.ticket ≡ Some t → IsOutAt k.stage t
 what-is-out {h} {o} {shape} {table} {fresh} {k} i p t around there has =
     let w = around.attended.working i refl in
@@ -78,7 +78,7 @@ neither-stage st a b c (inl e) not_a not_b is = not_a (sym e ∙ is)
 neither-stage st a b c (inr e) not_a not_b is = not_b (sym e ∙ is)
 
 -- all is logged after the last record
-pub put-all : (k : Keeping) (w : way.Way) → w ≡ ways.Records → after_put k w ≡ Syncs → length (chunks_with k.header k.snapshot) ≤ k.logged
+pub put-all : (k : KeeperState) (w : way.Way) → w ≡ ways.Records → after_put k w ≡ Syncs → length (chunks_with k.header k.snapshot) ≤ k.logged
 put-all k ways.Nothing is e = absurd cc
 put-all k ways.Records is e = elim (cases_Bool (nat_lt k.logged (length (chunks_with k.header k.snapshot)))) [
   | inl less ↦ absurd (let f : cond {A = Stage} true Puts Syncs ≡ Syncs = ap (λ (b : Bool). cond {A = Stage} b Puts Syncs) (sym less) ∙ e in cc)
@@ -87,7 +87,7 @@ put-all k ways.Records is e = elim (cases_Bool (nat_lt k.logged (length (chunks_
 put-all k (ways.Recycle t) is e = absurd cc
 
 -- a recycle puts again where a sector of the map is marked
-pub puts-again : (k : Keeping) (w : way.Way) → is_recycle w ≡ true → after_put k w ≡ Puts → NoneFrom k.marked 0 → ⊥
+pub puts-again : (k : KeeperState) (w : way.Way) → is_recycle w ≡ true → after_put k w ≡ Puts → NoneFrom k.marked 0 → ⊥
 puts-again k ways.Nothing is e empty = absurd cc
 puts-again k ways.Records is e empty = absurd cc
 puts-again k (ways.Recycle t) is e empty =
@@ -99,7 +99,7 @@ puts-again k (ways.Recycle t) is e empty =
     after false true is e = absurd cc
     after false false is e = absurd cc
 
-pub head-syncs : (k : Keeping) (w : way.Way) → k.head ≡ true → is_recycle w ≡ true → after_put k w ≡ Syncs
+pub head-syncs : (k : KeeperState) (w : way.Way) → k.head ≡ true → is_recycle w ≡ true → after_put k w ≡ Syncs
 head-syncs k ways.Nothing head is = absurd cc
 head-syncs k ways.Records head is = absurd cc
 head-syncs k (ways.Recycle t) head is = ap (λ (b : Bool). cond {A = Stage} (not b && not (none_of k.marked)) Puts Syncs) head
@@ -137,7 +137,7 @@ pub syncs-puts : Syncs ≡ Puts → ⊥
 syncs-puts e = absurd cc
 
 -- what a flush was begun with, in its next stage
-pub begun-after : (k : Keeping) (st : Stage) (puts : List Bool) → IsBegunOf k → (st ≡ DataFlush → ⊥) → ((is_recycle k.way ≡ false) ⊎ (k.head ≡ true) → (page : ℕ) → bit_of puts page ≡ false)
+pub begun-after : (k : KeeperState) (st : Stage) (puts : List Bool) → IsBegunOf k → (st ≡ DataFlush → ⊥) → ((is_recycle k.way ≡ false) ⊎ (k.head ≡ true) → (page : ℕ) → bit_of puts page ≡ false)
     → (st ≡ Syncs → k.way ≡ ways.Records → length (chunks_with k.header k.snapshot) ≤ k.logged) → (st ≡ Seals → k.head ≡ false → is_recycle k.way ≡ false) → IsBegunOf (record k { stage = st; put = puts })
 begun-after k st puts was not_data unput all_logged recycled = record {
   surely = was.surely;
@@ -152,14 +152,14 @@ begun-after k st puts was not_data unput all_logged recycled = record {
 
 -- ---- the core after the end of a call
 
-module _ (o : Opening) (table : Given) (fresh : List Bool) (k : Keeping) (passes : List Pass) (history : Numbered) (log : List Entry) (s : State) (i : ℕ) (p : Pass)
+module _ (o : Opening) (table : TableState) (fresh : List Bool) (k : KeeperState) (passes : List Pass) (history : HistoryState) (log : List Entry) (s : State) (i : ℕ) (p : Pass)
     (mirrors : Mirrors o table fresh k (Some i) passes history log s) (there : slice_get passes i ≡ Some p) (flushes : p.phase ≡ Flushing) where
   abbrev pub p' : Pass
   p' = record p { ticket = None }
 
-  pub ended : (k' : Keeping) (e : Entry) (marked : ℕ → Bool) (stage : core.Stage) → KeepsCrashSafety o (state (s.log ++ e ∷ []) s.history s.memory marked s.flights stage) → IsSameDisk k k' → k'.sure ≡ k.sure → k'.next ≡ k.next → k'.way ≡ k.way
+  pub ended : (k' : KeeperState) (e : Entry) (marked : ℕ → Bool) (stage : core.Stage) → KeepsCrashSafety o (state (s.log ++ e ∷ []) s.history s.memory marked s.flights stage) → IsSameDisk k k' → k'.sure ≡ k.sure → k'.next ≡ k.next → k'.way ≡ k.way
       → ((c : ℕ) → c < o.layout.chunks → marked (o.layout.map_at c) ≡ (bit_of k'.marked (c / 32) || bit_of k'.put (c / 32))) → IsStageOf (Some i) o k' (slice_set passes i p') stage
-      → IsSecured o table fresh k' (Some i) (slice_set passes i p') history (log ++ e ∷ [])
+      → HasSafeMirror o table fresh k' (Some i) (slice_set passes i p') history (log ++ e ∷ [])
   ended k' e marked stage after same sure next way marks stage_is =
       let bare : is_bare p.phase ≡ true = ap is_bare flushes in
       let mine = moved o table fresh k (Some i) passes history log s mirrors i p p' there k' (Some i) (log ++ e ∷ []) (s.log ++ e ∷ []) s.memory.index.sure s.memory.index.cursor marked stage bare

@@ -13,21 +13,22 @@ use Rattle.vd_format.specs.Numbers.{u64_at, has_magic}
 use Rattle.vd_format.specs.Records.{ShapeFits, AreFacts, record_magic, record_bytes, is_well_formed, facts_from, count_in}
 use Rattle.vd_format.proofs.Rules.{storage_within, chunk_within, size_within}
 use Rattle.vd_format.proofs.Records.{magic-record, generation-record, record-well_formed, record-facts, facts_fit}
-use Rattle.vd_table.specs.Tables.{Given}
+use Rattle.vd_table.specs.Tables.{TableState}
 use Rattle.vd_image.specs.Log.{At}
 use Rattle.vd_image.specs.Image.{Fact, Record, IsRecord}
 use Rattle.vd_image.specs.Layouts.{layout_of, blocks_of}
 use Rattle.vd_image.specs.Decoders.{format_of, shape_of, fact_in, record_in, record_of}
 use Rattle.vd_image.proofs.Records.{record_is_facts}
-use Rattle.vd_crash.specs.Safe.{Opening}
-use Rattle.vd_crash.specs.Facts.{Memory, RecordNames}
-use Rattle.vd_flushes.specs.Flushing.{Snapshot, IsWantedMapping, IsWantedRecord}
-use Rattle.vd_meta.specs.Keeping.{Keeping}
-use Rattle.vd_meta.specs.Entries.{fact_of, HasStorage, wanted, next_chunks, next_facts, chunks_with}
-use Rattle.vd_meta.specs.Flushes.{IsKeeping}
-use Rattle.vd_meta.proofs.Laws.{next-facts-grammar}
+use Rattle.vd_crash.specs.facts.Safe.{Opening}
+use Rattle.vd_crash.specs.flushes.Flushing.{Snapshot, IsWantedMapping, IsWantedRecord}
+use Rattle.vd_keeper.specs.Keeping.{KeeperState}
+use Rattle.vd_keeper.specs.Entries.{fact_of, HasStorage, wanted_blocks, next_chunks, next_facts, chunks_with}
+use Rattle.vd_keeper.specs.Flushes.{IsKeeping}
+use Rattle.vd_keeper.proofs.Laws.{next-facts-grammar}
 use Rattle.vd_safety.specs.Mirrors.{IsOfHeader}
 use Rattle.vd_safety.proofs.Records.{with_header, by-header, IsMemoryOf, wanted-mapping}
+use Rattle.vd_crash.specs.facts.Memory.{Memory}
+use Rattle.vd_crash.specs.facts.Metadata.{RecordNames}
 
 -- an element of a list that f makes of another's elements is one of them
 module _ {A B : Type 0} (f : A → B) (xs : List A) where
@@ -60,16 +61,16 @@ spelled-record h sector facts valid are is =
     let same : facts_from sector.bytes 24 (count_in sector.bytes) ≡ facts = ap (λ (b : List ℕ). facts_from b 24 (count_in b)) is ∙ record-facts h.generation facts are.most (facts_fit (shape_of h) facts (shape-fits h valid) are) in
     rw (magic, generation, formed, same) refl
 
-module _ (o : Opening) (m : Memory) (snapshot : Snapshot) (table : Given) (k : Keeping) (is : IsMemoryOf m snapshot table k) (kept : IsKeeping k) (has : HasStorage table k) where
+module _ (o : Opening) (m : Memory) (snapshot : Snapshot) (table : TableState) (k : KeeperState) (is : IsMemoryOf m snapshot table k) (kept : IsKeeping k) (has : HasStorage table k) where
   -- the record of the next facts
   abbrev item : Record
   item = record_in k.header (record { version = 2; generation = k.header.generation; well_formed = true; facts = next_facts table k })
 
   -- each fact is that of a chunk
-  fact-of : (place : ℕ) (fact : Fact) → At item.facts place fact → (c : ℕ) × (fact ≡ fact_in k.header (fact_of k.header table (wanted k) c))
+  fact-of : (place : ℕ) (fact : Fact) → At item.facts place fact → (c : ℕ) × (fact ≡ fact_in k.header (fact_of k.header table (wanted_blocks k) c))
   fact-of place fact at =
       let x = mapped-at (fact_in k.header) (next_facts table k) place fact at in
-      let y = mapped-at (fact_of k.header table (wanted k)) (next_chunks k) place x.0 x.1 in
+      let y = mapped-at (fact_of k.header table (wanted_blocks k)) (next_chunks k) place x.0 x.1 in
       (y.0, sym (ap (fact_in k.header) y.2 ∙ x.2))
 
   -- the record is a wanted one
@@ -99,16 +100,16 @@ module _ (o : Opening) (m : Memory) (snapshot : Snapshot) (table : Given) (k : K
       let at : slice_get (next_chunks k) found.0 ≡ Some c = slice_get-get_or (next_chunks k) found.0 c found.1 ∙ ap (λ (x : ℕ). Some x) found.2 in
       record {
         item = item;
-        fact = fact_in k.header (fact_of k.header table (wanted k) c);
+        fact = fact_in k.header (fact_of k.header table (wanted_blocks k) c);
         place = found.0;
         reads = item-reads sector due is;
         current = (refl, refl);
-        stands = at-mapped (fact_in k.header) (next_facts table k) found.0 (fact_of k.header table (wanted k) c) (at-mapped (fact_of k.header table (wanted k)) (next_chunks k) found.0 c at);
+        stands = at-mapped (fact_in k.header) (next_facts table k) found.0 (fact_of k.header table (wanted_blocks k) c) (at-mapped (fact_of k.header table (wanted_blocks k)) (next_chunks k) found.0 c at);
         is = refl;
       }
 
 -- The next record of a flush is one that the laws want, and it names each chunk of its facts.
-module _ (h : Header) (o : Opening) (m : Memory) (snapshot : Snapshot) (table : Given) (k : Keeping) (sector : Sector) (of : IsOfHeader h o k) (is : IsMemoryOf m snapshot table k) (kept : IsKeeping k) (has : HasStorage table k)
+module _ (h : Header) (o : Opening) (m : Memory) (snapshot : Snapshot) (table : TableState) (k : KeeperState) (sector : Sector) (of : IsOfHeader h o k) (is : IsMemoryOf m snapshot table k) (kept : IsKeeping k) (has : HasStorage table k)
     (due : k.logged < length (chunks_with k.header k.snapshot)) (bytes : sector.bytes ≡ record_bytes k.header.generation (next_facts table k)) where
   pub record-wanted : (r : Record) × (o.format.record_of sector ≡ Some r) × IsWantedRecord o m snapshot r
   record-wanted = by-header h o k of (λ p. (r : Record) × (p.format.record_of sector ≡ Some r) × IsWantedRecord p m snapshot r) (item o m snapshot table k is kept has, item-reads o m snapshot table k is kept has sector due bytes, item-wanted o m snapshot table k is kept has due)
@@ -133,5 +134,5 @@ taken-more xs n c (i, inside, is) =
           inr (i - n, omega arith, get_or-take 24 (drop n xs) (i - n) c (omega arith) ∙ get_or-drop n xs (i - n) c ∙ ap (λ (j : ℕ). get_or xs j c) sum ∙ here)
     ]
 
-pub logged-more : (k : Keeping) (c : ℕ) → Contains (take (k.logged + length (next_chunks k)) (chunks_with k.header k.snapshot)) c → Contains (take k.logged (chunks_with k.header k.snapshot)) c ⊎ Contains (next_chunks k) c
+pub logged-more : (k : KeeperState) (c : ℕ) → Contains (take (k.logged + length (next_chunks k)) (chunks_with k.header k.snapshot)) c → Contains (take k.logged (chunks_with k.header k.snapshot)) c ⊎ Contains (next_chunks k) c
 logged-more k c found = taken-more (chunks_with k.header k.snapshot) k.logged c found

@@ -4,18 +4,17 @@ use Rattle.std.specs.Prelude.{⊤, Ok, slice_get}
 use Rattle.vd_law.specs.declared.entry.Sector.{Sector}
 use Rattle.vd_device.specs.Disks.{Disk, IsClean}
 use Rattle.vd_device.specs.Now.{flush_entries}
-use Rattle.vd_reading.specs.Quiet.{AddsNoWrite}
+use Rattle.vd_device.specs.Quiet.{AddsNoWrite}
 use Rattle.vd_image.specs.Image.{HasNoLater, DiskHas}
 use Rattle.vd_image.specs.Layouts.{layout_of}
 use Rattle.vd_image.specs.Decoders.{format_of}
-use Rattle.vd_image.specs.CrashImages.{base_at}
-use Rattle.vd_image.specs.Made.{zero_sector}
 use Rattle.vd_replay.specs.Images.{image_of}
-use Rattle.vd_replay.specs.States.{IsWhole, IsState}
+use Rattle.vd_replay.specs.States.{IsWholeState, IsState}
 use Rattle.vd_replay.specs.declared.state.State.{State}
 use Rattle.vd_safety.proofs.Opening.{IsStart}
 use Rattle.vd_safety.proofs.Clean.{WasClean, AreLeft, AreInside, clean-left}
 use Rattle.vd_safety.proofs.Going.{was-clean, inside-quiet}
+use Rattle.vd_format.specs.Background.{zero_sector, base_at}
 
 -- The store `old` was clean; a flush made `mid` of it, and calls that only read `new`, from which the state was read.
 pub record IsRead (s : State) (old mid new : Disk) (base disk : List Sector) : Type 0 where
@@ -28,7 +27,7 @@ pub record IsRead (s : State) (old mid new : Disk) (base disk : List Sector) : T
   pub reads : AddsNoWrite mid new
   pub left : AreLeft new
   pub many : length new.held ≡ length new.start
-  pub whole : IsWhole s
+  pub whole : IsWholeState s
   pub state : IsState (length new.held) (image_of new.held) s.header s
   pub no_later : HasNoLater (format_of s.header) (layout_of s.header) (image_of new.held) s.header.generation
   pub size : length disk ≡ s.header.size

@@ -8,11 +8,10 @@ use Rattle.vd_law.specs.declared.entry.Sector.{Sector}
 use Rattle.vd_format.specs.Headers.{IsValid}
 use Rattle.vd_format.specs.Layouts.{blocks_of, chunks_of}
 use Rattle.vd_format.proofs.Rules.{block_within}
-use Rattle.vd_table.specs.Tables.{Given, Has}
-use Rattle.vd_image.specs.Image.{Header, Mapping, Record, Image, Format, Layout, Maps, Gives, IsLocalBy, IsLocal, IsMapping, IsCurrent, IsConsistent, DiskHas, background, unmapped}
+use Rattle.vd_table.specs.Tables.{TableState, Has}
+use Rattle.vd_image.specs.Image.{Header, Mapping, Record, Image, Format, Layout, Maps, GivesStorage, IsLocalBy, IsLocal, IsMapping, IsCurrent, IsConsistent, DiskHas, unmapped_sector}
 use Rattle.vd_image.specs.Layouts.{layout_of}
 use Rattle.vd_image.specs.Decoders.{header_of, Entry, mask_has, mapping_in, format_of}
-use Rattle.vd_image.specs.Made.{zero_sector}
 use Rattle.vd_image.proofs.Deciding.{maps_one}
 use Rattle.vd_image.proofs.Decoders.{entry_is_mapping}
 use Rattle.vd_image.proofs.Layouts.{parts_apart}
@@ -21,7 +20,8 @@ use Rattle.vd_replay.specs.States.{IsState}
 use Rattle.vd_replay.specs.declared.state.State.{State}
 use Rattle.vd_replay.proofs.ListLaws.{get_some}
 use Rattle.vd_replay.proofs.StateLaws.{storage_is, storage_from}
-use Rattle.vd_safety.specs.Mirrors.{bit_of, given, storage_of, is_in}
+use Rattle.vd_safety.specs.Mirrors.{bit_of, storage_given, storage_of, is_in}
+use Rattle.vd_format.specs.Background.{zero_sector, background}
 
 -- ---- bits and tables
 
@@ -38,16 +38,16 @@ down_there [] b within h = absurd (omega (arith, within))
 down_there (x ∷ bits) zero within h = ap Some h
 down_there (x ∷ bits) (suc b) within h = down_there bits b (omega arith) h
 
-given_is : (o : Option (Option ℕ)) (p : ℕ) → given o ≡ Some p → o ≡ Some (Some p)
+given_is : (o : Option (Option ℕ)) (p : ℕ) → storage_given o ≡ Some p → o ≡ Some (Some p)
 given_is None p h = absurd cc
 given_is (Some None) p h = absurd cc
 given_is (Some (Some q)) p h = cc
 
-pub stored_has : (table : Given) (c p : ℕ) → storage_of table c ≡ Some p → Has table c p
+pub stored_has : (table : TableState) (c p : ℕ) → storage_of table c ≡ Some p → Has table c p
 stored_has table c p h = given_is (slice_get table.chunks c) p h
 
-pub has_stored : (table : Given) (c p : ℕ) → Has table c p → storage_of table c ≡ Some p
-has_stored table c p h = ap given h
+pub has_stored : (table : TableState) (c p : ℕ) → Has table c p → storage_of table c ≡ Some p
+has_stored table c p h = ap storage_given h
 
 same_entry : (e x : Entry) (o : Option Entry) → o ≡ Some e → o ≡ Some x → e ≡ x
 same_entry e x o is also = cc
@@ -82,7 +82,7 @@ mapped sectors image h s c m is maps =
 
 -- ---- storage
 
-pub has_gives : (sectors : ℕ) (image : Image) (h : Header) (s : State) (c p : ℕ) → IsState sectors image h s → length s.map ≡ chunks_of h → Has s.table c p → Gives (format_of h) (layout_of h) image h.generation c p
+pub has_gives : (sectors : ℕ) (image : Image) (h : Header) (s : State) (c p : ℕ) → IsState sectors image h s → length s.map ≡ chunks_of h → Has s.table c p → GivesStorage (format_of h) (layout_of h) image h.generation c p
 has_gives sectors image h s c p is size has =
     let k = (is.table c p).0 has in
     let within : c < chunks_of h = (let w = slice_get_within s.map c k.0 k.1 in omega arith) in
@@ -90,7 +90,7 @@ has_gives sectors image h s c p is size has =
     let same : k.0 ≡ e.entry = same_entry k.0 e.entry (slice_get s.map c) k.1 e.stands in
     (mapping_in h c e.entry, e.maps, storage_from e.entry.storage p (ap (λ (x : Entry). x.storage) (sym same) ∙ k.2))
 
-pub gives_has : (sectors : ℕ) (image : Image) (h : Header) (s : State) (c p : ℕ) → IsState sectors image h s → Gives (format_of h) (layout_of h) image h.generation c p → Has s.table c p
+pub gives_has : (sectors : ℕ) (image : Image) (h : Header) (s : State) (c p : ℕ) → IsState sectors image h s → GivesStorage (format_of h) (layout_of h) image h.generation c p → Has s.table c p
 gives_has sectors image h s c p is (m, maps, storage) =
     let w = mapped sectors image h s c m is maps in
     (is.table c p).1 (w.entry, w.stands, storage_is w.entry.storage p (ap (λ (x : Mapping). x.storage) w.is ∙ storage))
@@ -164,10 +164,10 @@ disk_past image h base x v reads consistent has past = by_has has.has
     beyond : nat_lt x h.tracked ≡ false
     beyond = le-ltb x h.tracked (let t = (header_valid (image 0) h reads).tracked in omega (arith, t, past))
 
-    by_has : ((p : ℕ) × IsLocalBy has.mapping (x / h.block) p × (v ≡ image ((layout_of h).place p x))) ⊎ (((p : ℕ) → IsLocalBy has.mapping (x / h.block) p → ⊥) × (v ≡ unmapped base zero_sector has.header.tracked has.mapping x)) → v ≡ zero_sector
+    by_has : ((p : ℕ) × IsLocalBy has.mapping (x / h.block) p × (v ≡ image ((layout_of h).place p x))) ⊎ (((p : ℕ) → IsLocalBy has.mapping (x / h.block) p → ⊥) × (v ≡ unmapped_sector base zero_sector has.header.tracked has.mapping x)) → v ≡ zero_sector
     by_has (inl (p, local, at)) = absurd (let k = block_inside h x (header_valid (image 0) h reads) (grammar.blocks (x / h.block) local.1).0 in omega (arith, k, past))
     by_has (inr (none, at)) =
         at
-        ∙ ap (λ (g : Header). unmapped base zero_sector g.tracked has.mapping x) same
+        ∙ ap (λ (g : Header). unmapped_sector base zero_sector g.tracked has.mapping x) same
         ∙ ap (λ (z : Bool). if z then zero_sector else background base zero_sector h.tracked x) (grammar.kind refl)
         ∙ ap (λ (z : Bool). if z then base x else zero_sector) beyond

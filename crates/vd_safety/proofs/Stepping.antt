@@ -3,61 +3,61 @@ use Rattle.std.proofs.Common.{◌≡◌, ℕ, ◌/◌, ◌<◌, ◌≤◌, Bool,
 use Rattle.std.specs.Prelude.{◌||◌}
 use Rattle.vd_law.specs.declared.entry.CallId.{CallId}
 use Rattle.vd_law.specs.Entries.{Entry}
-use Rattle.vd_law.specs.Histories.{Numbered}
+use Rattle.vd_law.specs.Histories.{HistoryState}
 use Rattle.vd_device.specs.declared.ticket.Ticket.{Ticket}
 use Rattle.vd_device.specs.Tickets.{ticket_id}
 use Rattle.vd_format.specs.declared.header.Header.{Header}
-use Rattle.vd_table.specs.Tables.{Given}
-use Rattle.vd_crash.specs.Safe.{Opening}
-use Rattle.vd_crash.specs.Words.{with_index}
-use Rattle.vd_flushes.specs.Stage.{Flight, Idle as NoFlight, HasTicket}
-use Rattle.vd_primitives.specs.Core.{Stage}
-use Rattle.vd_primitives.specs.Primitives.{State, state}
-use Rattle.vd_primitives.specs.Keeping.{KeepsCrashSafety}
-use Rattle.vd_meta.specs.declared.stage.Stage as stages
-use Rattle.vd_meta.specs.declared.stage.Way.TheVariants as ways
-use Rattle.vd_meta.specs.Keeping.{Keeping}
-use Rattle.vd_meta.specs.Entries.{HasStorage}
+use Rattle.vd_table.specs.Tables.{TableState}
+use Rattle.vd_crash.specs.facts.Safe.{Opening}
+use Rattle.vd_crash.specs.facts.Words.{with_index}
+use Rattle.vd_crash.specs.flushes.Stage.{Flight, Idle as NoFlight, HasTicket}
+use Rattle.vd_crash.specs.primitives.Core.{Stage}
+use Rattle.vd_crash.specs.primitives.Primitives.{State, state}
+use Rattle.vd_crash.specs.primitives.Keeping.{KeepsCrashSafety}
+use Rattle.vd_keeper.specs.declared.stage.Stage as stages
+use Rattle.vd_keeper.specs.declared.stage.Way.TheVariants as ways
+use Rattle.vd_keeper.specs.Keeping.{KeeperState}
+use Rattle.vd_keeper.specs.Entries.{HasStorage}
 use Rattle.vd_passes.specs.declared.pass.Pass.{Pass}
 use Rattle.vd_passes.specs.declared.pass.Phase.TheVariants.{Flushing, Issuing}
 use Rattle.vd_passes.specs.declared.shape.Shape.{Shape}
-use Rattle.vd_passes.specs.Passes.{call_of}
-use Rattle.vd_metadata.specs.Attending.{IsAttended}
-use Rattle.vd_safety.specs.Mirrors.{bit_of, AreFlightsOf, IsPendingOf, IsBegunOf, IsStageBy, IsStageOf, Mirrors, IsSecured, IsOfHeader}
+use Rattle.vd_passes.specs.Passes.{call_id}
+use Rattle.vd_metadata.specs.Attending.{KeeperAgrees}
+use Rattle.vd_safety.specs.Mirrors.{bit_of, AreFlightsOf, IsPendingOf, IsBegunOf, IsStageBy, IsStageOf, Mirrors, HasSafeMirror, IsOfHeader}
 use Rattle.vd_safety.proofs.Updates.{some-inj, get-set-same, updated-same}
 use Rattle.vd_safety.proofs.Flying.{is_bare, flying, idle-flight, flight-bare, flights-set, pending-other}
 
 -- What is known of a core beside what it keeps of crashes: the keeper is one of this disk and is attended, each chunk that a flush
 -- writes has storage, and each ticket was given before.
-pub record IsFlushing (h : Header) (o : Opening) (shape : Shape) (table : Given) (fresh : List Bool) (k : Keeping) (flusher : Option ℕ) (passes : List Pass) (last : ℕ) : Type 0 where
+pub record IsFlushing (h : Header) (o : Opening) (shape : Shape) (table : TableState) (fresh : List Bool) (k : KeeperState) (flusher : Option ℕ) (passes : List Pass) (last : ℕ) : Type 0 where
   pub header : IsOfHeader h o k
-  pub attended : IsAttended shape table fresh passes flusher k
+  pub attended : KeeperAgrees shape table fresh passes flusher k
   pub storage : HasStorage table k
   pub numbers : (i : ℕ) (p : Pass) (t : Ticket) → slice_get passes i ≡ Some p → p.ticket ≡ Some t → t.number ≤ last
 
 -- the pass that flushes is the one that is remembered
-pub flusher-is : {h : Header} {o : Opening} {shape : Shape} {table : Given} {fresh : List Bool} {k : Keeping} {flusher : Option ℕ} {passes : List Pass} {last : ℕ} → IsFlushing h o shape table fresh k flusher passes last
+pub flusher-is : {h : Header} {o : Opening} {shape : Shape} {table : TableState} {fresh : List Bool} {k : KeeperState} {flusher : Option ℕ} {passes : List Pass} {last : ℕ} → IsFlushing h o shape table fresh k flusher passes last
     → (i : ℕ) (p : Pass) → slice_get passes i ≡ Some p → p.phase ≡ Flushing → flusher ≡ Some i
 flusher-is around i p there is = (around.attended.flushing i p there).0 is
 
 -- the stage of the flush of this pass
-pub stage-at : (st : stages.Stage) (head : Bool) (ticket : Option Ticket) (i : ℕ) (p : Pass) (o : Opening) (k : Keeping) (flusher : Option ℕ) (passes : List Pass) (s : Stage)
-    → flusher ≡ Some i → slice_get passes i ≡ Some p → k.stage ≡ st → k.head ≡ head → p.ticket ≡ ticket → IsStageOf flusher o k passes s → IsBegunOf k × IsStageBy st head ticket o k (call_of i p) s
+pub stage-at : (st : stages.Stage) (head : Bool) (ticket : Option Ticket) (i : ℕ) (p : Pass) (o : Opening) (k : KeeperState) (flusher : Option ℕ) (passes : List Pass) (s : Stage)
+    → flusher ≡ Some i → slice_get passes i ≡ Some p → k.stage ≡ st → k.head ≡ head → p.ticket ≡ ticket → IsStageOf flusher o k passes s → IsBegunOf k × IsStageBy st head ticket o k (call_id i p) s
 stage-at st head ticket i p o k flusher passes s flush there stage_is head_is ticket_is is =
     let w = subst (λ (f : Option ℕ). IsStageOf f o k passes s) flush is in
     let same : w.1.0 ≡ p = some-inj (sym w.1.1 ∙ there) in
-    let own : IsStageBy k.stage k.head p.ticket o k (call_of i p) s = subst (λ (q : Pass). IsStageBy k.stage k.head q.ticket o k (call_of i q) s) same w.1.2 in
-    let here : IsStageBy st k.head p.ticket o k (call_of i p) s = subst (λ (x : stages.Stage). IsStageBy x k.head p.ticket o k (call_of i p) s) stage_is own in
-    let headed : IsStageBy st head p.ticket o k (call_of i p) s = subst (λ (x : Bool). IsStageBy st x p.ticket o k (call_of i p) s) head_is here in
-    (w.0, subst (λ (x : Option Ticket). IsStageBy st head x o k (call_of i p) s) ticket_is headed)
+    let own : IsStageBy k.stage k.head p.ticket o k (call_id i p) s = subst (λ (q : Pass). IsStageBy k.stage k.head q.ticket o k (call_id i q) s) same w.1.2 in
+    let here : IsStageBy st k.head p.ticket o k (call_id i p) s = subst (λ (x : stages.Stage). IsStageBy x k.head p.ticket o k (call_id i p) s) stage_is own in
+    let headed : IsStageBy st head p.ticket o k (call_id i p) s = subst (λ (x : Bool). IsStageBy st x p.ticket o k (call_id i p) s) head_is here in
+    (w.0, subst (λ (x : Option Ticket). IsStageBy st head x o k (call_id i p) s) ticket_is headed)
 
 -- and so it is of a pass that has this stage
-pub stage-by : (st : stages.Stage) (head : Bool) (ticket : Option Ticket) (i : ℕ) (p p' : Pass) (o : Opening) (k : Keeping) (passes : List Pass) (s : Stage)
-    → slice_get passes i ≡ Some p → k.stage ≡ st → k.head ≡ head → p'.ticket ≡ ticket → IsBegunOf k → IsStageBy st head ticket o k (call_of i p') s → IsStageOf (Some i) o k (slice_set passes i p') s
+pub stage-by : (st : stages.Stage) (head : Bool) (ticket : Option Ticket) (i : ℕ) (p p' : Pass) (o : Opening) (k : KeeperState) (passes : List Pass) (s : Stage)
+    → slice_get passes i ≡ Some p → k.stage ≡ st → k.head ≡ head → p'.ticket ≡ ticket → IsBegunOf k → IsStageBy st head ticket o k (call_id i p') s → IsStageOf (Some i) o k (slice_set passes i p') s
 stage-by st head ticket i p p' o k passes s there stage_is head_is ticket_is begun is =
-    let headed : IsStageBy st head p'.ticket o k (call_of i p') s = subst (λ (x : Option Ticket). IsStageBy st head x o k (call_of i p') s) (sym ticket_is) is in
-    let here : IsStageBy st k.head p'.ticket o k (call_of i p') s = subst (λ (x : Bool). IsStageBy st x p'.ticket o k (call_of i p') s) (sym head_is) headed in
-    (begun, (p', get-set-same passes i p' p there, subst (λ (x : stages.Stage). IsStageBy x k.head p'.ticket o k (call_of i p') s) (sym stage_is) here))
+    let headed : IsStageBy st head p'.ticket o k (call_id i p') s = subst (λ (x : Option Ticket). IsStageBy st head x o k (call_id i p') s) (sym ticket_is) is in
+    let here : IsStageBy st k.head p'.ticket o k (call_id i p') s = subst (λ (x : Bool). IsStageBy st x p'.ticket o k (call_id i p') s) (sym head_is) headed in
+    (begun, (p', get-set-same passes i p' p there, subst (λ (x : stages.Stage). IsStageBy x k.head p'.ticket o k (call_id i p') s) (sym stage_is) here))
 
 -- what is kept, at this stage
 pub keeps-at : (o : Opening) (s : State) (x : Stage) → s.stage ≡ x → KeepsCrashSafety o s → KeepsCrashSafety o (state s.log s.history s.memory s.marked s.flights x)
@@ -75,13 +75,13 @@ ticket-new passes flights last t are numbers above l has =
     absurd (omega arith)
 
 -- the same header and the same blocks
-pub record IsSameDisk (k k' : Keeping) : Type 0 where
+pub record IsSameDisk (k k' : KeeperState) : Type 0 where
   pub header : k'.header ≡ k.header
   pub stale : k'.stale ≡ k.stale
   pub owed : k'.owed ≡ k.owed
 
 -- A step of a flush before its end: the pass has nothing else in flight before and after.
-module _ (o : Opening) (table : Given) (fresh : List Bool) (k : Keeping) (flusher : Option ℕ) (passes : List Pass) (history : Numbered) (log : List Entry) (s : State)
+module _ (o : Opening) (table : TableState) (fresh : List Bool) (k : KeeperState) (flusher : Option ℕ) (passes : List Pass) (history : HistoryState) (log : List Entry) (s : State)
     (was : Mirrors o table fresh k flusher passes history log s) (i : ℕ) (p p' : Pass) (there : slice_get passes i ≡ Some p) where
   not-issuing : is_bare p.phase ≡ true → p.phase ≡ Issuing → ⊥
   not-issuing bare is = (let e : is_bare Issuing ≡ true = ap is_bare (sym is) ∙ bare in cc)
@@ -92,7 +92,7 @@ module _ (o : Opening) (table : Given) (fresh : List Bool) (k : Keeping) (flushe
   pub flights-after : is_bare p.phase ≡ true → is_bare p'.phase ≡ true → AreFlightsOf (slice_set passes i p') s.flights
   flights-after bare bare' = flights-set passes i p p' s.flights s.flights NoFlight there was.flights (updated-same s.flights i NoFlight (idle-flight passes s.flights i p was.flights there bare)) (flight-bare p'.phase p'.fault i p' NoFlight bare' refl)
 
-  pub moved : (k' : Keeping) (flusher' : Option ℕ) (log' store : List Entry) (sure : Bool) (cursor : ℕ) (marked : ℕ → Bool) (stage : Stage) → is_bare p.phase ≡ true
+  pub moved : (k' : KeeperState) (flusher' : Option ℕ) (log' store : List Entry) (sure : Bool) (cursor : ℕ) (marked : ℕ → Bool) (stage : Stage) → is_bare p.phase ≡ true
       → store ≡ log' → IsSameDisk k k' → sure ≡ k'.sure → cursor ≡ k'.next → ((t : ℕ) → k'.way ≡ ways.Recycle t → t ≡ k.header.tracked)
       → ((c : ℕ) → c < o.layout.chunks → marked (o.layout.map_at c) ≡ (bit_of k'.marked (c / 32) || bit_of k'.put (c / 32))) → AreFlightsOf (slice_set passes i p') s.flights → IsStageOf flusher' o k' (slice_set passes i p') stage
       → Mirrors o table fresh k' flusher' (slice_set passes i p') history log' (state store s.history (with_index s.memory sure s.memory.index.tried cursor) marked s.flights stage)
@@ -119,11 +119,11 @@ module _ (o : Opening) (table : Given) (fresh : List Bool) (k : Keeping) (flushe
   }
 
 -- the same by equal parts
-pub secured-as : (o : Opening) (table : Given) (fresh : List Bool) (k a : Keeping) (flusher : Option ℕ) (passes b : List Pass) (history : Numbered) (log c : List Entry) → k ≡ a → passes ≡ b → log ≡ c
-    → IsSecured o table fresh a flusher b history c → IsSecured o table fresh k flusher passes history log
+pub secured-as : (o : Opening) (table : TableState) (fresh : List Bool) (k a : KeeperState) (flusher : Option ℕ) (passes b : List Pass) (history : HistoryState) (log c : List Entry) → k ≡ a → passes ≡ b → log ≡ c
+    → HasSafeMirror o table fresh a flusher b history c → HasSafeMirror o table fresh k flusher passes history log
 secured-as o table fresh k a flusher passes b history log c keeper passes_are log_is is =
-    subst (λ (l : List Entry). IsSecured o table fresh k flusher passes history l) (sym log_is)
-    (subst (λ (ps : List Pass). IsSecured o table fresh k flusher ps history c) (sym passes_are) (subst (λ (x : Keeping). IsSecured o table fresh x flusher b history c) (sym keeper) is))
+    subst (λ (l : List Entry). HasSafeMirror o table fresh k flusher passes history l) (sym log_is)
+    (subst (λ (ps : List Pass). HasSafeMirror o table fresh k flusher ps history c) (sym passes_are) (subst (λ (x : KeeperState). HasSafeMirror o table fresh x flusher b history c) (sym keeper) is))
 
-pub flusher-as : {o : Opening} {table : Given} {fresh : List Bool} {k : Keeping} {passes : List Pass} {history : Numbered} {log : List Entry} (flusher new : Option ℕ) → flusher ≡ new → IsSecured o table fresh k new passes history log → IsSecured o table fresh k flusher passes history log
-flusher-as {o} {table} {fresh} {k} {passes} {history} {log} flusher new is secured = subst (λ (f : Option ℕ). IsSecured o table fresh k f passes history log) (sym is) secured
+pub flusher-as : {o : Opening} {table : TableState} {fresh : List Bool} {k : KeeperState} {passes : List Pass} {history : HistoryState} {log : List Entry} (flusher new : Option ℕ) → flusher ≡ new → HasSafeMirror o table fresh k new passes history log → HasSafeMirror o table fresh k flusher passes history log
+flusher-as {o} {table} {fresh} {k} {passes} {history} {log} flusher new is secured = subst (λ (f : Option ℕ). HasSafeMirror o table fresh k f passes history log) (sym is) secured

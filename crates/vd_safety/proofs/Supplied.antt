@@ -7,29 +7,29 @@ use Rattle.std.proofs.lemmas.Option.{slice_get-get_or}
 use Rattle.vd_law.specs.declared.entry.Sector.{Sector}
 use Rattle.vd_law.specs.declared.entry.CallId.{CallId}
 use Rattle.vd_law.specs.Entries.{Asked, Read, Write, Flush, Entry, Ask, past, nothing}
-use Rattle.vd_law.specs.Histories.{Numbered}
+use Rattle.vd_law.specs.Histories.{HistoryState}
 use Rattle.vd_bits.specs.Blocks.{Blocks, bits_in}
 use Rattle.vd_format.specs.declared.header.Header.{Header}
-use Rattle.vd_table.specs.Tables.{Given}
+use Rattle.vd_table.specs.Tables.{TableState}
 use Rattle.vd_image.specs.Log.{At}
 use Rattle.vd_image.proofs.NthWrites.{list_of-fold}
 use Rattle.vd_image.proofs.AsksBefore.{known_ask}
-use Rattle.vd_crash.specs.Safe.{Opening}
-use Rattle.vd_primitives.specs.Primitives.{State}
-use Rattle.vd_primitives.specs.Keeping.{KeepsCrashSafety}
-use Rattle.vd_primitives.proofs.Using.{kept_local}
-use Rattle.vd_meta.specs.Keeping.{Keeping}
-use Rattle.vd_meta.specs.Entries.{HasStorage, has_block, wanted}
-use Rattle.vd_meta.proofs.Rows.{get_or-either}
-use Rattle.vd_meta.proofs.Chunked.{length-bits_in, get_or-bits_in}
-use Rattle.vd_meta.proofs.Owed.{is-true, there}
+use Rattle.vd_crash.specs.facts.Safe.{Opening}
+use Rattle.vd_crash.specs.primitives.Primitives.{State}
+use Rattle.vd_crash.specs.primitives.Keeping.{KeepsCrashSafety}
+use Rattle.vd_crash.proofs.primitives.Using.{kept_local}
+use Rattle.vd_keeper.specs.Keeping.{KeeperState}
+use Rattle.vd_keeper.specs.Entries.{HasStorage, has_block, wanted_blocks}
+use Rattle.vd_keeper.proofs.Rows.{get_or-either}
+use Rattle.vd_keeper.proofs.Chunked.{length-bits_in, get_or-bits_in}
+use Rattle.vd_keeper.proofs.Owed.{is-true, there}
 use Rattle.vd_passes.specs.declared.shape.Shape.{Shape}
 use Rattle.vd_passes.specs.declared.pass.Pass.{Pass}
 use Rattle.vd_passes.specs.declared.pass.Phase.TheVariants.{Idle, Asked as HasAsked}
-use Rattle.vd_passes.specs.Passes.{StandsAs, IsRequestOf, call_of}
+use Rattle.vd_passes.specs.Passes.{IsAsHistorySays, IsRequestOf, call_id}
 use Rattle.vd_passes.specs.Standings.{standing}
-use Rattle.vd_metadata.specs.Attending.{IsAttended}
-use Rattle.vd_safety.specs.Mirrors.{bit_of, given, IsOfHeader, IsSecured}
+use Rattle.vd_metadata.specs.Attending.{KeeperAgrees}
+use Rattle.vd_safety.specs.Mirrors.{bit_of, storage_given, IsOfHeader, HasSafeMirror}
 use Rattle.vd_safety.proofs.Records.{by-header}
 use Rattle.vd_safety.proofs.Surroundings.{Surroundings}
 use Rattle.vd_safety.proofs.Stepping.{IsFlushing}
@@ -57,14 +57,14 @@ kept-within : (o : Opening) (s : State) → KeepsCrashSafety o s → (c p : ℕ)
 unfolding KeepsCrashSafety
 kept-within o s keeps = keeps.core.holds.facts.storage_one_to_one.within
 
-given-there : (place : Option (Option ℕ)) (p : ℕ) → given place ≡ Some p → place ≡ Some (Some p)
+given-there : (place : Option (Option ℕ)) (p : ℕ) → storage_given place ≡ Some p → place ≡ Some (Some p)
 given-there (Some (Some q)) p is = cc
 given-there (Some None) p is = absurd cc
 given-there None p is = absurd cc
 
-module _ {h : Header} {o : Opening} {shape : Shape} {table : Given} {fresh : List Bool} {k : Keeping} {flusher : Option ℕ} {passes : List Pass} {history : Numbered} {log : List Entry} where
+module _ {h : Header} {o : Opening} {shape : Shape} {table : TableState} {fresh : List Bool} {k : KeeperState} {flusher : Option ℕ} {passes : List Pass} {history : HistoryState} {log : List Entry} where
   -- each chunk that a flush writes has storage
-  pub storage-kept : IsOfHeader h o k → IsAttended shape table fresh passes flusher k → IsSecured o table fresh k flusher passes history log → HasStorage table k
+  pub storage-kept : IsOfHeader h o k → KeeperAgrees shape table fresh passes flusher k → HasSafeMirror o table fresh k flusher passes history log → HasStorage table k
   storage-kept of attended was =
       let s : State = was.state in
       let mirrors = was.mirrors in
@@ -72,7 +72,7 @@ module _ {h : Header} {o : Opening} {shape : Shape} {table : Given} {fresh : Lis
         size = attended.chunks;
         storage = attended.storage;
         each = λ chunk is.
-            let found = block-of k.header (wanted k) chunk is in
+            let found = block-of k.header (wanted_blocks k) chunk is in
             let b : ℕ = found.0 in
             let logged : (s.memory.index.stale b ≡ true) ⊎ (s.memory.owed b ≡ true) = elim (or_cases (bit_of k.stale b) (bit_of k.snapshot b) (sym (get_or-either k.stale k.snapshot b) ∙ found.1)) [
               | inl stale ↦ inl (mirrors.stale b ∙ stale)
@@ -87,7 +87,7 @@ module _ {h : Header} {o : Opening} {shape : Shape} {table : Given} {fresh : Lis
       }
 
   -- the side facts of a flush
-  pub flushing-of : {base : List Sector} {last : ℕ} → Surroundings h o shape table fresh k flusher passes history.log.entries base last → IsSecured o table fresh k flusher passes history log → IsFlushing h o shape table fresh k flusher passes last
+  pub flushing-of : {base : List Sector} {last : ℕ} → Surroundings h o shape table fresh k flusher passes history.log.entries base last → HasSafeMirror o table fresh k flusher passes history log → IsFlushing h o shape table fresh k flusher passes last
   flushing-of around was = record { header = around.header; attended = around.attended; storage = storage-kept around.header around.attended was; numbers = around.numbers }
 
 -- ---- the ask of a flush
@@ -98,14 +98,14 @@ flush-request p (Write first content) is flush = absurd (let e = is.3 in cc)
 flush-request p Flush is flush = refl
 
 -- it stands in the history
-pub flush-asked : {shape : Shape} {fresh : List Bool} {places : ℕ → Option ℕ} (entries : List Entry) (i : ℕ) (p : Pass) → StandsAs shape fresh places (standing entries i) p → p.phase ≡ HasAsked → p.flush ≡ true
-    → (a : ℕ) × At entries a (Ask (call_of i p) Flush)
+pub flush-asked : {shape : Shape} {fresh : List Bool} {places : ℕ → Option ℕ} (entries : List Entry) (i : ℕ) (p : Pass) → IsAsHistorySays shape fresh places (standing entries i) p → p.phase ≡ HasAsked → p.flush ≡ true
+    → (a : ℕ) × At entries a (Ask (call_id i p) Flush)
 unfolding standing
 flush-asked entries i p stands asked flush =
     let busy = stands.busy (λ idle. (let e = sym asked ∙ idle in other e)) in
     let request : busy.0 ≡ Flush = flush-request p busy.0 busy.2 flush in
     let found = known_ask (past entries) (record { pass = i; call = (standing entries i).call }) Flush (busy.1 ∙ ap (λ (r : Asked). Some r) request) in
-    let call : record { pass = i; call = (standing entries i).call } ≡ call_of i p = ap (λ (c : ℕ). record { pass = i; call = c }) stands.call in
+    let call : record { pass = i; call = (standing entries i).call } ≡ call_id i p = ap (λ (c : ℕ). record { pass = i; call = c }) stands.call in
     (found.0, subst (λ (c : CallId). At entries found.0 (Ask c Flush)) call (subst (λ (es : List Entry). At es found.0 (Ask (record { pass = i; call = (standing entries i).call }) Flush)) (list_of-fold entries nothing) found.1.0))
   where
     other : HasAsked ≡ Idle → ⊥

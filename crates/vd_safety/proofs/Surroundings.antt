@@ -7,44 +7,43 @@ use Rattle.vd_device.specs.declared.ticket.Ticket.{Ticket}
 use Rattle.vd_device.specs.Disks.{Disk}
 use Rattle.vd_format.specs.declared.header.Header.{Header}
 use Rattle.vd_format.specs.Layouts.{blocks_of, storage_start}
-use Rattle.vd_table.specs.Tables.{Given}
-use Rattle.vd_reading.specs.Background.{background, zero_sector}
+use Rattle.vd_table.specs.Tables.{TableState}
 use Rattle.vd_image.specs.Image.{Geometry}
-use Rattle.vd_image.specs.CrashImages.{base_at}
-use Rattle.vd_crash.specs.Safe.{Opening}
-use Rattle.vd_meta.specs.Keeping.{Keeping}
-use Rattle.vd_metadata.specs.Attending.{IsAttended}
+use Rattle.vd_crash.specs.facts.Safe.{Opening}
+use Rattle.vd_keeper.specs.Keeping.{KeeperState}
+use Rattle.vd_metadata.specs.Attending.{KeeperAgrees}
 use Rattle.vd_passes.specs.declared.shape.Shape.{Shape}
 use Rattle.vd_passes.specs.declared.pass.Pass.{Pass}
 use Rattle.vd_passes.specs.declared.pass.Phase.TheVariants.{Filled, Flushing}
 use Rattle.vd_passes.specs.Laying.{IsRest}
 use Rattle.vd_passes.specs.Standings.{standing}
 use Rattle.vd_passes.specs.Places.{place_of}
-use Rattle.vd_passes.specs.Passes.{StandsAs}
-use Rattle.vd_passes.specs.Coherent.{AreApart, IsCoherent, IsFaithful}
+use Rattle.vd_passes.specs.Passes.{IsAsHistorySays}
+use Rattle.vd_passes.specs.Coherent.{ArePassesApart, IsCoherent, IsFaithful}
 use Rattle.vd_safety.specs.Mirrors.{IsOfHeader}
+use Rattle.vd_format.specs.Background.{zero_sector, background_of, base_at}
 
 -- The core's shape is that of the header, its passes stand where the history says, each ticket in flight on the store was given
 -- before, and what a pass has filled is the base's content.
-pub record Surroundings (h : Header) (o : Opening) (shape : Shape) (table : Given) (fresh : List Bool) (k : Keeping) (flusher : Option ℕ) (passes : List Pass) (history : List Entry) (base : List Sector) (last : ℕ) : Type 0 where
+pub record Surroundings (h : Header) (o : Opening) (shape : Shape) (table : TableState) (fresh : List Bool) (k : KeeperState) (flusher : Option ℕ) (passes : List Pass) (history : List Entry) (base : List Sector) (last : ℕ) : Type 0 where
   pub header : IsOfHeader h o k
   pub base_is : (s : ℕ) → o.base s ≡ base_at zero_sector base s
-  pub attended : IsAttended shape table fresh passes flusher k
+  pub attended : KeeperAgrees shape table fresh passes flusher k
   pub some_block : 0 < shape.block
   pub some_chunk : 0 < shape.chunk
   pub size : length fresh ≡ shape.blocks
   pub regular : IsRegular (shape.block * shape.blocks) history
-  pub each : (i : ℕ) (p : Pass) → slice_get passes i ≡ Some p → StandsAs shape fresh (place_of shape table.chunks) (standing history i) p
-  pub apart : (i j : ℕ) (p q : Pass) → slice_get passes i ≡ Some p → slice_get passes j ≡ Some q → i ≢ j → AreApart p q
+  pub each : (i : ℕ) (p : Pass) → slice_get passes i ≡ Some p → IsAsHistorySays shape fresh (place_of shape table.chunks) (standing history i) p
+  pub apart : (i j : ℕ) (p q : Pass) → slice_get passes i ≡ Some p → slice_get passes j ≡ Some q → i ≢ j → ArePassesApart p q
   pub numbers : (i : ℕ) (p : Pass) (t : Ticket) → slice_get passes i ≡ Some p → p.ticket ≡ Some t → t.number ≤ last
-  pub buffers : (i : ℕ) (p : Pass) → slice_get passes i ≡ Some p → p.phase ≡ Filled → IsRest (background base shape.tracked) (shape.block * p.block) p.buffer
+  pub buffers : (i : ℕ) (p : Pass) → slice_get passes i ≡ Some p → p.phase ≡ Filled → IsRest (background_of base shape.tracked) (shape.block * p.block) p.buffer
 
 -- They are of what a core keeps where its devices tell.
-pub surroundings-of : {h : Header} {o : Opening} {shape : Shape} {table : Given} {fresh : List Bool} {k : Keeping} {flusher : Option ℕ} {passes : List Pass} {history : List Entry}
-    {sectors depth base_sectors base_depth : ℕ} {flies base_flies : List Ticket → Type 0} {start base : List Sector} {disk : Disk} {last : ℕ}
-    → IsOfHeader h o k → ((s : ℕ) → o.base s ≡ base_at zero_sector base s) → IsAttended shape table fresh passes flusher k
-    → IsCoherent shape fresh (place_of shape table.chunks) passes history sectors depth base_sectors base_depth flies base_flies
-    → IsFaithful start (background base shape.tracked) shape fresh (place_of shape table.chunks) passes history disk last
+pub surroundings-of : {h : Header} {o : Opening} {shape : Shape} {table : TableState} {fresh : List Bool} {k : KeeperState} {flusher : Option ℕ} {passes : List Pass} {history : List Entry}
+    {sectors depth base_sectors base_depth : ℕ} {flight base_flight : List Ticket → Type 0} {start base : List Sector} {disk : Disk} {last : ℕ}
+    → IsOfHeader h o k → ((s : ℕ) → o.base s ≡ base_at zero_sector base s) → KeeperAgrees shape table fresh passes flusher k
+    → IsCoherent shape fresh (place_of shape table.chunks) passes history sectors depth base_sectors base_depth flight base_flight
+    → IsFaithful start (background_of base shape.tracked) shape fresh (place_of shape table.chunks) passes history disk last
     → Surroundings h o shape table fresh k flusher passes history base last
 surroundings-of header base_is attended coherent faithful = record {
   header = header;
@@ -64,7 +63,7 @@ surroundings-of header base_is attended coherent faithful = record {
 abbrev bare : Geometry → Header
 bare g = record { version = g.version; block = g.block; chunk = g.chunk; storage = g.storage; slots = g.slots; size = g.size; tracked = 0; generation = 0 }
 
-module _ {h : Header} {o : Opening} {shape : Shape} {table : Given} {fresh : List Bool} {k : Keeping} {flusher : Option ℕ} {passes : List Pass} {history : List Entry} {base : List Sector} {last : ℕ}
+module _ {h : Header} {o : Opening} {shape : Shape} {table : TableState} {fresh : List Bool} {k : KeeperState} {flusher : Option ℕ} {passes : List Pass} {history : List Entry} {base : List Sector} {last : ℕ}
     (around : Surroundings h o shape table fresh k flusher passes history base last) where
   -- the shape's numbers are the header's
   pub block-same : shape.block ≡ h.block

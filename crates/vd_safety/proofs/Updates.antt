@@ -5,8 +5,8 @@ use Rattle.std.proofs.lemmas.Bool.{cases_eq, eq-eqb, ne_eqb}
 use Rattle.std.proofs.lemmas.Option.{get_or_from_slice_get, slice_get-get_or}
 use Rattle.std.proofs.lemmas.List.{get_or-set_other, get_or-set_same}
 use Rattle.vd_law.specs.Entries.{Entry}
-use Rattle.vd_crash.specs.Safe.{NumberedEntry, numbered}
-use Rattle.vd_crash.specs.Words.{IsUpdated}
+use Rattle.vd_crash.specs.facts.Safe.{NumberedEntry, numbered}
+use Rattle.vd_crash.specs.facts.Words.{IsUpdated}
 use Rattle.vd_safety.specs.Mirrors.{bit_of}
 
 pub some-inj : {X : Type 0} {x y : X} → Some x ≡ Some y → x ≡ y

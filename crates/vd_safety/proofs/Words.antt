@@ -13,33 +13,30 @@ use Rattle.vd_law.specs.declared.entry.Answer.TheVariants as answers
 use Rattle.vd_law.specs.Entries.{Asked, Flush, Entry, Ask, Issue, Done, Broke, Seen, Reply, past}
 use Rattle.vd_law.specs.Calls.{progress}
 use Rattle.vd_law.specs.Contents.{sector_in, is_flushed, may}
-use Rattle.vd_law.specs.Histories.{Numbered, IsRising, last_number, up_to, entries_up_to}
+use Rattle.vd_law.specs.Histories.{HistoryState, IsRising, last_number, count_up_to, entries_up_to}
 use Rattle.vd_law.proofs.Appending.{may-issue, may-ask, may-done, may-broke, may-seen, may-reply}
 use Rattle.vd_law.proofs.Numbers.{rising-push, last_number-push, entries-later}
 use Rattle.vd_format.specs.declared.header.Header.{Header}
-use Rattle.vd_table.specs.Tables.{Given}
-use Rattle.vd_reading.specs.Background.{zero_sector as read_zero}
+use Rattle.vd_table.specs.Tables.{TableState}
 use Rattle.vd_image.specs.Log.{Fine, At, Writes}
 use Rattle.vd_image.specs.Image.{Format, Layout}
 use Rattle.vd_image.specs.Layouts.{layout_of}
 use Rattle.vd_image.specs.Decoders.{Entry as MapEntry, format_of}
-use Rattle.vd_image.specs.CrashImages.{base_at}
-use Rattle.vd_image.specs.Made.{zero_sector}
 use Rattle.vd_image.proofs.CrashImages.{at_inside}
 use Rattle.vd_image.proofs.Logs.{at_prefix, length_push}
 use Rattle.vd_image.proofs.Exact.{at_contains, contains_at}
-use Rattle.vd_crash.specs.Safe.{NumberedEntry, Opening, numbered, IsSafe}
-use Rattle.vd_crash.specs.Facts.{Numbered as StandsAs, AreNumbers}
-use Rattle.vd_crash.specs.CrashSafe.{IsCrashSafe, IsRunOf}
-use Rattle.vd_crash.proofs.CrashSafe.{crash_safe}
-use Rattle.vd_crash.proofs.Moments.{safe_late, safe_other}
-use Rattle.vd_primitives.specs.Primitives.{State}
-use Rattle.vd_primitives.specs.Keeping.{KeepsCrashSafety}
-use Rattle.vd_primitives.proofs.Keeping.{kept_is_safe}
-use Rattle.vd_meta.specs.Keeping.{Keeping}
+use Rattle.vd_crash.specs.facts.Safe.{NumberedEntry, Opening, numbered, IsSafe}
+use Rattle.vd_crash.specs.facts.Facts.{HasEntry as StandsAs, AreNumbers}
+use Rattle.vd_crash.specs.facts.CrashSafe.{IsCrashSafe, IsRunOf}
+use Rattle.vd_crash.proofs.facts.CrashSafe.{crash_safe}
+use Rattle.vd_crash.proofs.facts.Moments.{safe_late, safe_other}
+use Rattle.vd_crash.specs.primitives.Primitives.{State}
+use Rattle.vd_crash.specs.primitives.Keeping.{KeepsCrashSafety}
+use Rattle.vd_crash.proofs.primitives.Keeping.{kept_is_safe}
+use Rattle.vd_keeper.specs.Keeping.{KeeperState}
 use Rattle.vd_passes.specs.declared.pass.Pass.{Pass}
-use Rattle.vd_safety.specs.Mirrors.{opening_for, IsSecured}
-use Rattle.vd_safety.proofs.Opening.{zeros-same}
+use Rattle.vd_safety.specs.Mirrors.{opening_for, HasSafeMirror}
+use Rattle.vd_format.specs.Background.{base_at, zero_sector}
 
 -- ---- the numbers rise
 
@@ -56,13 +53,13 @@ kept_numbers : (o : Opening) (s : State) → KeepsCrashSafety o s → AreNumbers
 unfolding KeepsCrashSafety
 kept_numbers o s kept = kept.core.holds.facts.numbers
 
-pub secured-rising : (o : Opening) (table : Given) (fresh : List Bool) (k : Keeping) (flusher : Option ℕ) (passes : List Pass) (history : Numbered) (log : List Entry) → IsSecured o table fresh k flusher passes history log → IsRising o.opened history.numbers
+pub secured-rising : (o : Opening) (table : TableState) (fresh : List Bool) (k : KeeperState) (flusher : Option ℕ) (passes : List Pass) (history : HistoryState) (log : List Entry) → HasSafeMirror o table fresh k flusher passes history log → IsRising o.opened history.numbers
 secured-rising o table fresh k flusher passes history log secured =
     let numbers : AreNumbers o.opened secured.state.log secured.state.memory.discards.drops (numbered history.log.entries history.numbers) = subst (λ (h : List NumberedEntry). AreNumbers o.opened secured.state.log secured.state.memory.discards.drops h) secured.mirrors.history_is (kept_numbers o secured.state secured.keeps) in
     rising_from history.log.entries history.numbers o.opened secured.mirrors.many numbers.since_opening numbers.never_fall
 
 -- no number is above the log's length
-pub secured-numbers : (o : Opening) (table : Given) (fresh : List Bool) (k : Keeping) (flusher : Option ℕ) (passes : List Pass) (history : Numbered) (log : List Entry) → IsSecured o table fresh k flusher passes history log
+pub secured-numbers : (o : Opening) (table : TableState) (fresh : List Bool) (k : KeeperState) (flusher : Option ℕ) (passes : List Pass) (history : HistoryState) (log : List Entry) → HasSafeMirror o table fresh k flusher passes history log
     → (j n : ℕ) (e : Entry) → StandsAs (numbered history.log.entries history.numbers) j n e → n ≤ length log
 secured-numbers o table fresh k flusher passes history log secured =
     let numbers : AreNumbers o.opened log secured.state.memory.discards.drops (numbered history.log.entries history.numbers) = subst (λ (l : List Entry). AreNumbers o.opened l secured.state.memory.discards.drops (numbered history.log.entries history.numbers)) secured.mirrors.log_is
@@ -72,28 +69,27 @@ secured-numbers o table fresh k flusher passes history log secured =
 -- ---- safety
 
 -- in the laws' own words
-pub secured-is-safe : (o : Opening) (table : Given) (fresh : List Bool) (k : Keeping) (flusher : Option ℕ) (passes : List Pass) (history : Numbered) (log : List Entry) → IsSecured o table fresh k flusher passes history log
+pub secured-is-safe : (o : Opening) (table : TableState) (fresh : List Bool) (k : KeeperState) (flusher : Option ℕ) (passes : List Pass) (history : HistoryState) (log : List Entry) → HasSafeMirror o table fresh k flusher passes history log
     → IsSafe o log (numbered history.log.entries history.numbers)
 secured-is-safe o table fresh k flusher passes history log secured =
     subst (λ (l : List Entry). IsSafe o l (numbered history.log.entries history.numbers)) secured.mirrors.log_is
     (subst (λ (h : List NumberedEntry). IsSafe o secured.state.log h) secured.mirrors.history_is (kept_is_safe o secured.state secured.keeps))
 
 -- A core that is secured is crash safe.
-pub secured-safe : (h : Header) (entries : List MapEntry) (before : List Sector) (held : ℕ → Sector) (base disk : List Sector) (opened : ℕ) (table : Given) (fresh : List Bool) (k : Keeping) (flusher : Option ℕ) (passes : List Pass) (history : Numbered) (log : List Entry)
-    → IsSecured (opening_for h entries before held base disk opened) table fresh k flusher passes history log → opened ≡ history.opened → length disk ≡ h.size → ((i a : ℕ) (v : Sector) → Writes log i a v → a < length before)
+pub secured-safe : (h : Header) (entries : List MapEntry) (before : List Sector) (held : ℕ → Sector) (base disk : List Sector) (opened : ℕ) (table : TableState) (fresh : List Bool) (k : KeeperState) (flusher : Option ℕ) (passes : List Pass) (history : HistoryState) (log : List Entry)
+    → HasSafeMirror (opening_for h entries before held base disk opened) table fresh k flusher passes history log → opened ≡ history.opened → length disk ≡ h.size → ((i a : ℕ) (v : Sector) → Writes log i a v → a < length before)
     → IsCrashSafe (format_of h) (layout_of h) (base_at zero_sector base) zero_sector before log disk history
 secured-safe h entries before held base disk opened table fresh k flusher passes history log secured same size inside =
     let o : Opening = opening_for h entries before held base disk opened in
     let run : IsRunOf (opening_for h entries before held base disk opened) before log disk history = record {
       opened = same;
       before = λ s. refl;
-      guest_disk = λ s within. at_inside read_zero disk s (omega (arith, size, within));
+      guest_disk = λ s within. at_inside zero_sector disk s (omega (arith, size, within));
       inside = inside;
       each = secured.mirrors.many;
       rising = subst (λ (n : ℕ). IsRising n history.numbers) same (secured-rising (opening_for h entries before held base disk opened) table fresh k flusher passes history log secured);
     } in
-    subst (λ (z : Sector). IsCrashSafe (format_of h) (layout_of h) (base_at z base) z before log disk history) (sym zeros-same)
-    (crash_safe (opening_for h entries before held base disk opened) before log disk history run (secured-is-safe (opening_for h entries before held base disk opened) table fresh k flusher passes history log secured))
+    crash_safe (opening_for h entries before held base disk opened) before log disk history run (secured-is-safe (opening_for h entries before held base disk opened) table fresh k flusher passes history log secured)
 
 -- ---- a store that has stopped
 
@@ -137,16 +133,16 @@ above_from from [] rising = omega arith
 above_from from (n ∷ ns) rising = let k = above_from n ns rising.1 in omega (arith, k, rising.0)
 
 -- all are counted where the last is
-all_counted : (k from : ℕ) (ns : List ℕ) → IsRising from ns → last_number from ns ≤ k → up_to k ns ≡ length ns
+all_counted : (k from : ℕ) (ns : List ℕ) → IsRising from ns → last_number from ns ≤ k → count_up_to k ns ≡ length ns
 all_counted k from [] rising most = refl
 all_counted k from (n ∷ ns) rising most =
     let counted : ℕ → ℕ = λ m. cond (nat_le m k) 1 0 in
     let low = above_from n ns rising.1 in
     let rest = all_counted k n ns rising.1 most in
-    sum_by-append counted (n ∷ []) ns ∙ ap (λ (b : Bool). (0 + cond b 1 0) + up_to k ns) (le-leb n k (omega (arith, low, most))) ∙ omega (arith, rest)
+    sum_by-append counted (n ∷ []) ns ∙ ap (λ (b : Bool). (0 + cond b 1 0) + count_up_to k ns) (le-leb n k (omega (arith, low, most))) ∙ omega (arith, rest)
 
 -- One more such entry of the history: what is crash safe stays so.
-pub stopped-crash-safe : (f : Format) (l : Layout) (base : ℕ → Sector) (zeros : Sector) (start : List Sector) (log : List Entry) (disk : List Sector) (history history' : Numbered) (e : Entry) (n : ℕ)
+pub stopped-crash-safe : (f : Format) (l : Layout) (base : ℕ → Sector) (zeros : Sector) (start : List Sector) (log : List Entry) (disk : List Sector) (history history' : HistoryState) (e : Entry) (n : ℕ)
     → IsHarmless log e n → history'.log.entries ≡ history.log.entries ++ e ∷ [] → history'.numbers ≡ history.numbers ++ n ∷ [] → history'.opened ≡ history.opened
     → length history.numbers ≡ length history.log.entries → IsRising history.opened history.numbers → last_number history.opened history.numbers ≤ n
     → IsCrashSafe f l base zeros start log disk history → IsCrashSafe f l base zeros start log disk history'
@@ -156,13 +152,13 @@ stopped-crash-safe f l base zeros start log disk history history' e n harmless e
 }
   where
     -- all entries up to a moment, where the last is among them
-    all_up_to : (k from : ℕ) (ns : List ℕ) (es : List Entry) → length ns ≡ length es → IsRising from ns → last_number from ns ≤ k → take (up_to k ns) es ≡ es
-    all_up_to k from ns es many rises most = take_all (up_to k ns) es (let c = all_counted k from ns rises most in omega (arith, c, many))
+    all_up_to : (k from : ℕ) (ns : List ℕ) (es : List Entry) → length ns ≡ length es → IsRising from ns → last_number from ns ≤ k → take (count_up_to k ns) es ≡ es
+    all_up_to k from ns es many rises most = take_all (count_up_to k ns) es (let c = all_counted k from ns rises most in omega (arith, c, many))
 
-    up_to_new : (k : ℕ) → entries_up_to k history' ≡ take (up_to k (history.numbers ++ n ∷ [])) (history.log.entries ++ e ∷ [])
-    up_to_new k = ap (λ (ns : List ℕ). take (up_to k ns) history'.log.entries) numbers ∙ ap (λ (es : List Entry). take (up_to k (history.numbers ++ n ∷ [])) es) entries
+    up_to_new : (k : ℕ) → entries_up_to k history' ≡ take (count_up_to k (history.numbers ++ n ∷ [])) (history.log.entries ++ e ∷ [])
+    up_to_new k = ap (λ (ns : List ℕ). take (count_up_to k ns) history'.log.entries) numbers ∙ ap (λ (es : List Entry). take (count_up_to k (history.numbers ++ n ∷ [])) es) entries
 
-    by_kind : (k : ℕ) → k ≤ length log → n ≤ k → IsHarmless log e n → (s : ℕ) (v : Sector) → Contains (may disk (entries_up_to k history) s) v → Contains (may disk (take (up_to k (history.numbers ++ n ∷ [])) (history.log.entries ++ e ∷ [])) s) v
+    by_kind : (k : ℕ) → k ≤ length log → n ≤ k → IsHarmless log e n → (s : ℕ) (v : Sector) → Contains (may disk (entries_up_to k history) s) v → Contains (may disk (take (count_up_to k (history.numbers ++ n ∷ [])) (history.log.entries ++ e ∷ [])) s) v
     by_kind k within less (inl late) s v has = absurd (omega (arith, within, less, late))
     by_kind k within less (inr other) s v has =
         let last = last_number-push history.opened history.numbers n in

@@ -8,13 +8,13 @@ use Rattle.vd_law.specs.Entries.{Issue}
 use Rattle.vd_format.specs.declared.header.Header.{Header}
 use Rattle.vd_format.specs.Layouts.{storage_start}
 use Rattle.vd_image.specs.Layouts.{layout_of}
-use Rattle.vd_crash.specs.Safe.{Opening}
-use Rattle.vd_crash.specs.Words.{IsSameWrite, IsWholeWrite}
-use Rattle.vd_crash.specs.Facts.{Discards}
+use Rattle.vd_crash.specs.facts.Safe.{Opening}
+use Rattle.vd_crash.specs.facts.Words.{IsSameWrite, IsWholeWrite}
 use Rattle.std.specs.Prelude.{if◌then◌else◌}
-use Rattle.vd_passes.specs.Laying.{laid}
+use Rattle.vd_passes.specs.Laying.{content_with_part}
 use Rattle.vd_passes.specs.Places.{IsIn}
 use Rattle.vd_safety.proofs.Places.{in-block, of-block, place-is}
+use Rattle.vd_crash.specs.facts.Memory.{Discards}
 
 get-append : {X : Type 0} (xs ys : List X) (k : ℕ) (c : X) → slice_get (xs ++ ys) k ≡ Some c → ((k < length xs) × (slice_get xs k ≡ Some c)) ⊎ ((length xs ≤ k) × (slice_get ys (k - length xs) ≡ Some c))
 get-append [] ys k c h = inr (omega arith, (let e : k - 0 ≡ k = omega arith in rw e h))
@@ -45,18 +45,18 @@ length-front k part content fits =
     omega arith
 
 -- a content of which a part is another is as long as it was
-pub length-laid : (k : ℕ) (part content : List Sector) → k + length part ≤ length content → length (laid k part content) ≡ length content
+pub length-laid : (k : ℕ) (part content : List Sector) → k + length part ≤ length content → length (content_with_part k part content) ≡ length content
 length-laid k part content fits =
     let a = length-front k part content (omega arith) in
     let b : length (drop (k + length part) content) ≡ length content - (k + length part) = length-drop (k + length part) content in
-    let c : length (laid k part content) ≡ length (take k content ++ part) + length (drop (k + length part) content) = length-append (take k content ++ part) (drop (k + length part) content) in
+    let c : length (content_with_part k part content) ≡ length (take k content ++ part) + length (drop (k + length part) content) = length-append (take k content ++ part) (drop (k + length part) content) in
     omega arith
 
 -- A sector of a block that is written whole: the guest's, where the piece, which begins at place k of the block, has it; or the other.
 abbrev pub Comes : (k : ℕ) (part : List Sector) (other : ℕ → Sector → Type 0) (n : ℕ) (v : Sector) → Type 0
 Comes k part other n v = ((k ≤ n) × (slice_get part (n - k) ≡ Some v)) ⊎ (((n < k) ⊎ (k + length part ≤ n)) × other n v)
 
-pub comes-laid : (k : ℕ) (part content : List Sector) → k + length part ≤ length content → (n : ℕ) (v : Sector) → slice_get (laid k part content) n ≡ Some v → Comes k part (λ m u. slice_get content m ≡ Some u) n v
+pub comes-laid : (k : ℕ) (part content : List Sector) → k + length part ≤ length content → (n : ℕ) (v : Sector) → slice_get (content_with_part k part content) n ≡ Some v → Comes k part (λ m u. slice_get content m ≡ Some u) n v
 comes-laid k part content fits n v h =
     let t : length (take k content) ≡ k = length-take-le k content (omega arith) in
     let u = length-front k part content (omega arith) in

@@ -6,16 +6,15 @@ use Rattle.vd_law.specs.Entries.{Entry}
 use Rattle.vd_law.specs.Contents.{may}
 use Rattle.vd_format.specs.declared.header.Header.{Header}
 use Rattle.vd_image.specs.Log.{Writes}
-use Rattle.vd_image.specs.Image.{geometry_of, HasNoLater, IsSound, DiskHas, background}
+use Rattle.vd_image.specs.Image.{geometry_of, HasNoLater, IsSound, DiskHas}
 use Rattle.vd_image.specs.Layouts.{layout_of}
 use Rattle.vd_image.specs.Decoders.{format_of}
-use Rattle.vd_image.specs.CrashImages.{base_at}
 use Rattle.vd_image.specs.Openings.{Opens}
-use Rattle.vd_image.specs.Made.{zero_sector}
 use Rattle.vd_replay.specs.Images.{image_of}
-use Rattle.vd_table.specs.Tables.{Given}
-use Rattle.vd_meta.specs.Keeping.{Keeping}
+use Rattle.vd_table.specs.Tables.{TableState}
+use Rattle.vd_keeper.specs.Keeping.{KeeperState}
 use Rattle.vd_safety.specs.Mirrors.{bit_of, storage_of}
+use Rattle.vd_format.specs.Background.{zero_sector, base_at, background}
 
 -- What a store holds now, and may keep after a crash.
 pub record IsHeldNow (before : List Sector) (log : List Entry) (now : List Sector) : Type 0 where
@@ -36,7 +35,7 @@ pub record IsOpenAgain (h : Header) (base disk : List Sector) (entries : List En
 
 -- Where a sector of the disk that such a store stands for is found: its block is local and has the storage that it has now, or the
 -- sector has the background, and its block isn't local in every image.
-abbrev pub IsFound : Header → (base : List Sector) → Given → (fresh : List Bool) → Keeping → (now : List Sector) → (s : ℕ) → (v : Sector) → Type 0
+abbrev pub IsFound : Header → (base : List Sector) → TableState → (fresh : List Bool) → KeeperState → (now : List Sector) → (s : ℕ) → (v : Sector) → Type 0
 IsFound h base table fresh k now s v =
     ((p : ℕ) × (storage_of table (s / h.block / h.chunk) ≡ Some p) × (bit_of fresh (s / h.block) ≡ true) × (v ≡ image_of now ((layout_of h).place p s)))
     ⊎ ((bit_of k.stale (s / h.block) ≡ false) × (v ≡ background (base_at zero_sector base) zero_sector k.header.tracked s))

@@ -4,48 +4,49 @@ use Rattle.std.specs.List.{Contains}
 use Rattle.vd_law.specs.declared.entry.Sector.{Sector}
 use Rattle.vd_law.specs.declared.entry.CallId.{CallId}
 use Rattle.vd_law.specs.Entries.{Entry}
-use Rattle.vd_law.specs.Histories.{Numbered}
+use Rattle.vd_law.specs.Histories.{HistoryState}
 use Rattle.vd_device.specs.declared.ticket.Ticket.{Ticket}
 use Rattle.vd_device.specs.Tickets.{ticket_id}
 use Rattle.vd_format.specs.declared.header.Header.{Header}
 use Rattle.vd_format.specs.declared.map.Entry.{Entry as MapEntry}
 use Rattle.vd_bits.specs.Marks.{NoneFrom}
-use Rattle.vd_table.specs.Tables.{Given}
-use Rattle.vd_reading.specs.Background.{zero_sector}
+use Rattle.vd_table.specs.Tables.{TableState}
 use Rattle.vd_image.specs.Image.{geometry_of}
 use Rattle.vd_image.specs.Layouts.{layout_of}
 use Rattle.vd_image.specs.Decoders.{format_of, mask_has}
-use Rattle.vd_image.specs.CrashImages.{sectors_or, base_at}
-use Rattle.vd_crash.specs.Safe.{Opening, numbered}
-use Rattle.vd_crash.specs.Facts.{Discards, RecordNames}
-use Rattle.vd_flushes.specs.Flushing.{Snapshot}
-use Rattle.vd_flushes.specs.Stage.{Flight, Idle as NoFlight, Writing, Answering, Progress}
-use Rattle.vd_primitives.specs.Core.{Stage, Resting, Sending, Working, Putting, Syncing, Puts_next, Has_next, Syncs_next, Is_next}
-use Rattle.vd_primitives.specs.Primitives.{State}
-use Rattle.vd_primitives.specs.Keeping.{KeepsCrashSafety}
-use Rattle.vd_meta.specs.declared.stage.Stage as stages
-use Rattle.vd_meta.specs.declared.stage.Stage.TheVariants as stage
-use Rattle.vd_meta.specs.declared.stage.Way.TheVariants as ways
-use Rattle.vd_meta.specs.Keeping.{Keeping}
-use Rattle.vd_meta.specs.Entries.{chunks_with}
-use Rattle.vd_meta.specs.Flushes.{is_recycle}
-use Rattle.vd_meta.specs.Moves.{next_header}
+use Rattle.vd_image.specs.CrashImages.{sectors_or}
+use Rattle.vd_crash.specs.facts.Safe.{Opening, numbered}
+use Rattle.vd_crash.specs.flushes.Flushing.{Snapshot}
+use Rattle.vd_crash.specs.flushes.Stage.{Flight, Idle as NoFlight, Writing, Answering, Progress}
+use Rattle.vd_crash.specs.primitives.Core.{Stage, Resting, Sending, Working, Putting, Syncing, Puts_next, Has_next, Syncs_next, Is_next}
+use Rattle.vd_crash.specs.primitives.Primitives.{State}
+use Rattle.vd_crash.specs.primitives.Keeping.{KeepsCrashSafety}
+use Rattle.vd_keeper.specs.declared.stage.Stage as stages
+use Rattle.vd_keeper.specs.declared.stage.Stage.TheVariants as stage
+use Rattle.vd_keeper.specs.declared.stage.Way.TheVariants as ways
+use Rattle.vd_keeper.specs.Keeping.{KeeperState}
+use Rattle.vd_keeper.specs.Entries.{chunks_with}
+use Rattle.vd_keeper.specs.Flushes.{is_recycle}
+use Rattle.vd_keeper.specs.Moves.{next_header}
 use Rattle.vd_passes.specs.declared.pass.Pass.{Pass}
 use Rattle.vd_passes.specs.declared.pass.Phase.{Phase}
 use Rattle.vd_passes.specs.declared.pass.Phase.TheVariants.{Idle, Asked, Held, Fetching, Filled, Issuing, Looking, Flushing, Ready}
 use Rattle.vd_passes.specs.declared.pass.Fault.{Fault}
-use Rattle.vd_passes.specs.Passes.{call_of}
+use Rattle.vd_passes.specs.Passes.{call_id}
+use Rattle.vd_format.specs.Background.{zero_sector, base_at}
+use Rattle.vd_crash.specs.facts.Memory.{Discards}
+use Rattle.vd_crash.specs.facts.Metadata.{RecordNames}
 
 abbrev pub bit_of : List Bool → ℕ → Bool
 bit_of bits b = slice_index_or bits b false
 
-abbrev pub given : Option (Option ℕ) → Option ℕ
-given (Some (Some p)) = Some p
-given _ = None
+abbrev pub storage_given : Option (Option ℕ) → Option ℕ
+storage_given (Some (Some p)) = Some p
+storage_given _ = None
 
 -- the storage chunk of a chunk
-abbrev pub storage_of : Given → ℕ → Option ℕ
-storage_of table c = given (slice_get table.chunks c)
+abbrev pub storage_of : TableState → ℕ → Option ℕ
+storage_of table c = storage_given (slice_get table.chunks c)
 
 -- the entry of a chunk, as it was at opening, has the block
 abbrev pub is_in : Option MapEntry → (first b : ℕ) → Bool
@@ -69,8 +70,8 @@ opening_for h entries before held base disk opened = record {
 
 -- What a pass has in flight on the store, or owes: the write of its piece, or the good answer of a flush that is over.
 abbrev pub IsFlightOf : Phase → (fault : Option Fault) → (i : ℕ) → Pass → Flight → Type 0
-IsFlightOf Issuing fault i p f = (t : Ticket) × (j : ℕ) × (n : ℕ) × (p.ticket ≡ Some t) × (f ≡ Writing p.block j n (call_of i p) (ticket_id t))
-IsFlightOf Ready None i p f = ((p.flush ≡ true) × ((a : ℕ) × (n : ℕ) × (f ≡ Answering (call_of i p) a n))) ⊎ ((p.flush ≡ false) × (f ≡ NoFlight))
+IsFlightOf Issuing fault i p f = (t : Ticket) × (j : ℕ) × (n : ℕ) × (p.ticket ≡ Some t) × (f ≡ Writing p.block j n (call_id i p) (ticket_id t))
+IsFlightOf Ready None i p f = ((p.flush ≡ true) × ((a : ℕ) × (n : ℕ) × (f ≡ Answering (call_id i p) a n))) ⊎ ((p.flush ≡ false) × (f ≡ NoFlight))
 IsFlightOf Ready (Some why) i p f = f ≡ NoFlight
 IsFlightOf Idle fault i p f = f ≡ NoFlight
 IsFlightOf Asked fault i p f = f ≡ NoFlight
@@ -105,7 +106,7 @@ pub record IsSnapshotOf (snapshot stale : List Bool) (p : Snapshot) : Type 0 whe
 
 -- How far the flush under way is, by the keeper: each chunk that it has logged stands in a record that is done, or in the one in flight;
 -- and each chunk's sector of the map is right already, or was put, or is in flight, or is still to be put.
-pub record IsProgressOf (k : Keeping) (pr : Progress) (InRecord InPage : ℕ → Type 0) : Type 0 where
+pub record IsProgressOf (k : KeeperState) (pr : Progress) (InRecord InPage : ℕ → Type 0) : Type 0 where
   pub snapshot : IsSnapshotOf k.snapshot k.stale pr.snapshot
   pub recorded : k.way ≡ ways.Records → (b : ℕ) → bit_of k.snapshot b ≡ true → Contains (take k.logged (chunks_with k.header k.snapshot)) (b / k.header.chunk) → (pr.recorded b ≡ true) ⊎ InRecord b
   pub paged : is_recycle k.way ≡ true → (c : ℕ) → c < (layout_of k.header).chunks
@@ -120,7 +121,7 @@ abbrev pub Nowhere : ℕ → Type 0
 Nowhere b = ⊥
 
 -- the record in flight, in the last slot that was used, names the block's chunk
-abbrev pub InRecordOf : (o : Opening) (k : Keeping) (first sector : ℕ) (v : Sector) → ℕ → Type 0
+abbrev pub InRecordOf : (o : Opening) (k : KeeperState) (first sector : ℕ) (v : Sector) → ℕ → Type 0
 InRecordOf o k first sector v b = (slot : ℕ) × (sector ≡ o.layout.slot_at slot) × (first ≤ slot) × (slot < k.next) × (slot < o.layout.slots) × RecordNames o k.header.generation (o.layout.chunk_of b) v
 
 -- the sector of the map in flight has the chunk
@@ -128,7 +129,7 @@ abbrev pub InPageOf : (o : Opening) (sector : ℕ) → ℕ → Type 0
 InPageOf o sector c = sector ≡ o.layout.map_at c
 
 -- The stage of the flush of this call, by the keeper's stage and by what the pass has in flight.
-abbrev pub IsStageBy : stages.Stage → (head : Bool) → Option Ticket → (o : Opening) → (k : Keeping) → CallId → Stage → Type 0
+abbrev pub IsStageBy : stages.Stage → (head : Bool) → Option Ticket → (o : Opening) → (k : KeeperState) → CallId → Stage → Type 0
 IsStageBy stage.DataFlush head (Some t) o k call s = (a : ℕ) × (n : ℕ) × (q : ℕ) × (snapshot : Snapshot) × IsSnapshotOf k.snapshot k.stale snapshot × (s ≡ Sending call a n q snapshot (ticket_id t))
 IsStageBy stage.Puts head None o k call s = (a : ℕ) × (n : ℕ) × (q : ℕ) × (pr : Progress) × IsProgressOf k pr Nowhere Nowhere × (s ≡ Working call a n q pr)
 IsStageBy stage.Puts false (Some t) o k call s = (a : ℕ) × (n : ℕ) × (q : ℕ) × (pr : Progress) × (sector : ℕ) × (at : ℕ) × (v : Sector)
@@ -144,7 +145,7 @@ IsStageBy _ head ticket o k call s = ⊥
 
 -- What a flush under way was begun with: one that isn't a recycle needs a sure header, and leaves the map behind. And what each stage
 -- has behind it.
-pub record IsBegunOf (k : Keeping) : Type 0 where
+pub record IsBegunOf (k : KeeperState) : Type 0 where
   pub surely : is_recycle k.way ≡ false → k.sure ≡ true
   pub behind : (is_recycle k.way ≡ false) ⊎ (k.stage ≡ stage.DataFlush) → (b : ℕ) → bit_of k.snapshot b ≡ true → bit_of k.marked (b / k.header.chunk / 32) ≡ true
   pub nothing : k.way ≡ ways.Nothing → (b : ℕ) → bit_of k.snapshot b ≡ false
@@ -155,12 +156,12 @@ pub record IsBegunOf (k : Keeping) : Type 0 where
   pub all_logged : k.stage ≡ stage.Syncs → k.way ≡ ways.Records → length (chunks_with k.header k.snapshot) ≤ k.logged
   pub recycled : k.stage ≡ stage.Seals → k.head ≡ false → is_recycle k.way ≡ false
 
-abbrev pub IsStageOf : (flusher : Option ℕ) → (o : Opening) → (k : Keeping) → List Pass → Stage → Type 0
+abbrev pub IsStageOf : (flusher : Option ℕ) → (o : Opening) → (k : KeeperState) → List Pass → Stage → Type 0
 IsStageOf None o k passes s = s ≡ Resting
-IsStageOf (Some i) o k passes s = IsBegunOf k × ((p : Pass) × (slice_get passes i ≡ Some p) × IsStageBy k.stage k.head p.ticket o k (call_of i p) s)
+IsStageOf (Some i) o k passes s = IsBegunOf k × ((p : Pass) × (slice_get passes i ≡ Some p) × IsStageBy k.stage k.head p.ticket o k (call_id i p) s)
 
 -- The state that the laws speak of is that of this core.
-pub record Mirrors (o : Opening) (table : Given) (fresh : List Bool) (k : Keeping) (flusher : Option ℕ) (passes : List Pass) (history : Numbered) (log : List Entry) (s : State) : Type 0 where
+pub record Mirrors (o : Opening) (table : TableState) (fresh : List Bool) (k : KeeperState) (flusher : Option ℕ) (passes : List Pass) (history : HistoryState) (log : List Entry) (s : State) : Type 0 where
   pub log_is : s.log ≡ log
   pub history_is : s.history ≡ numbered history.log.entries history.numbers
   pub many : length history.numbers ≡ length history.log.entries
@@ -184,13 +185,13 @@ pub record Mirrors (o : Opening) (table : Given) (fresh : List Bool) (k : Keepin
   pub stage : IsStageOf flusher o k passes s.stage
 
 -- What a core keeps so that every image that a crash may leave is safe, from this opening on.
-pub record IsSecured (o : Opening) (table : Given) (fresh : List Bool) (k : Keeping) (flusher : Option ℕ) (passes : List Pass) (history : Numbered) (log : List Entry) : Type 0 where
+pub record HasSafeMirror (o : Opening) (table : TableState) (fresh : List Bool) (k : KeeperState) (flusher : Option ℕ) (passes : List Pass) (history : HistoryState) (log : List Entry) : Type 0 where
   pub state : State
   pub keeps : KeepsCrashSafety o state
   pub mirrors : Mirrors o table fresh k flusher passes history log state
 
 -- What the laws are told of the disk's numbers: they are those of one header, but for its generation.
-pub record IsOfHeader (h : Header) (o : Opening) (k : Keeping) : Type 0 where
+pub record IsOfHeader (h : Header) (o : Opening) (k : KeeperState) : Type 0 where
   pub format : o.format ≡ format_of h
   pub layout : o.layout ≡ layout_of h
   pub zeros : o.zeros ≡ zero_sector

@@ -6,31 +6,30 @@
 ghost use Rattle.std.specs.Prelude.{ℕ, ◌≡◌, ◌<◌, ◌≤◌, Bool, List, Option, length};
 ghost use Rattle.vd_law.specs.declared.entry.Sector.{Sector};
 ghost use Rattle.vd_law.specs.Entries.{Entry};
-ghost use Rattle.vd_law.specs.Histories.{Numbered};
+ghost use Rattle.vd_law.specs.Histories.{HistoryState};
 ghost use Rattle.vd_format.specs.declared.header.Header.{Header};
-ghost use Rattle.vd_table.specs.Tables.{Given};
+ghost use Rattle.vd_table.specs.Tables.{TableState};
 ghost use Rattle.vd_image.specs.Log.{Writes};
 ghost use Rattle.vd_image.specs.Layouts.{layout_of};
 ghost use Rattle.vd_image.specs.Decoders.{Entry as MapEntry, this_version, format_of};
-ghost use Rattle.vd_image.specs.CrashImages.{base_at};
 ghost use Rattle.vd_image.specs.Openings.{need_of};
-ghost use Rattle.vd_image.specs.Made.{zero_sector};
-ghost use Rattle.vd_crash.specs.CrashSafe.{IsCrashSafe};
-ghost use Rattle.vd_meta.specs.Keeping.{Keeping};
+ghost use Rattle.vd_crash.specs.facts.CrashSafe.{IsCrashSafe};
+ghost use Rattle.vd_keeper.specs.Keeping.{KeeperState};
 ghost use Rattle.vd_passes.specs.declared.pass.Pass.{Pass};
-ghost use Rattle.vd_safety.specs.Mirrors.{opening_for, IsSecured};
+ghost use Rattle.vd_safety.specs.Mirrors.{opening_for, HasSafeMirror};
 ghost use Rattle.vd_safety.specs.Held.{IsHeldNow, IsOpenAgain};
+ghost use Rattle.vd_format.specs.Background.{zero_sector, base_at};
 
 /// A core that is secured is crash safe, over what its store tells and the history as it is kept.
 pub fn secured_is_crash_safe()
-    ensures { (h : Header) (entries : List MapEntry) (before : List Sector) (held : ℕ → Sector) (base disk : List Sector) (opened : ℕ) (table : Given) (fresh : List Bool) (k : Keeping) (flusher : Option ℕ) (passes : List Pass) (history : Numbered) (log : List Entry)
-        → IsSecured (opening_for h entries before held base disk opened) table fresh k flusher passes history log → opened ≡ history.opened → length disk ≡ h.size → ((i a : ℕ) (v : Sector) → Writes log i a v → a < length before)
+    ensures { (h : Header) (entries : List MapEntry) (before : List Sector) (held : ℕ → Sector) (base disk : List Sector) (opened : ℕ) (table : TableState) (fresh : List Bool) (k : KeeperState) (flusher : Option ℕ) (passes : List Pass) (history : HistoryState) (log : List Entry)
+        → HasSafeMirror (opening_for h entries before held base disk opened) table fresh k flusher passes history log → opened ≡ history.opened → length disk ≡ h.size → ((i a : ℕ) (v : Sector) → Writes log i a v → a < length before)
         → IsCrashSafe (format_of h) (layout_of h) (base_at zero_sector base) zero_sector before log disk history }
 {}
 
 /// What the store of a secured core holds, and each image that a crash leaves of it, opens again, with a disk that the history allows.
 pub fn secured_image_opens_again()
-    ensures { (h : Header) (entries : List MapEntry) (before : List Sector) (held : ℕ → Sector) (base disk : List Sector) (opened : ℕ) (table : Given) (fresh : List Bool) (k : Keeping) (flusher : Option ℕ) (passes : List Pass) (history : Numbered) (log : List Entry) (now : List Sector)
-        → IsSecured (opening_for h entries before held base disk opened) table fresh k flusher passes history log → IsHeldNow before log now → h.version ≡ this_version → need_of h ≤ length now → length disk ≡ h.size
+    ensures { (h : Header) (entries : List MapEntry) (before : List Sector) (held : ℕ → Sector) (base disk : List Sector) (opened : ℕ) (table : TableState) (fresh : List Bool) (k : KeeperState) (flusher : Option ℕ) (passes : List Pass) (history : HistoryState) (log : List Entry) (now : List Sector)
+        → HasSafeMirror (opening_for h entries before held base disk opened) table fresh k flusher passes history log → IsHeldNow before log now → h.version ≡ this_version → need_of h ≤ length now → length disk ≡ h.size
         → IsOpenAgain h base disk history.log.entries now }
 {}

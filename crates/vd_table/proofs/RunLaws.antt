@@ -7,19 +7,19 @@ use Rattle.std.proofs.lemmas.List.{drop-set-lt}
 use Rattle.std.proofs.lemmas.List.Sums.{sum_by-cons}
 use Rattle.std.proofs.lemmas.Option.{slice_get_within, get_or_from_slice_get}
 use Rattle.vd_bits.proofs.SetLaws.{set_same, set_other}
-use Rattle.vd_table.specs.Tables.{Given, Has, used, with_storage, IsOneToOne, IsLeastFree}
+use Rattle.vd_table.specs.Tables.{TableState, Has, used_chunks, with_storage, IsOneToOne, IsLeastFree}
 use Rattle.vd_table.specs.Runs.{lacking, TakesOne, TakesRun}
 use Rattle.vd_table.proofs.Links.{none_some, same_some, count-set_some}
 
 -- the first of the run, and the rest
-lacking-first : (t : Given) (chunk n : ℕ) (place : Option ℕ) → slice_get t.chunks chunk ≡ Some place → lacking t chunk (suc n) ≡ cond {A = ℕ} (is_none place) 1 0 + lacking t (chunk + 1) n
+lacking-first : (t : TableState) (chunk n : ℕ) (place : Option ℕ) → slice_get t.chunks chunk ≡ Some place → lacking t chunk (suc n) ≡ cond {A = ℕ} (is_none place) 1 0 + lacking t (chunk + 1) n
 lacking-first t chunk n place e = rw (drop-cons t.chunks chunk None (slice_get_within t.chunks chunk place e), get_or_from_slice_get t.chunks chunk place None e, ← add-one chunk) (sum_by-cons (λ (o : Option ℕ). cond {A = ℕ} (is_none o) 1 0) place (take n (drop (chunk + 1) t.chunks)))
 
-lacking-before : (t : Given) (chunk p n : ℕ) → lacking (with_storage t chunk p) (chunk + 1) n ≡ lacking t (chunk + 1) n
+lacking-before : (t : TableState) (chunk p n : ℕ) → lacking (with_storage t chunk p) (chunk + 1) n ≡ lacking t (chunk + 1) n
 lacking-before t chunk p n = rw (drop-set-lt (chunk + 1) t.chunks chunk (Some p) (omega arith)) refl
 
 -- one chunk got a free storage chunk
-module _ (t : Given) (chunk p : ℕ) (none : slice_get t.chunks chunk ≡ Some None) where
+module _ (t : TableState) (chunk p : ℕ) (none : slice_get t.chunks chunk ≡ Some None) where
   got : Has (with_storage t chunk p) chunk p
   got = set_same t.chunks chunk (Some p) (slice_get_within t.chunks chunk None none)
 
@@ -42,7 +42,7 @@ module _ (t : Given) (chunk p : ℕ) (none : slice_get t.chunks chunk ≡ Some N
     inside = λ other q has. elim (had other q has) [ inl x ↦ rw x.1 free.inside | inr x ↦ o.inside other q x ];
   }
 
-module _ (t t' : Given) (chunk : ℕ) (h : TakesOne t chunk t') where
+module _ (t t' : TableState) (chunk : ℕ) (h : TakesOne t chunk t') where
   pub same_number : length t'.chunks ≡ length t.chunks
   same_number = elim h [ inl k ↦ rw k.1 refl | inr k ↦ rw k.1.2 (length-set t.chunks chunk (Some k.1.0)) ]
 
@@ -62,41 +62,41 @@ module _ (t t' : Given) (chunk : ℕ) (h : TakesOne t chunk t') where
   one_to_one-one o = elim h [ inl k ↦ rw k.1 o | inr k ↦ rw k.1.2 (still_one_to_one t chunk k.1.0 k.0 k.1.1 o) ]
 
   -- what the rest lacks still fits
-  pub enough-one : (n m : ℕ) → n ≡ suc m → used t + lacking t chunk n ≤ t.storage → used t' + lacking t' (chunk + 1) m ≤ t'.storage
+  pub enough-one : (n m : ℕ) → n ≡ suc m → used_chunks t + lacking t chunk n ≤ t.storage → used_chunks t' + lacking t' (chunk + 1) m ≤ t'.storage
   enough-one n m e enough =
-      let all : used t + lacking t chunk (suc m) ≤ t.storage = rw e at enough in
+      let all : used_chunks t + lacking t chunk (suc m) ≤ t.storage = rw e at enough in
       elim h [
         | inl k ↦ rw k.1 (omega (arith, lacking-first t chunk m (Some k.0.0) k.0.1))
         | inr k ↦ rw (k.1.2, lacking-before t chunk k.1.0 m) (omega (arith, lacking-first t chunk m None k.0, count-set_some t.chunks chunk k.1.0 k.0))
       ]
 
 -- the first of a run fits
-pub first-fits : (t : Given) (chunk n m : ℕ) → n ≡ suc m → used t + lacking t chunk n ≤ t.storage → slice_get t.chunks chunk ≡ Some None → used t < t.storage
+pub first-fits : (t : TableState) (chunk n m : ℕ) → n ≡ suc m → used_chunks t + lacking t chunk n ≤ t.storage → slice_get t.chunks chunk ≡ Some None → used_chunks t < t.storage
 first-fits t chunk n m e enough none =
-    let all : used t + lacking t chunk (suc m) ≤ t.storage = rw e at enough in
+    let all : used_chunks t + lacking t chunk (suc m) ≤ t.storage = rw e at enough in
     omega (arith, lacking-first t chunk m None none)
 
 -- a run has what each of its steps has
-pub run-number : (t : Given) (from count : ℕ) (t' : Given) → TakesRun t from count t' → length t'.chunks ≡ length t.chunks
+pub run-number : (t : TableState) (from count : ℕ) (t' : TableState) → TakesRun t from count t' → length t'.chunks ≡ length t.chunks
 run-number t from zero t' h = rw h refl
 run-number t from (suc count) t' h = same_number h.0 t' (from + count) h.2 ∙ run-number t from count h.0 h.1
 
-pub run-storage : (t : Given) (from count : ℕ) (t' : Given) → TakesRun t from count t' → t'.storage ≡ t.storage
+pub run-storage : (t : TableState) (from count : ℕ) (t' : TableState) → TakesRun t from count t' → t'.storage ≡ t.storage
 run-storage t from zero t' h = rw h refl
 run-storage t from (suc count) t' h = same_storage h.0 t' (from + count) h.2 ∙ run-storage t from count h.0 h.1
 
-pub run-keeps : (t : Given) (from count : ℕ) (t' : Given) → TakesRun t from count t' → (chunk p : ℕ) → Has t chunk p → Has t' chunk p
+pub run-keeps : (t : TableState) (from count : ℕ) (t' : TableState) → TakesRun t from count t' → (chunk p : ℕ) → Has t chunk p → Has t' chunk p
 run-keeps t from zero t' h chunk p has = rw h has
 run-keeps t from (suc count) t' h chunk p has = keeps_one h.0 t' (from + count) h.2 chunk p (run-keeps t from count h.0 h.1 chunk p has)
 
-pub run-others : (t : Given) (from count : ℕ) (t' : Given) → TakesRun t from count t' → (chunk : ℕ) → (chunk < from) ⊎ (from + count ≤ chunk) → slice_get t'.chunks chunk ≡ slice_get t.chunks chunk
+pub run-others : (t : TableState) (from count : ℕ) (t' : TableState) → TakesRun t from count t' → (chunk : ℕ) → (chunk < from) ⊎ (from + count ≤ chunk) → slice_get t'.chunks chunk ≡ slice_get t.chunks chunk
 run-others t from zero t' h chunk outside = rw h refl
 run-others t from (suc count) t' h chunk outside =
     let ne : chunk ≢ from + count = λ e. elim outside [ inl x ↦ omega arith | inr x ↦ omega arith ] in
     let less : (chunk < from) ⊎ (from + count ≤ chunk) = elim outside [ inl x ↦ inl x | inr x ↦ inr (omega arith) ] in
     other_one h.0 t' (from + count) h.2 chunk ne ∙ run-others t from count h.0 h.1 chunk less
 
-pub run-all : (t : Given) (from count : ℕ) (t' : Given) → TakesRun t from count t' → (chunk : ℕ) → from ≤ chunk → chunk < from + count → (p : ℕ) × Has t' chunk p
+pub run-all : (t : TableState) (from count : ℕ) (t' : TableState) → TakesRun t from count t' → (chunk : ℕ) → from ≤ chunk → chunk < from + count → (p : ℕ) × Has t' chunk p
 run-all t from zero t' h chunk low high = absurd (omega arith)
 run-all t from (suc count) t' h chunk low high =
     ⊎_elim
@@ -104,19 +104,19 @@ run-all t from (suc count) t' h chunk low high =
     (λ (more : from + count ≤ chunk). let e : chunk ≡ from + count = omega arith in rw e (has_one h.0 t' (from + count) h.2))
     (cases_lt chunk (from + count))
 
-pub run-one_to_one : (t : Given) (from count : ℕ) (t' : Given) → TakesRun t from count t' → IsOneToOne t → IsOneToOne t'
+pub run-one_to_one : (t : TableState) (from count : ℕ) (t' : TableState) → TakesRun t from count t' → IsOneToOne t → IsOneToOne t'
 run-one_to_one t from zero t' h o = rw h o
 run-one_to_one t from (suc count) t' h o = one_to_one-one h.0 t' (from + count) h.2 (run-one_to_one t from count h.0 h.1 o)
 
 -- a chunk more
-pub run-more : (t between t' : Given) (from chunk : ℕ) → from ≤ chunk → TakesRun t from (chunk - from) between → TakesOne between chunk t' → TakesRun t from (chunk + 1 - from) t'
+pub run-more : (t between t' : TableState) (from chunk : ℕ) → from ≤ chunk → TakesRun t from (chunk - from) between → TakesOne between chunk t' → TakesRun t from (chunk + 1 - from) t'
 run-more t between t' from chunk low run one =
     let e : chunk + 1 - from ≡ suc (chunk - from) = omega arith in
     let f : from + (chunk - from) ≡ chunk = omega arith in
     rw (e, f) (between, run, one)
 
 -- the whole run
-pub run-whole : (t t' : Given) (from count chunk : ℕ) → chunk ≡ from + count → TakesRun t from (chunk - from) t' → TakesRun t from count t'
+pub run-whole : (t t' : TableState) (from count chunk : ℕ) → chunk ≡ from + count → TakesRun t from (chunk - from) t' → TakesRun t from count t'
 run-whole t t' from count chunk e run =
     let f : chunk - from ≡ count = omega arith in
     rw f at run

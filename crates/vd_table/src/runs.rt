@@ -1,7 +1,7 @@
 //! Storage for the chunks of a run, all that need it at once.
 
 ghost use Rattle.std.specs.Prelude.{◌≡◌, ◌⊎◌, ℕ, ◌+◌, ◌<◌, ◌≤◌, None, Some, length, slice_get};
-ghost use Rattle.vd_table.specs.Tables.{Has, used, IsOneToOne};
+ghost use Rattle.vd_table.specs.Tables.{Has, used_chunks, IsOneToOne};
 ghost use Rattle.vd_table.specs.Runs.{lacking, TakesOne, TakesRun};
 
 use crate::table::Table;
@@ -20,7 +20,7 @@ impl Table {
     /// Gives the least free storage chunk to each of the `count` chunks from `from` on that has none, in rising order.
     pub fn take_run(&mut self, from: u32, count: u32)
         requires inside { from + count ≤ length self.old.chunks }
-        requires enough { used self.old + lacking self.old from count ≤ self.old.storage }
+        requires enough { used_chunks self.old + lacking self.old from count ≤ self.old.storage }
         ensures takes { TakesRun self.old from count self.new }
         ensures kept { (chunk p : ℕ) → Has self.old chunk p → Has self.new chunk p }
         ensures all { (chunk : ℕ) → from ≤ chunk → chunk < from + count → (p : ℕ) × Has self.new chunk p }
@@ -38,7 +38,7 @@ impl Table {
 
     fn take_one(&mut self, chunk: u32)
         requires inside { chunk < length self.old.chunks }
-        requires enough { slice_get self.old.chunks chunk ≡ Some None → used self.old < self.old.storage }
+        requires enough { slice_get self.old.chunks chunk ≡ Some None → used_chunks self.old < self.old.storage }
         ensures { TakesOne self.old chunk self.new }
     {
         if self.get(chunk).is_none() {

@@ -1,7 +1,7 @@
 //! A table from chunks to storage chunks, in which no two chunks have one.
 
 ghost use Rattle.std.specs.Prelude.{◌≡◌, ◌≢◌, ℕ, ◌+◌, ◌<◌, ◌↔◌, None, Some, IsErr, IfOk, IfErr, OnOk, OnErr, length, replicate, slice_get};
-ghost use Rattle.vd_table.specs.Tables.{Has, used, with_storage, IsOneToOne, IsLeastFree, Hinders, IsFirstHindrance};
+ghost use Rattle.vd_table.specs.Tables.{Has, used_chunks, with_storage, IsOneToOne, IsLeastFree, HindersStorage, IsFirstStorageHindrance};
 
 use std::alloc::Global;
 use std::marker::Model;
@@ -30,10 +30,10 @@ pub struct Table {
 
 impl Model for Table {
     ghost use Rattle.std.specs.Prelude.{length};
-    ghost use Rattle.vd_table.specs.Tables.{Given};
+    ghost use Rattle.vd_table.specs.Tables.{TableState};
     ghost use Rattle.vd_table.specs.TableFields.{IsLinked};
 
-    ghost Value = { Given };
+    ghost Value = { TableState };
 
     ghost view = { λ table. record { chunks = table.storage.items; storage = length table.owners.items } };
 
@@ -74,7 +74,7 @@ impl Table {
 
     /// How many storage chunks no chunk has.
     pub fn free(&self) -> u32
-        ensures { result + used self.now ≡ self.now.storage }
+        ensures { result + used_chunks self.now ≡ self.now.storage }
     {
         self.free.count() as u32
     }
@@ -82,7 +82,7 @@ impl Table {
     /// Gives a chunk without storage the least free storage chunk.
     pub fn take(&mut self, chunk: u32) -> Result<u32, Full>
         requires { slice_get self.old.chunks chunk ≡ Some None }
-        ensures full { IsErr result ↔ (used self.old ≡ self.old.storage) }
+        ensures full { IsErr result ↔ (used_chunks self.old ≡ self.old.storage) }
         ensures used { IfErr result (λ full. full.used ≡ self.old.storage) }
         ensures unchanged { OnErr result (self.new ≡ self.old) }
         ensures least { IfOk result (IsLeastFree self.old) }
@@ -102,9 +102,9 @@ impl Table {
     pub fn set(&mut self, chunk: u32, p: u32) -> Result<(), Taken>
         requires chunk { chunk < length self.old.chunks }
         requires storage { p < self.old.storage }
-        ensures taken { IfErr result (λ taken. IsFirstHindrance self.old chunk p taken.by) }
+        ensures taken { IfErr result (λ taken. IsFirstStorageHindrance self.old chunk p taken.by) }
         ensures unchanged { OnErr result (self.new ≡ self.old) }
-        ensures free { OnOk result ((by : ℕ) → Hinders self.old chunk p by → ⊥) }
+        ensures free { OnOk result ((by : ℕ) → HindersStorage self.old chunk p by → ⊥) }
         ensures given { OnOk result (self.new ≡ with_storage self.old chunk p) }
     {
         let by = match (self.storage[chunk as usize], self.owners[p as usize]) {

@@ -7,24 +7,25 @@ use Rattle.vd_format.specs.Headers.{IsValid}
 use Rattle.vd_format.specs.declared.header.Header.{Header}
 use Rattle.vd_command.specs.declared.command.Command.{Command}
 use Rattle.vd_command.specs.declared.command.Command.TheVariants.{Show, Make, Run}
-use Rattle.vd_command.specs.Words.{Spells, made}
+use Rattle.vd_command.specs.Words.{Spells, made_header}
 use Rattle.vd_io.specs.declared.sink.Sink as sink
 use Rattle.vd_io.specs.declared.source.Source as source
-use Rattle.vd_io.specs.Streams.{Rose}
 use Rattle.vd_trace.specs.Traces.{Script}
 use Rattle.vd_replay.specs.declared.error.OpenError.{OpenError as Refusal}
 use Rattle.vd_report.specs.declared.line.Line.{Line}
-use Rattle.vd_top.specs.Statuses.{status_of_line}
-use Rattle.vd_top.specs.declared.ending.End.{End}
-use Rattle.vd_top.specs.Devices.{Devices, devices, HaveFailed}
-use Rattle.vd_top.specs.Outcomes.{Outcome}
-use Rattle.vd_top.specs.Showing.{show_line, IsJudged, Without_memory, Store_failed, Base_failed, Image_refused, Past_the_disk, Is_shown}
-use Rattle.vd_top.specs.Making.{AsksFor, IsNoMake, new_header, MakingEnds, Too_few, Lacks_memory, Write_failed, Is_made}
+use Rattle.vd_report.specs.Statuses.{status_of_line}
+use Rattle.vd_run.specs.declared.ending.End.{End}
+use Rattle.vd_show.specs.Devices.{Devices, devices, HaveFailed}
+use Rattle.vd_report.specs.Outcomes.{Outcome}
+use Rattle.vd_show.specs.Showing.{show_line, IsJudged, Without_memory, Store_failed, Base_failed, Image_refused, Past_the_disk, Is_shown}
+use Rattle.vd_make.specs.Making.{MakingEnds, Too_few, Lacks_memory, Write_failed, Is_made}
 use Rattle.vd_top.specs.Tasks.{IsMaking}
-use Rattle.vd_top.specs.Commands.{IsNoCommand, Answers, Outside, Shows, Is_made_for}
-use Rattle.vd_top.specs.Running.{AsksRun, IsReadLine, Source_failed, Read_without_memory, Is_bad, Is_too_much, IsOpenLine, Opened_without_memory, Open_failed, Is_refused, Is_past, RunEnds, Is_unread, Is_unopened, Ran_without_memory, Has_run}
-use Rattle.vd_top.specs.Ending.{is_fault, are_ok, reopened_status, run_status, status_of, unwritten, Ends}
-use Rattle.vd_top.proofs.RunCauses.{closing_cause, reopened_cause, reopened_not}
+use Rattle.vd_top.specs.Commands.{Answers, Outside, Shows, Is_made_for}
+use Rattle.vd_run.specs.Running.{IsReadLine, Source_failed, Read_without_memory, Is_bad, Is_too_much, IsOpenLine, Opened_without_memory, Open_failed, Is_refused, Is_past, RunEnds, Is_unread, Is_unopened, Ran_without_memory, Has_run}
+use Rattle.vd_report.specs.Ending.{is_device_fault, are_ok, reopened_status, run_status, status_of, status_unwritten, PrintsOutcome}
+use Rattle.vd_run.proofs.RunCauses.{closing_cause, reopened_cause, reopened_not}
+use Rattle.vd_top.specs.Asks.{new_header, AsksFor, IsNoShow, IsNoMake, AsksRun, IsNoRun, IsNoCommand}
+use Rattle.vd_law.specs.Counts.{Rose}
 
 pub is_no_command : (command : Command) → None ≡ Some command → ⊥
 is_no_command command e = cc
@@ -33,7 +34,7 @@ pub same_command : (a b : Command) → Some a ≡ Some b → a ≡ b
 same_command a b e = cc
 
 -- the header of a `make` is valid
-pub new_valid : (size block chunk storage slots base_sectors : ℕ) → IsValid (made size block chunk storage slots) → IsValid (new_header size block chunk storage slots base_sectors)
+pub new_valid : (size block chunk storage slots base_sectors : ℕ) → IsValid (made_header size block chunk storage slots) → IsValid (new_header size block chunk storage slots base_sectors)
 new_valid size block chunk storage slots base_sectors v = record {
   version = v.version;
   block = v.block;
@@ -67,25 +68,32 @@ one_header words size block chunk storage slots base_sectors unique other asks =
     ∙ ap (λ (n : ℕ). new_header size block chunk n asks.slots base_sectors) d
     ∙ ap (λ (n : ℕ). new_header size block chunk storage n base_sectors) e
 
+-- where the words spell one command, they ask for nothing else
+pub no_show : {words : List (List ℕ)} (is : Command) → ((command : Command) → Spells words command → is ≡ command) → ((first count : ℕ) → is ≡ Show first count → ⊥) → IsNoShow words
+no_show is unique other first count spells = other first count (unique (Show first count) spells)
+
+pub no_make : {words : List (List ℕ)} (is : Command) → ((command : Command) → Spells words command → is ≡ command) → ((size block chunk storage slots : ℕ) → is ≡ Make size block chunk storage slots → ⊥) → IsNoMake words
+no_make is unique other size block chunk storage slots spells = other size block chunk storage slots (unique (Make size block chunk storage slots) spells)
+
+pub no_run : {words : List (List ℕ)} (is : Command) → ((command : Command) → Spells words command → is ≡ command) → (is ≡ Run 1 0 false 0 → ⊥) → IsNoRun words
+no_run is unique other spells = other (unique (Run 1 0 false 0) spells)
+
 -- over a base of so many sectors these words ask for this header
 pub asks_for : (words : List (List ℕ)) (size block chunk storage slots base_sectors tracked : ℕ) → tracked ≡ min base_sectors size → Spells words (Make size block chunk storage slots)
-    → ((command : Command) → Spells words command → Make size block chunk storage slots ≡ command) → IsMaking words base_sectors (record (made size block chunk storage slots) { tracked = tracked })
+    → ((command : Command) → Spells words command → Make size block chunk storage slots ≡ command) → IsMaking words base_sectors (record (made_header size block chunk storage slots) { tracked = tracked })
 asks_for words size block chunk storage slots base_sectors tracked is spells unique =
-    let same : record (made size block chunk storage slots) { tracked = tracked } ≡ new_header size block chunk storage slots base_sectors =
-    ap (λ (n : ℕ). let h : Header = record (made size block chunk storage slots) { tracked = n } in h) is in
+    let same : record (made_header size block chunk storage slots) { tracked = tracked } ≡ new_header size block chunk storage slots base_sectors =
+    ap (λ (n : ℕ). let h : Header = record (made_header size block chunk storage slots) { tracked = n } in h) is in
     record {
       asks = record { size = size; block = block; chunk = chunk; storage = storage; slots = slots; spells = spells; header = same };
       one = λ other asks. one_header words size block chunk storage slots base_sectors unique other asks ∙ sym same;
       valid = subst IsValid (sym same) (new_valid size block chunk storage slots base_sectors spells.allowed);
       version = refl;
+      no_run = no_run (Make size block chunk storage slots) unique (λ e. cc);
     }
 
 pub over_base : {words : List (List ℕ)} {n m : ℕ} {h : Header} → n ≡ m → IsMaking words n h → IsMaking words m h
 over_base {words = words} {h = h} same making = subst (λ (k : ℕ). IsMaking words k h) same making
-
--- where the words spell one command that is a `show`, they spell no `make`
-pub no_make : (words : List (List ℕ)) (first count : ℕ) → ((command : Command) → Spells words command → Show first count ≡ command) → IsNoMake words
-no_make words first count unique size block chunk storage slots spells = let same = unique (Make size block chunk storage slots) spells in cc
 
 -- what was parsed is the one command that is spelled
 pub one_command : (words : List (List ℕ)) (found is : Command) → found ≡ is → ((command : Command) → (Some found ≡ Some command) ↔ Spells words command) → (command : Command) → Spells words command → is ≡ command
@@ -103,10 +111,6 @@ run_exact words found guests workers copying limit result is exact alone = (
 
   numbers : (x : Command) {g w : ℕ} {c : Bool} {l : ℕ} → Some x ≡ Some (Run 1 0 false 0) → x ≡ Run g w c l → (g ≡ 1) × (w ≡ 0) × (c ≡ false) × (l ≡ 0)
   numbers x e f = (cc, cc, cc, cc)
-
--- other words ask for none
-pub no_run : (words : List (List ℕ)) (found : Option Command) → ((command : Command) → (found ≡ Some command) ↔ Spells words command) → (found ≡ Some (Run 1 0 false 0) → ⊥) → IsTrue false ↔ AsksRun words
-no_run words found exact other = ((λ no. absurd cc), (λ run. absurd (other ((exact (Run 1 0 false 0)).1 run))))
 
 -- which status an outcome has: that of words outside the grammar, of a device or a source that failed with its cause, or another
 pub record HasCause (words : List (List ℕ)) (Device Source : Type 0) (status : ℕ) : Type 0 where
@@ -200,13 +204,13 @@ module _ {S B I : Type 0} {g : store.Ghosts S} {h : base.Ghosts B} {i : source.G
   run_cause outcome run (Is_unopened trace line none read unopened) = open_cause run unopened
   run_cause outcome run (Ran_without_memory none) = of_run run (λ e. cc) (λ e. absurd cc) (λ e. absurd cc)
   run_cause outcome run (Has_run trace kept history closing reopened closed handed read opens is leaves behind again allowed) =
-      report_cause (is_fault closing) (reopened_status reopened) (are_ok history.log.entries) run
-      (λ failed. closing_cause is.answer is.closed is.store_caused is.base_caused (ap is_fault (sym is.closing_is) ∙ failed))
+      report_cause (is_device_fault closing) (reopened_status reopened) (are_ok history.log.entries) run
+      (λ failed. closing_cause is.answer is.closed is.store_caused is.base_caused (ap is_device_fault (sym is.closing_is) ∙ failed))
       (λ five. failed_earlier (g.faults d.store) (g.faults closed.store) (g.faults end.store) (h.faults d.base) (h.faults closed.base) (h.faults end.base)
       leaves.store.counts.faults leaves.base.keeps.counts.faults (reopened_cause reopened again five))
       (reopened_not reopened 2 (λ e. cc) (λ e. cc) (λ e. cc)) (reopened_not reopened 6 (λ e. cc) (λ e. cc) (λ e. cc))
 
-cause_unwritten : {words : List (List ℕ)} {Device Source : Type 0} (status : ℕ) → HasCause words Device Source status → (unwritten status ≡ 2 → IsNoCommand words) × (IsNoCommand words → unwritten status ≡ 2) × (unwritten status ≡ 5 → Device)
+cause_unwritten : {words : List (List ℕ)} {Device Source : Type 0} (status : ℕ) → HasCause words Device Source status → (status_unwritten status ≡ 2 → IsNoCommand words) × (IsNoCommand words → status_unwritten status ≡ 2) × (status_unwritten status ≡ 5 → Device)
 cause_unwritten zero cause = ((λ e. absurd cc), (λ none. absurd (let e = cause.inside none in cc)), (λ e. absurd cc))
 cause_unwritten (suc zero) cause = ((λ e. absurd cc), (λ none. absurd (let e = cause.inside none in cc)), (λ e. absurd cc))
 cause_unwritten (suc (suc n)) cause = (cause.outside, cause.inside, cause.device)
@@ -217,7 +221,7 @@ pub record IsCaused (words : List (List ℕ)) (Device Source Sink_failed : Type 
   pub device : status ≡ 5 → Device
   pub streams : status ≡ 6 → Source ⊎ Sink_failed
 
-pub ends_caused : {O : Type 0} {o : sink.Ghosts O} {out out' : O} {words : List (List ℕ)} {Device Source : Type 0} {status : ℕ} (outcome : Outcome) → HasCause words Device Source (status_of outcome) → Ends o outcome status out out'
+pub ends_caused : {O : Type 0} {o : sink.Ghosts O} {out out' : O} {words : List (List ℕ)} {Device Source : Type 0} {status : ℕ} (outcome : Outcome) → HasCause words Device Source (status_of outcome) → PrintsOutcome o outcome status out out'
     → IsCaused words Device Source (Rose (o.faults out) (o.faults out')) status
 ends_caused outcome cause ends = elim ends.printed [
   | inl whole ↦ record {
@@ -231,3 +235,12 @@ ends_caused outcome cause ends = elim ends.printed [
     streams = λ six. inr cut.1;
   })
 ]
+
+-- so has the status of an answer that was printed
+module _ {S B O : Type 0} {g : store.Ghosts S} {h : base.Ghosts B} {o : sink.Ghosts O} {words : List (List ℕ)} {d : Devices S B} {out out' : O} where
+  pub answer_caused : {d' : Devices S B} {Source : Type 0} {status : ℕ} (outcome : Outcome) → Answers g h words d d' outcome → PrintsOutcome o outcome status out out' → IsCaused words (HaveFailed g h d d') Source (Rose (o.faults out) (o.faults out')) status
+  answer_caused {d'} outcome answers ends = ends_caused outcome (outcome_cause g h d d' outcome answers) ends
+
+  pub run_caused : {I : Type 0} {i : source.Ghosts I} {end : End S B} {source source' : I} (outcome : Outcome) → AsksRun words → RunEnds g h i d end source source' outcome → PrintsOutcome o outcome end.status out out'
+      → IsCaused words (HaveFailed g h d (devices end.store end.base)) (Rose (i.faults source) (i.faults source')) (Rose (o.faults out) (o.faults out')) end.status
+  run_caused outcome run ran ends = ends_caused outcome (run_cause outcome run ran) ends

@@ -1,15 +1,3 @@
-pub mod Statuses
-pub mod Outcomes
-pub mod Devices
-pub mod Streams
-pub mod Showing
-pub mod Making
-pub mod Writing
-pub mod Reopening
-pub mod Orders
-pub mod Running
+pub mod Asks
 pub mod Commands
 pub mod Tasks
-pub mod Ending
-pub mod Putting
-pub mod Images

@@ -3,37 +3,43 @@
 ghost use Rattle.std.specs.Prelude.{◌≡◌, ℕ, ◌<◌, ◌≤◌, ◌↔◌, ◌⊎◌, [], map, string_bytes, IfSome, IfNone, IsTrue, false, None, OnSome};
 ghost use Rattle.vd_format.specs.declared.header.Header.{Header as AnyHeader};
 ghost use Rattle.vd_format.specs.Layouts.{need_of};
-ghost use Rattle.vd_io.specs.Streams.{Rose};
-ghost use Rattle.vd_reading.specs.Quiet.{OnlyReads};
-ghost use Rattle.vd_top.specs.Devices.{devices, Leaves, HaveFailed};
-ghost use Rattle.vd_top.specs.Outcomes.{Outcome};
-ghost use Rattle.vd_top.specs.Making.{AsksFor, IsNoMake};
-ghost use Rattle.vd_top.specs.Commands.{Answers, HasNoRoomFor, IsDone, IsNoCommand, MakesWhatIsAsked};
-ghost use Rattle.vd_top.specs.Running.{AsksRun, IsNoRun};
-ghost use Rattle.vd_top.specs.Ending.{Ends};
+ghost use Rattle.vd_device.specs.Quiet.{OnlyReads};
+ghost use Rattle.vd_show.specs.Devices.{devices, Leaves, HaveFailed};
+ghost use Rattle.vd_report.specs.Outcomes.{Outcome};
+ghost use Rattle.vd_top.specs.Commands.{HasNoRoomFor, IsDone, MakesWhatIsAsked};
+ghost use Rattle.vd_report.specs.Ending.{PrintsOutcome};
 ghost use Rattle.vd_top.specs.Tasks.{IsTask};
+ghost use Rattle.vd_top.specs.Asks.{AsksFor, IsNoMake, IsNoRun, IsNoCommand};
+ghost use Rattle.vd_law.specs.Counts.{Rose};
 
-use crate::ending::End;
-use crate::making::make;
-use crate::printing::say;
-use crate::running::run;
-use crate::showing::show;
 use std::alloc::Global;
 use vd_command::Command;
-use vd_device::{Base, Store};
+use vd_device::{Base, Store, sectors_at_rest};
 use vd_header::{Header, layout_of};
 use vd_io::sink::Sink;
 use vd_io::source::Source;
-use vd_reading::sectors_at_rest;
+use vd_make::make;
 use vd_report::line::Line;
+use vd_report::printing::say;
+use vd_run::{End, run, unserved};
+use vd_show::show;
 
 /// What is to be done.
 #[derive(Clone, Copy, Drop)]
 enum Task {
     Show { first: u64, count: u64 },
     Make(Header),
+    /// A run of one guest, without copies and workers.
+    Run,
     /// The words are none of these.
     Nothing,
+}
+
+/// Whether a run is of one guest, without copies and workers.
+fn is_alone(guests: u32, workers: u32, copying: bool, limit: u32) -> bool
+    ensures { IsTrue result ↔ (guests ≡ 1) × (workers ≡ 0) × (copying ≡ false) × (limit ≡ 0) }
+{
+    guests == 1 && workers == 0 && !copying && limit == 0
 }
 
 /// What the words ask for, over a base of so many sectors.
@@ -59,34 +65,21 @@ fn task_of(words: &[String], base_sectors: u64) -> Task
                 tracked: base_sectors.min(size),
                 generation: 1,
             }),
-            _ => Task::Nothing,
-        },
-        None => Task::Nothing,
-    }
-}
-
-/// Whether a run is of one guest, without copies and workers.
-fn is_alone(guests: u32, workers: u32, copying: bool, limit: u32) -> bool
-    ensures { IsTrue result ↔ (guests ≡ 1) × (workers ≡ 0) × (copying ≡ false) × (limit ≡ 0) }
-{
-    guests == 1 && workers == 0 && !copying && limit == 0
-}
-
-/// Whether the words ask for such a run.
-fn is_run(words: &[String]) -> bool
-    ensures { IsTrue result ↔ AsksRun (map string_bytes words.now) }
-{
-    match Command::parse(words) {
-        Some(command) => match command {
             Command::Run {
                 guests,
                 workers,
                 copying,
                 limit,
-            } => is_alone(guests, workers, copying, limit),
-            _ => false,
+            } => {
+                if is_alone(guests, workers, copying, limit) {
+                    Task::Run
+                } else {
+                    Task::Nothing
+                }
+            }
+            _ => Task::Nothing,
         },
-        None => false,
+        None => Task::Nothing,
     }
 }
 
@@ -99,34 +92,8 @@ pub fn store_sectors(words: &[String]) -> Option<u64>
     match task_of(words, 0) {
         Task::Make(header) => Some(layout_of(&header).need),
         Task::Show { .. } => None,
+        Task::Run => None,
         Task::Nothing => None,
-    }
-}
-
-/// Does the command, prints its text and answers its status.
-fn obey<S: Store, B: Base, O: Sink>(
-    alloc: Global,
-    words: &[String],
-    out: &mut O,
-    store: &mut S,
-    base: &mut B,
-) -> u8
-    requires store_idle { S.flies store.old [] }
-    requires base_idle { B.flies base.old [] }
-    requires no_run { IsNoRun (map string_bytes words.now) }
-    ensures answer { (outcome : Outcome)
-        × Answers S.Store B.Base (map string_bytes words.now) (devices store.old base.old) (devices store.new base.new) outcome
-        × Ends O.Sink outcome result out.old out.new }
-    ensures makes { MakesWhatIsAsked S.Store B.Base (map string_bytes words.now) result (devices store.old base.old) (devices store.new base.new) }
-    ensures unwritten { HasNoRoomFor S.Store B.Base (map string_bytes words.now) (devices store.old base.old) → OnlyReads S.Store store.old store.new }
-    ensures leaves { Leaves S.Store B.Base (devices store.old base.old) (devices store.new base.new) }
-{
-    // For what its clause says alone: the store is ready.
-    let _sectors = sectors_at_rest(store);
-    match task_of(words, base.sectors()) {
-        Task::Show { first, count } => show(alloc, out, store, base, first, count),
-        Task::Make(header) => make(alloc, out, store, &header),
-        Task::Nothing => say(out, Line::BadWords),
     }
 }
 
@@ -151,15 +118,15 @@ pub fn still<S: Store, B: Base, I: Source, O: Sink>(
     mut store: S,
     mut base: B,
 ) -> End<S, B>
-    requires store_idle { S.flies store [] }
-    requires base_idle { B.flies base [] }
+    requires store_idle { S.flight store [] }
+    requires base_idle { B.flight base [] }
 
     // What was answered, how it was printed, and the status. A run is answered by one line, which says why no guest was served;
     // or by the report of a legal history, which is handed out, and of the image that it has left. Each ticket that the reopening
     // or a line that shows sectors names as a store fault has a Reply in the told log that isn't Ok, behind the serving.
     ensures answer { (outcome : Outcome)
         × IsDone S.Store B.Base I.Source (map string_bytes words.now) (devices store base) result trace.old trace.new outcome
-        × Ends O.Sink outcome result.status out.old out.new }
+        × PrintsOutcome O.Sink outcome result.status out.old out.new }
 
     // The causes of statuses.
     ensures outside { (result.status ≡ 2) ↔ IsNoCommand (map string_bytes words.now) }
@@ -177,14 +144,20 @@ pub fn still<S: Store, B: Base, I: Source, O: Sink>(
     // No other command reads the source or has a history.
     ensures alone { IsNoRun (map string_bytes words.now) → (trace.new ≡ trace.old) × (result.history ≡ None) }
 {
-    if is_run(words) {
-        return run(alloc, trace, out, store, base);
-    }
-    let status = obey(alloc, words, out, &mut store, &mut base);
-    End {
-        status,
-        store,
-        base,
-        history: None,
+    match task_of(words, base.sectors()) {
+        Task::Show { first, count } => {
+            let status = show(alloc, out, &mut store, &mut base, first, count);
+            unserved(status, store, base)
+        }
+        Task::Make(header) => {
+            let status = make(alloc, out, &mut store, &header);
+            unserved(status, store, base)
+        }
+        Task::Run => run(alloc, trace, out, store, base),
+        Task::Nothing => {
+            // For what its clause says alone: the store is ready.
+            let _sectors = sectors_at_rest(&store);
+            unserved(say(out, Line::BadWords), store, base)
+        }
     }
 }

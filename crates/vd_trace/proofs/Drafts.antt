@@ -14,9 +14,9 @@ use Rattle.vd_trace.specs.declared.line.Line.{Line}
 use Rattle.vd_trace.specs.declared.line.Line.TheVariants.{Nothing, Asks, Shows}
 use Rattle.vd_trace.specs.declared.line.Work.{Work}
 use Rattle.vd_trace.specs.declared.line.Work.TheVariants.{Read, Fill, Put, Flush}
-use Rattle.vd_trace.specs.Lines.{is_show, IsGood, IsWithin, SpellsWork, SpellsFields, fields, sectors_of, sectors_of_work}
+use Rattle.vd_trace.specs.Lines.{is_show, IsGood, KeepsLimits, SpellsWork, SpellsFields, fields, sectors_of, sectors_of_work}
 use Rattle.vd_trace.specs.Traces.{Asking, Showing, asking, showing, asks_in, shows_in, SpellsLines}
-use Rattle.vd_trace.specs.Keeping.{lists, work_of, sectors_in, asking_of, showing_of, HasItems, Keeps, SameItems, Adds, Counts, HasGuest, CanTake, IsRead, Stops}
+use Rattle.vd_trace.specs.Keeping.{lists, work_of, sectors_in, asking_of, showing_of, HasItems, KeepsLines, SameItems, AddsLine, CountsLine, HasGuest, CanTake, HasReadLines, Stops}
 use Rattle.vd_trace.specs.declared.error.TraceError.TheVariants.{Bad, TooMuch}
 use Rattle.vd_trace.proofs.Places.{items-push}
 
@@ -40,10 +40,10 @@ shows-cases n (Asks g w ∷ says) = shows-cases (n + 1) says
 shows-cases n (Shows f c ∷ says) = inl (refl, omega arith)
 
 pub spells-push : (guests : ℕ) (before : List Line) (lines : List (List ℕ)) (says : List Line) (line : List ℕ) (next : Line) → SpellsLines guests before lines says →
-    IsGood guests (before ++ says) line next → IsWithin (before ++ says) next → SpellsLines guests before (lines ++ line ∷ []) (says ++ next ∷ [])
+    IsGood guests (before ++ says) line next → KeepsLimits (before ++ says) next → SpellsLines guests before (lines ++ line ∷ []) (says ++ next ∷ [])
 spells-push guests before [] [] line next spelled good within =
     let same : before ++ [] ≡ before = append-nil before in
-    (subst (λ (b : List Line). IsGood guests b line next) same good, subst (λ (b : List Line). IsWithin b next) same within, tt)
+    (subst (λ (b : List Line). IsGood guests b line next) same good, subst (λ (b : List Line). KeepsLimits b next) same within, tt)
 spells-push guests before [] (s ∷ says) line next spelled good within = absurd spelled
 spells-push guests before (l ∷ lines) [] line next spelled good within = absurd spelled
 spells-push guests before (l ∷ lines) (s ∷ says) line next spelled good within =
@@ -51,7 +51,7 @@ spells-push guests before (l ∷ lines) (s ∷ says) line next spelled good with
       spelled.0,
       spelled.1,
       spells-push guests (before ++ s ∷ []) lines says line next spelled.2
-          (subst (λ (b : List Line). IsGood guests b line next) same good) (subst (λ (b : List Line). IsWithin b next) same within),
+          (subst (λ (b : List Line). IsGood guests b line next) same good) (subst (λ (b : List Line). KeepsLimits b next) same within),
     )
 
 pub spells-length : (guests : ℕ) (before : List Line) (lines : List (List ℕ)) (says : List Line) → SpellsLines guests before lines says → length lines ≡ length says
@@ -77,7 +77,7 @@ has-guest guests before line Nothing good = tt
 has-guest guests before line (Asks g w) good = guest-in guests (fields line) g w good.spells
 has-guest guests before line (Shows f c) good = tt
 
-pub can-take : (ms : List Line) (draft : Draft) (says : Line) → Keeps ms draft → HasGuest draft.guests says → IsWithin ms says → CanTake says draft
+pub can-take : (ms : List Line) (draft : Draft) (says : Line) → KeepsLines ms draft → HasGuest draft.guests says → KeepsLimits ms says → CanTake says draft
 can-take ms draft says keeps guest within = record {
   items = omega (arith, keeps.items_few, within.lines);
   sectors = omega (arith, keeps.sectors_few, keeps.small);
@@ -94,7 +94,7 @@ same-items : (guests : ℕ) (old new : Draft) (asks : List Asking) → SameItems
     HasItems guests new.sectors.items new.items.items (lists new.places.items) asks
 same-items guests old new asks same has = rw (same.sectors, same.items, same.places) has
 
-keeps-items : (ms : List Line) (next : Line) (old new : Draft) → Keeps ms old → HasGuest old.guests next → Adds next old new →
+keeps-items : (ms : List Line) (next : Line) (old new : Draft) → KeepsLines ms old → HasGuest old.guests next → AddsLine next old new →
     HasItems old.guests new.sectors.items new.items.items (lists new.places.items) (asks_in (ms ++ next ∷ []))
 keeps-items ms Nothing old new keeps guest adds =
     rw (numbered asking ms Nothing, append-nil (asks_in ms)) (same-items old.guests old new (asks_in ms) adds.0 keeps.items)
@@ -110,7 +110,7 @@ keeps-items ms (Asks g w) old new keeps guest adds =
 keeps-items ms (Shows f c) old new keeps guest adds =
     rw (numbered asking ms (Shows f c), append-nil (asks_in ms)) (same-items old.guests old new (asks_in ms) adds.0 keeps.items)
 
-keeps-shows : (ms : List Line) (next : Line) (old new : Draft) → Keeps ms old → Adds next old new → map showing_of new.shows.items ≡ shows_in (ms ++ next ∷ [])
+keeps-shows : (ms : List Line) (next : Line) (old new : Draft) → KeepsLines ms old → AddsLine next old new → map showing_of new.shows.items ≡ shows_in (ms ++ next ∷ [])
 keeps-shows ms Nothing old new keeps adds = rw (numbered showing ms Nothing, append-nil (shows_in ms), adds.1) keeps.shows
 keeps-shows ms (Asks g w) old new keeps adds = rw (numbered showing ms (Asks g w), append-nil (shows_in ms), adds.1) keeps.shows
 keeps-shows ms (Shows f c) old new keeps adds =
@@ -120,7 +120,7 @@ keeps-shows ms (Shows f c) old new keeps adds =
     rw (numbered showing ms (Shows f c), adds.1, ← shown)
     (map-append showing_of old.shows.items (last ∷ []) ∙ ap (λ (front : List Showing). front ++ showing_of last ∷ []) keeps.shows)
 
-keeps-few : (ms : List Line) (next : Line) (old new : Draft) → Keeps ms old → Adds next old new →
+keeps-few : (ms : List Line) (next : Line) (old new : Draft) → KeepsLines ms old → AddsLine next old new →
     (length new.items.items ≤ length ms + 1) × (length new.sectors.items ≤ sum_by sectors_of ms + sectors_of next) × (sum_by (λ i. sectors_in i.work) new.items.items ≤ sum_by sectors_of ms + sectors_of next)
 keeps-few ms Nothing old new keeps adds = (omega (arith, ap length adds.0.items, keeps.items_few), omega (arith, ap length adds.0.sectors, keeps.sectors_few), rw adds.0.items (omega (arith, keeps.asked_few)))
 keeps-few ms (Asks g w) old new keeps adds = (
@@ -130,7 +130,7 @@ keeps-few ms (Asks g w) old new keeps adds = (
 )
 keeps-few ms (Shows f c) old new keeps adds = (omega (arith, ap length adds.0.items, keeps.items_few), omega (arith, ap length adds.0.sectors, keeps.sectors_few), rw adds.0.items (omega (arith, keeps.asked_few)))
 
-pub keeps-more : (ms : List Line) (next : Line) (old new : Draft) → Keeps ms old → IsWithin ms next → HasGuest old.guests next → Counts next old new → Keeps (ms ++ next ∷ []) new
+pub keeps-more : (ms : List Line) (next : Line) (old new : Draft) → KeepsLines ms old → KeepsLimits ms next → HasGuest old.guests next → CountsLine next old new → KeepsLines (ms ++ next ∷ []) new
 keeps-more ms next old new keeps within guest counts =
     let lines : length (ms ++ next ∷ []) ≡ length ms + 1 = length-append ms (next ∷ []) in
     let total : sum_by sectors_of (ms ++ next ∷ []) ≡ sum_by sectors_of ms + sectors_of next = sum_by_push sectors_of ms next in
@@ -148,7 +148,7 @@ keeps-more ms next old new keeps within guest counts =
     }
 
 -- whether some line showed is seen from what is kept
-pub shown-now : (ms : List Line) (draft : Draft) (none : Bool) → Keeps ms draft → none ≡ eqb (vec_len draft.shows) 0 → list_any is_show ms ≡ not none
+pub shown-now : (ms : List Line) (draft : Draft) (none : Bool) → KeepsLines ms draft → none ≡ eqb (vec_len draft.shows) 0 → list_any is_show ms ≡ not none
 shown-now ms draft none keeps is = by (shows-cases 1 ms) where
   count : vec_len draft.shows ≡ length (shows_in ms)
   count = omega (arith, draft.shows.ok.0, sym (length-map draft.shows.items showing_of) ∙ ap length keeps.shows)
@@ -159,12 +159,12 @@ shown-now ms draft none keeps is = by (shows-cases 1 ms) where
 
 -- The three ways in which a line is taken.
 
-pub stops-bad : (done : List (List ℕ)) (draft : Draft) (line : List ℕ) (number : ℕ) → IsRead done draft → number ≡ draft.lines →
-    ((ms : List Line) → Keeps ms draft → (says : Line) → ¬ (IsGood draft.guests ms line says)) → Stops draft.guests done line (Bad (number + 1))
+pub stops-bad : (done : List (List ℕ)) (draft : Draft) (line : List ℕ) (number : ℕ) → HasReadLines done draft → number ≡ draft.lines →
+    ((ms : List Line) → KeepsLines ms draft → (says : Line) → ¬ (IsGood draft.guests ms line says)) → Stops draft.guests done line (Bad (number + 1))
 stops-bad done draft line number read is bad = (read.says, read.spelled, ap (λ (n : ℕ). n + 1) (is ∙ read.kept.lines), bad read.says read.kept)
 
-pub stops-much : (done : List (List ℕ)) (draft : Draft) (line : List ℕ) (number : ℕ) (says : Line) → IsRead done draft → number ≡ draft.lines →
-    ((ms : List Line) → Keeps ms draft → IsGood draft.guests ms line says) → ¬ ((draft.lines < 500000) × (draft.total + sectors_of says ≤ 262144)) → Stops draft.guests done line (TooMuch (number + 1))
+pub stops-much : (done : List (List ℕ)) (draft : Draft) (line : List ℕ) (number : ℕ) (says : Line) → HasReadLines done draft → number ≡ draft.lines →
+    ((ms : List Line) → KeepsLines ms draft → IsGood draft.guests ms line says) → ¬ ((draft.lines < 500000) × (draft.total + sectors_of says ≤ 262144)) → Stops draft.guests done line (TooMuch (number + 1))
 stops-much done draft line number says read is good much = (
   read.says,
   read.spelled,
@@ -174,10 +174,10 @@ stops-much done draft line number says read is good much = (
   λ within. much (omega (arith, within.lines, read.kept.lines), omega (arith, within.sectors, read.kept.total)),
 )
 
-pub read-more : (done : List (List ℕ)) (old new : Draft) (line : List ℕ) (says : Line) → IsRead done old → ((ms : List Line) → Keeps ms old → IsGood old.guests ms line says) →
-    old.lines < 500000 → old.total + sectors_of says ≤ 262144 → Counts says old new → IsRead (done ++ line ∷ []) new
+pub read-more : (done : List (List ℕ)) (old new : Draft) (line : List ℕ) (says : Line) → HasReadLines done old → ((ms : List Line) → KeepsLines ms old → IsGood old.guests ms line says) →
+    old.lines < 500000 → old.total + sectors_of says ≤ 262144 → CountsLine says old new → HasReadLines (done ++ line ∷ []) new
 read-more done old new line says read good lines sectors counts =
-    let within : IsWithin read.says says = record { lines = omega (arith, lines, read.kept.lines); sectors = omega (arith, sectors, read.kept.total) } in
+    let within : KeepsLimits read.says says = record { lines = omega (arith, lines, read.kept.lines); sectors = omega (arith, sectors, read.kept.total) } in
     let fine = good read.says read.kept in
     record {
       says = read.says ++ says ∷ [];
@@ -185,7 +185,7 @@ read-more done old new line says read good lines sectors counts =
       kept = keeps-more read.says says old new read.kept within (has-guest old.guests read.says line says fine) counts;
     }
 
-pub taken-next : (done : List (List ℕ)) (draft : Draft) (line : List ℕ) (says : Line) → IsRead done draft → ((ms : List Line) → Keeps ms draft → IsGood draft.guests ms line says) →
+pub taken-next : (done : List (List ℕ)) (draft : Draft) (line : List ℕ) (says : Line) → HasReadLines done draft → ((ms : List Line) → KeepsLines ms draft → IsGood draft.guests ms line says) →
     draft.lines < 500000 → draft.total + sectors_of says ≤ 262144 → CanTake says draft
 taken-next done draft line says read good lines sectors =
     can-take read.says draft says read.kept (has-guest draft.guests read.says line says (good read.says read.kept)) (record { lines = omega (arith, lines, read.kept.lines); sectors = omega (arith, sectors, read.kept.total) })

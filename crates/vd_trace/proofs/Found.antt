@@ -8,10 +8,10 @@ use Rattle.vd_trace.specs.declared.trace.Trace.TheInside.{Inside}
 use Rattle.vd_law.specs.declared.entry.Sector.{Sector}
 use Rattle.vd_law.specs.Entries as law
 use Rattle.vd_trace.specs.declared.kept.Item.{Item}
-use Rattle.vd_trace.specs.Traces.{Script, script, asked_of}
+use Rattle.vd_trace.specs.Traces.{Script, script, work_asked}
 use Rattle.vd_trace.specs.TraceFields.{script_in, IsTrace}
 use Rattle.vd_trace.specs.declared.kept.Shown.{Shown}
-use Rattle.vd_trace.specs.Texts.{asking_line, showing_line, IsRange, IsRequest, IsLine}
+use Rattle.vd_trace.specs.Texts.{asking_line, showing_line, IsRangeOfLine, IsRequest, IsLine}
 use Rattle.vd_trace.specs.Keeping.{positions, work_of, asking_of, showing_of}
 use Rattle.vd_trace.proofs.Rooms.{front, behind}
 use Rattle.vd_trace.proofs.Requests.{own-places, length-positions, inside-where-some, positions-at, IsPlaced}
@@ -41,10 +41,10 @@ some-of t now guest at is some = subst (λ (s : Script). at < length (script s g
 
 -- what is handed out of its item
 pub handed-out : (t : Inside) (now : Script) (guest at place : ℕ) (item : Item) (asked : law.Asked) → script_in t ≡ now → IsPlaced t.sectors.items t.items.items place (slice_get (script (script_in t) guest) at) →
-    item ≡ get_or t.items.items place item → (sectors : List Sector) → sectors ≡ t.sectors.items → asked ≡ asked_of (work_of sectors item.work) → slice_get (script now guest) at ≡ Some asked
+    item ≡ get_or t.items.items place item → (sectors : List Sector) → sectors ≡ t.sectors.items → asked ≡ work_asked (work_of sectors item.work) → slice_get (script now guest) at ≡ Some asked
 handed-out t now guest at place item asked is placed found sectors same out =
     subst (λ (s : Script). slice_get (script s guest) at ≡ Some asked) is
-    (placed.told item ∙ ap Some (ap (λ (i : Item). asked_of (work_of t.sectors.items i.work)) (sym found) ∙ ap (λ (own : List Sector). asked_of (work_of own item.work)) (sym same) ∙ sym out))
+    (placed.told item ∙ ap Some (ap (λ (i : Item). work_asked (work_of t.sectors.items i.work)) (sym found) ∙ ap (λ (own : List Sector). work_asked (work_of own item.work)) (sym same) ∙ sym out))
 
 -- each item asks for a range of its own, and each line that shows has one
 
@@ -61,7 +61,7 @@ request-ranged t place item is inside found sectors same =
     let line : IsLine guests (asking_line (own item)) = subst (IsLine guests) which here in
     subst (λ (s : List Sector). IsRequest (work_of s item.work)) (sym same) line.3
 
-pub shown-ranged : (t : Inside) (place : ℕ) (shown : Shown) → IsTrace t → place < length t.shows.items → shown ≡ get_or t.shows.items place shown → IsRange shown.first shown.count
+pub shown-ranged : (t : Inside) (place : ℕ) (shown : Shown) → IsTrace t → place < length t.shows.items → shown ≡ get_or t.shows.items place shown → IsRangeOfLine shown.first shown.count
 shown-ranged t place shown is inside found =
     let guests = length t.places.items in
     let asks = map asking_line (map (asking_of t.sectors.items) t.items.items) in

@@ -15,8 +15,8 @@ use Rattle.vd_trace.specs.declared.line.Line.{Line}
 use Rattle.vd_trace.specs.declared.line.Line.TheVariants.{Nothing, Asks, Shows}
 use Rattle.vd_trace.specs.declared.line.Work.{Work}
 use Rattle.vd_trace.specs.declared.line.Work.TheVariants.{Read, Fill, Put, Flush}
-use Rattle.vd_trace.specs.LineReading.{ranged_in, guest_in, count_in, first_byte, byte_in, as_sector, sector_in, work_in, show_in, fields_in, line_in, may_follow}
-use Rattle.vd_trace.specs.Lines.{IsNumber, IsGuest, AreDigits, SpellsWork, SpellsFields, SpellsLine, fields, is_show, InOrder, IsGood}
+use Rattle.vd_trace.specs.LineReading.{ranged_in, guest_in, count_of_field, first_byte, byte_in, as_sector, sector_of_field, work_in, show_in, line_of_fields, line_in, may_follow}
+use Rattle.vd_trace.specs.Lines.{IsNumber, IsGuest, AreHexDigits, SpellsWork, SpellsFields, SpellsLine, fields, is_show, InOrder, IsGood}
 
 -- a step that found something
 found : {A B : Type 0} (f : A → Option B) (o : Option A) (y : B) → option_and_then f o ≡ Some y → (x : A) × (o ≡ Some x) × (f x ≡ Some y)
@@ -50,7 +50,7 @@ none : (bytes : List ℕ) → length bytes ≡ 0 → bytes ≡ []
 none [] e = refl
 none (b ∷ bytes) e = absurd (omega arith)
 
-byte-exact : (field : List ℕ) (b : ℕ) → (byte_in field ≡ Some b) ↔ AreDigits 2 field (b ∷ [])
+byte-exact : (field : List ℕ) (b : ℕ) → (byte_in field ≡ Some b) ↔ AreHexDigits 2 field (b ∷ [])
 byte-exact field b = (
   λ e.
       let first = first_byte-some (decode_sized field 1) b e in
@@ -65,7 +65,7 @@ as_sector-some : (r : Result (List ℕ) FromHexError) (s : Sector) → as_sector
 as_sector-some (Ok bytes) s e = let same : record { bytes = bytes } ≡ s = cc in ap (λ (t : Sector). Ok t.bytes) same
 as_sector-some (Err f) s e = cc
 
-sector-exact : (field : List ℕ) (s : Sector) → (sector_in field ≡ Some s) ↔ AreDigits 1024 field s.bytes
+sector-exact : (field : List ℕ) (s : Sector) → (sector_of_field field ≡ Some s) ↔ AreHexDigits 1024 field s.bytes
 sector-exact field s = (
   λ e.
       let told = as_sector-some (decode_sized field 512) s e in
@@ -79,27 +79,27 @@ is_kind field kind e = (bytes_eq-Decides field kind).0 e
 
 -- the fields behind the guest
 
-read-from : (first last : List ℕ) (w : Work) → option_and_then (λ f. option_and_then (λ c. Some (Read f c)) (count_in last)) (number_in 10 first) ≡ Some w →
+read-from : (first last : List ℕ) (w : Work) → option_and_then (λ f. option_and_then (λ c. Some (Read f c)) (count_of_field last)) (number_in 10 first) ≡ Some w →
     (kind : List ℕ) → kind ≡ codes "R" → SpellsWork (kind ∷ first ∷ last ∷ []) w
 read-from first last w e kind is =
     let f = found _ (number_in 10 first) w e in
-    let c = found _ (count_in last) w f.2 in
+    let c = found _ (count_of_field last) w f.2 in
     let same : Read f.0 c.0 ≡ w = cc in
     subst (SpellsWork (kind ∷ first ∷ last ∷ [])) same (is, (number_in-exact 10 first f.0).0 f.1, (ranged-exact 1 2048 last c.0).0 c.1)
 
-put-from : (first last : List ℕ) (w : Work) → option_and_then (λ f. option_and_then (λ s. Some (Put f s)) (sector_in last)) (number_in 10 first) ≡ Some w →
+put-from : (first last : List ℕ) (w : Work) → option_and_then (λ f. option_and_then (λ s. Some (Put f s)) (sector_of_field last)) (number_in 10 first) ≡ Some w →
     (kind : List ℕ) → kind ≡ codes "X" → SpellsWork (kind ∷ first ∷ last ∷ []) w
 put-from first last w e kind is =
     let f = found _ (number_in 10 first) w e in
-    let s = found _ (sector_in last) w f.2 in
+    let s = found _ (sector_of_field last) w f.2 in
     let same : Put f.0 s.0 ≡ w = cc in
     subst (SpellsWork (kind ∷ first ∷ last ∷ [])) same (is, (number_in-exact 10 first f.0).0 f.1, (sector-exact last s.0).0 s.1)
 
-fill-from : (first count byte : List ℕ) (w : Work) → option_and_then (λ f. option_and_then (λ c. option_and_then (λ b. Some (Fill f c b)) (byte_in byte)) (count_in count)) (number_in 10 first) ≡ Some w →
+fill-from : (first count byte : List ℕ) (w : Work) → option_and_then (λ f. option_and_then (λ c. option_and_then (λ b. Some (Fill f c b)) (byte_in byte)) (count_of_field count)) (number_in 10 first) ≡ Some w →
     (kind : List ℕ) → kind ≡ codes "W" → SpellsWork (kind ∷ first ∷ count ∷ byte ∷ []) w
 fill-from first count byte w e kind is =
     let f = found _ (number_in 10 first) w e in
-    let c = found _ (count_in count) w f.2 in
+    let c = found _ (count_of_field count) w f.2 in
     let b = found _ (byte_in byte) w c.2 in
     let same : Fill f.0 c.0 b.0 ≡ w = cc in
     subst (SpellsWork (kind ∷ first ∷ count ∷ byte ∷ [])) same (is, (number_in-exact 10 first f.0).0 f.1, (ranged-exact 1 2048 count c.0).0 c.1, (byte-exact byte b.0).0 b.1)
@@ -113,14 +113,14 @@ work-from (kind ∷ []) w e = by (bytes_eq kind (codes "F")) refl e where
 work-from (kind ∷ first ∷ []) w e = cc
 work-from (kind ∷ first ∷ last ∷ []) w e = by (bytes_eq kind (codes "R")) (bytes_eq kind (codes "X")) refl refl e where
   by : (b d : Bool) → bytes_eq kind (codes "R") ≡ b → bytes_eq kind (codes "X") ≡ d →
-      (if b then option_and_then (λ f. option_and_then (λ c. Some (Read f c)) (count_in last)) (number_in 10 first)
-      else if d then option_and_then (λ f. option_and_then (λ s. Some (Put f s)) (sector_in last)) (number_in 10 first) else None) ≡ Some w → SpellsWork (kind ∷ first ∷ last ∷ []) w
+      (if b then option_and_then (λ f. option_and_then (λ c. Some (Read f c)) (count_of_field last)) (number_in 10 first)
+      else if d then option_and_then (λ f. option_and_then (λ s. Some (Put f s)) (sector_of_field last)) (number_in 10 first) else None) ≡ Some w → SpellsWork (kind ∷ first ∷ last ∷ []) w
   by true d is is' e = read-from first last w e kind (is_kind kind (codes "R") is)
   by false true is is' e = put-from first last w e kind (is_kind kind (codes "X") is')
   by false false is is' e = cc
 work-from (kind ∷ first ∷ count ∷ byte ∷ []) w e = by (bytes_eq kind (codes "W")) refl e where
   by : (b : Bool) → bytes_eq kind (codes "W") ≡ b →
-      (if b then option_and_then (λ f. option_and_then (λ c. option_and_then (λ b. Some (Fill f c b)) (byte_in byte)) (count_in count)) (number_in 10 first) else None) ≡ Some w →
+      (if b then option_and_then (λ f. option_and_then (λ c. option_and_then (λ b. Some (Fill f c b)) (byte_in byte)) (count_of_field count)) (number_in 10 first) else None) ≡ Some w →
       SpellsWork (kind ∷ first ∷ count ∷ byte ∷ []) w
   by true is e = fill-from first count byte w e kind (is_kind kind (codes "W") is)
   by false is e = cc
@@ -137,11 +137,11 @@ work-to _ _ s = absurd s
 
 show-from : (guests : ℕ) (kind first count : List ℕ) (says : Line) → show_in kind first count ≡ Some says → SpellsFields guests (kind ∷ first ∷ count ∷ []) says
 show-from guests kind first count says e = by (bytes_eq kind (codes "S")) refl e where
-  by : (b : Bool) → bytes_eq kind (codes "S") ≡ b → (if b then option_and_then (λ f. option_and_then (λ c. Some (Shows f c)) (count_in count)) (number_in 10 first) else None) ≡ Some says →
+  by : (b : Bool) → bytes_eq kind (codes "S") ≡ b → (if b then option_and_then (λ f. option_and_then (λ c. Some (Shows f c)) (count_of_field count)) (number_in 10 first) else None) ≡ Some says →
       SpellsFields guests (kind ∷ first ∷ count ∷ []) says
   by true is e =
       let f = found _ (number_in 10 first) says e in
-      let c = found _ (count_in count) says f.2 in
+      let c = found _ (count_of_field count) says f.2 in
       let same : Shows f.0 c.0 ≡ says = cc in
       subst (SpellsFields guests (kind ∷ first ∷ count ∷ [])) same (is_kind kind (codes "S") is, (number_in-exact 10 first f.0).0 f.1, (ranged-exact 1 2048 count c.0).0 c.1)
   by false is e = cc
@@ -154,7 +154,7 @@ asks-from guests guest more says e =
     let same : Asks g.0 w.0 ≡ says = cc in
     subst (SpellsFields guests (guest ∷ more)) same ((ranged-exact 1 guests guest g.0).0 g.1, work-from more w.0 w.1)
 
-fields-from : (guests : ℕ) (fs : List (List ℕ)) (says : Line) → fields_in guests fs ≡ Some says → SpellsFields guests fs says
+fields-from : (guests : ℕ) (fs : List (List ℕ)) (says : Line) → line_of_fields guests fs ≡ Some says → SpellsFields guests fs says
 fields-from guests [] says e = cc
 fields-from guests (guest ∷ []) says e = asks-from guests guest [] says e
 fields-from guests (guest ∷ a ∷ []) says e = asks-from guests guest (a ∷ []) says e
@@ -165,7 +165,7 @@ asks-to : (guests : ℕ) (guest : List ℕ) (more : List (List ℕ)) (g : ℕ) (
     option_and_then (λ g. option_and_then (λ w. Some (Asks g w)) (work_in more)) (guest_in guests guest) ≡ Some (Asks g w)
 asks-to guests guest more g w is spells = rw ((ranged-exact 1 guests guest g).1 is, work-to more w spells) refl
 
-fields-to : (guests : ℕ) (fs : List (List ℕ)) (says : Line) → SpellsFields guests fs says → fields_in guests fs ≡ Some says
+fields-to : (guests : ℕ) (fs : List (List ℕ)) (says : Line) → SpellsFields guests fs says → line_of_fields guests fs ≡ Some says
 fields-to guests _ Nothing s = absurd s
 fields-to guests (guest ∷ []) (Asks g w) s = asks-to guests guest [] g w s.0 s.1
 fields-to guests (guest ∷ a ∷ []) (Asks g w) s = asks-to guests guest (a ∷ []) g w s.0 s.1
@@ -210,7 +210,7 @@ silent-line guests b line Nothing is s = refl
 silent-line guests b line (Asks g w) is s = absurd (silent-none guests (fields line) (Asks g w) (subst (λ (x : ℕ). SpellsFields guests (fields (x ∷ line)) (Asks g w)) is s))
 silent-line guests b line (Shows f c) is s = absurd (silent-none guests (fields line) (Shows f c) (subst (λ (x : ℕ). SpellsFields guests (fields (x ∷ line)) (Shows f c)) is s))
 
-spoken-line : (guests b : ℕ) (line : List ℕ) (says : Line) → (b ≡ 35 → ⊥) → SpellsLine guests (b ∷ line) says → fields_in guests (fields (b ∷ line)) ≡ Some says
+spoken-line : (guests b : ℕ) (line : List ℕ) (says : Line) → (b ≡ 35 → ⊥) → SpellsLine guests (b ∷ line) says → line_of_fields guests (fields (b ∷ line)) ≡ Some says
 spoken-line guests b line Nothing not s = absurd (not s)
 spoken-line guests b line (Asks g w) not s = fields-to guests (fields (b ∷ line)) (Asks g w) s
 spoken-line guests b line (Shows f c) not s = fields-to guests (fields (b ∷ line)) (Shows f c) s
@@ -224,7 +224,7 @@ empty-line guests (Shows f c) s = absurd s
 pub line-exact : (guests : ℕ) (line : List ℕ) (says : Line) → (line_in guests line ≡ Some says) ↔ SpellsLine guests line says
 line-exact guests [] says = (λ e. let same : Nothing ≡ says = cc in subst (SpellsLine guests []) same tt, empty-line guests says)
 line-exact guests (b ∷ line) says = by (eqb b 35) refl where
-  by : (d : Bool) → eqb b 35 ≡ d → ((if d then Some Nothing else fields_in guests (fields (b ∷ line))) ≡ Some says) ↔ SpellsLine guests (b ∷ line) says
+  by : (d : Bool) → eqb b 35 ≡ d → ((if d then Some Nothing else line_of_fields guests (fields (b ∷ line))) ≡ Some says) ↔ SpellsLine guests (b ∷ line) says
   by true is = (
     λ e. let same : Nothing ≡ says = cc in subst (SpellsLine guests (b ∷ line)) same (eqb-true b 35 is),
     silent-line guests b line says (eqb-true b 35 is),

@@ -12,7 +12,7 @@ use Rattle.vd_trace.specs.declared.kept.Stored.TheVariants.{Read, Fill, Put, Flu
 use Rattle.vd_trace.specs.declared.kept.Item.{Item}
 use Rattle.vd_trace.specs.declared.line.Work.TheVariants as work
 use Rattle.vd_trace.specs.Traces.{Asking}
-use Rattle.vd_trace.specs.Keeping.{lists, PutsAt, positions, work_of, IsStored, sectors_in, asking_of, HasItems}
+use Rattle.vd_trace.specs.Keeping.{lists, PutsAt, positions, work_of, HasSectorAmong, sectors_in, asking_of, HasItems}
 
 pub puts-at : (index at : ℕ) (old : List (Vec ℕ Global)) (own own' : Vec ℕ Global) → index < length old → own ≡ get_or old index own → own'.items ≡ own.items ++ at ∷ [] → PutsAt index at old (slice_set old index own')
 puts-at index at old own own' inside is pushed =
@@ -40,20 +40,20 @@ positions-push guest from (x ∷ items) item =
     by false more = more
 
 -- more sectors at the end change nothing that is stored
-work_of-more : (sectors more : List Sector) (stored : Stored) → IsStored (length sectors) stored → work_of (sectors ++ more) stored ≡ work_of sectors stored
+work_of-more : (sectors more : List Sector) (stored : Stored) → HasSectorAmong (length sectors) stored → work_of (sectors ++ more) stored ≡ work_of sectors stored
 work_of-more sectors more (Read f c) is = refl
 work_of-more sectors more (Fill f c b) is = refl
 work_of-more sectors more (Put f place) is = ap (λ (s : Sector). work.Put f s) (get_or_append_left sectors more _ place is)
 work_of-more sectors more Flush is = refl
 
-asking-more : (sectors more : List Sector) (items : List Item) → All (λ item. IsStored (length sectors) item.work) items → map (asking_of (sectors ++ more)) items ≡ map (asking_of sectors) items
+asking-more : (sectors more : List Sector) (items : List Item) → All (λ item. HasSectorAmong (length sectors) item.work) items → map (asking_of (sectors ++ more)) items ≡ map (asking_of sectors) items
 asking-more sectors more [] all = refl
 asking-more sectors more (item ∷ items) all =
-    let P : Item → Type 0 = λ (i : Item). IsStored (length sectors) i.work in
+    let P : Item → Type 0 = λ (i : Item). HasSectorAmong (length sectors) i.work in
     let first = work_of-more sectors more item.work (All-head P item items all) in
     let rest = asking-more sectors more items (All-tail P item items all) in cc
 
-stored-more : (many many' : ℕ) (stored : Stored) → many ≤ many' → IsStored many stored → IsStored many' stored
+stored-more : (many many' : ℕ) (stored : Stored) → many ≤ many' → HasSectorAmong many stored → HasSectorAmong many' stored
 stored-more many many' (Read f c) le is = tt
 stored-more many many' (Fill f c b) le is = tt
 stored-more many many' (Put f place) le is = omega arith
@@ -82,13 +82,13 @@ placed-push guests items item old new many low high placed is k inside =
         rw (not_own, append-nil (positions (k + 1) 0 items), get_or-set_other old (item.guest - 1) k (get_or old (item.guest - 1) [] ++ length items ∷ []) [] other) (placed k inside)
 
 pub items-push : (guests : ℕ) (sectors sectors' : List Sector) (items : List Item) (item : Item) (places places' : List (List ℕ)) (asks : List Asking) →
-    HasItems guests sectors items places asks → (more : List Sector) → sectors' ≡ sectors ++ more → IsStored (length sectors') item.work → 1 ≤ item.guest → item.guest ≤ guests → sectors_in item.work ≤ 2048 →
+    HasItems guests sectors items places asks → (more : List Sector) → sectors' ≡ sectors ++ more → HasSectorAmong (length sectors') item.work → 1 ≤ item.guest → item.guest ≤ guests → sectors_in item.work ≤ 2048 →
     places' ≡ slice_set places (item.guest - 1) (get_or places (item.guest - 1) [] ++ length items ∷ []) →
     HasItems guests sectors' (items ++ item ∷ []) places' (asks ++ asking_of sectors' item ∷ [])
 items-push guests sectors sectors' items item places places' asks has more grown inside low high size put =
     let longer : length sectors ≤ length sectors' = omega (arith, ap length grown, length-append sectors more) in
-    let InOld : Item → Type 0 = λ (i : Item). IsStored (length sectors) i.work in
-    let InNew : Item → Type 0 = λ (i : Item). IsStored (length sectors') i.work in
+    let InOld : Item → Type 0 = λ (i : Item). HasSectorAmong (length sectors) i.work in
+    let InNew : Item → Type 0 = λ (i : Item). HasSectorAmong (length sectors') i.work in
     let InRange : Item → Type 0 = λ (i : Item). (1 ≤ i.guest) × (i.guest ≤ guests) in
     record {
       told = map-append (asking_of sectors') items (item ∷ [])

@@ -12,7 +12,7 @@ use Rattle.vd_trace.specs.declared.line.Line.{Line}
 use Rattle.vd_trace.specs.declared.error.TraceError.{TraceError}
 use Rattle.vd_trace.specs.declared.error.TraceError.TheVariants.{Bad, TooMuch, Source, NoMemory}
 use Rattle.vd_trace.specs.Traces.{SpellsLines, GoesTo}
-use Rattle.vd_trace.specs.Keeping.{IsRead, Stops}
+use Rattle.vd_trace.specs.Keeping.{HasReadLines, Stops}
 use Rattle.vd_trace.specs.Streaming.{StandsAt, EndsBy}
 use Rattle.vd_trace.proofs.Drafts.{spells-length}
 use Rattle.vd_trace.proofs.Splitting.{parted, unmet, cut-none}
@@ -100,7 +100,7 @@ stops-ends guests all done line more told NoMemory is stops = tt
 
 -- a line was taken
 pub took-line : (all : List (List ℕ)) (told : Type 0) (w w' r line : List ℕ) (i : ℕ) (old new : Draft) → StandsAt all told (w ++ r) old → IsFirstByte (is_byte 10) w (Some i) →
-    line ≡ strip_carriage_return (take i w) → w' ≡ drop (i + 1) w → ((done : List (List ℕ)) → IsRead done old → IsRead (done ++ line ∷ []) new) → StandsAt all told (w' ++ r) new
+    line ≡ strip_carriage_return (take i w) → w' ≡ drop (i + 1) w → ((done : List (List ℕ)) → HasReadLines done old → HasReadLines (done ++ line ∷ []) new) → StandsAt all told (w' ++ r) new
 took-line all told w w' r line i old new stands first is left reads = record {
   done = stands.done ++ line ∷ [];
   read = reads stands.done stands.read;
@@ -110,7 +110,7 @@ took-line all told w w' r line i old new stands first is left reads = record {
 
 -- a line was not taken
 pub refused-line : (all : List (List ℕ)) (told : Type 0) (w r line : List ℕ) (i : ℕ) (draft : Draft) (e : TraceError) → StandsAt all told (w ++ r) draft → IsFirstByte (is_byte 10) w (Some i) →
-    line ≡ strip_carriage_return (take i w) → ((done : List (List ℕ)) → IsRead done draft → Stops draft.guests done line e) → EndsBy draft.guests all told e
+    line ≡ strip_carriage_return (take i w) → ((done : List (List ℕ)) → HasReadLines done draft → Stops draft.guests done line e) → EndsBy draft.guests all told e
 refused-line all told w r line i draft e stands first is stops =
     stops-ends draft.guests all stands.done line (lines (drop (i + 1) w ++ r)) told e
     (λ now. stands.rest now ∙ ap (λ (more : List (List ℕ)). stands.done ++ more) (lines-cut w r i first ∙ ap (λ (l : List ℕ). l ∷ lines (drop (i + 1) w ++ r)) (sym is)))
@@ -135,7 +135,7 @@ no_bytes [] e = refl
 no_bytes (b ∷ w) e = absurd (omega arith)
 
 -- nothing is left
-pub all-read : (all : List (List ℕ)) (told : Type 0) (w r : List ℕ) (draft : Draft) → StandsAt all told (w ++ r) draft → told → r ≡ [] → length w ≡ 0 → IsRead all draft
+pub all-read : (all : List (List ℕ)) (told : Type 0) (w r : List ℕ) (draft : Draft) → StandsAt all told (w ++ r) draft → told → r ≡ [] → length w ≡ 0 → HasReadLines all draft
 all-read all told w r draft stands now none empty =
     let whole : all ≡ stands.done = stands.rest now ∙ ap (λ (bs : List ℕ). stands.done ++ lines (bs ++ r)) (no_bytes w empty) ∙ ap (λ (bs : List ℕ). stands.done ++ lines bs) none ∙ append-nil stands.done in
     rw whole stands.read

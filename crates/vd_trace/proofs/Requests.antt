@@ -14,14 +14,14 @@ use Rattle.vd_trace.specs.declared.kept.Item.{Item}
 use Rattle.vd_trace.specs.declared.kept.Shown.{Shown}
 use Rattle.vd_trace.specs.declared.kept.Stored.{Stored}
 use Rattle.vd_trace.specs.declared.kept.Stored.TheVariants.{Read, Fill, Put, Flush}
-use Rattle.vd_trace.specs.Traces.{Asking, asked_of, requests_of}
+use Rattle.vd_trace.specs.Traces.{Asking, work_asked, requests_of}
 use Rattle.vd_trace.specs.Scripts.{end_of, asks_past, shows_past}
 use Rattle.vd_trace.specs.Keeping.{work_of, asking_of, showing_of, end_in, positions, lists, HasItems}
 
 -- a guest has as many places as requests
 own-length : (sectors : List Sector) (guest from : ℕ) (items : List Item) (item : Item) (own : Bool) → length (positions guest (from + 1) items) ≡ length (requests_of guest (map (asking_of sectors) items)) →
     length (if own then from ∷ positions guest (from + 1) items else positions guest (from + 1) items)
-    ≡ length (map (λ a. asked_of a.work) (if own then asking_of sectors item ∷ filter (λ a. eqb a.guest guest) (map (asking_of sectors) items) else filter (λ a. eqb a.guest guest) (map (asking_of sectors) items)))
+    ≡ length (map (λ a. work_asked a.work) (if own then asking_of sectors item ∷ filter (λ a. eqb a.guest guest) (map (asking_of sectors) items) else filter (λ a. eqb a.guest guest) (map (asking_of sectors) items)))
 own-length sectors guest from items item true rest = ap (λ (n : ℕ). suc n) rest
 own-length sectors guest from items item false rest = rest
 
@@ -32,10 +32,10 @@ length-positions sectors guest from (item ∷ items) = own-length sectors guest 
 -- the place of a request, with what is asked there
 pub record IsPlaced (sectors : List Sector) (items : List Item) (place : ℕ) (asked : Option law.Asked) : Type 0 where
   pub inside : place < length items
-  pub told : (d : Item) → asked ≡ Some (asked_of (work_of sectors (get_or items place d).work))
+  pub told : (d : Item) → asked ≡ Some (work_asked (work_of sectors (get_or items place d).work))
 
 -- where it stands first, or where the others stand
-placed-here : (sectors : List Sector) (item : Item) (items : List Item) (from : ℕ) → IsPlaced sectors (item ∷ items) (from - from) (Some (asked_of (work_of sectors item.work)))
+placed-here : (sectors : List Sector) (item : Item) (items : List Item) (from : ℕ) → IsPlaced sectors (item ∷ items) (from - from) (Some (work_asked (work_of sectors item.work)))
 placed-here sectors item items from =
     let zero-th : from - from ≡ zero = omega arith in
     record { inside = omega arith; told = λ d. rw zero-th refl }
@@ -55,7 +55,7 @@ positions-at sectors guest from (item ∷ items) k inside = by (eqb item.guest g
       × IsPlaced sectors items (get_or (positions guest (from + 1) items) j 0 - (from + 1)) (slice_get (requests_of guest (map (asking_of sectors) items)) j)) →
       (from ≤ get_or (if own then from ∷ positions guest (from + 1) items else positions guest (from + 1) items) k 0)
       × IsPlaced sectors (item ∷ items) (get_or (if own then from ∷ positions guest (from + 1) items else positions guest (from + 1) items) k 0 - from)
-      (slice_get (map (λ a. asked_of a.work) (if own then asking_of sectors item ∷ filter (λ a. eqb a.guest guest) (map (asking_of sectors) items) else filter (λ a. eqb a.guest guest) (map (asking_of sectors) items))) k)
+      (slice_get (map (λ a. work_asked a.work) (if own then asking_of sectors item ∷ filter (λ a. eqb a.guest guest) (map (asking_of sectors) items) else filter (λ a. eqb a.guest guest) (map (asking_of sectors) items))) k)
   by true zero inside rest = (omega arith, placed-here sectors item items from)
   by true (suc k) inside rest = let there = rest k (omega arith) in (omega (arith, there.0), placed-there sectors item items _ from _ there.0 there.1)
   by false k inside rest = let there = rest k inside in (omega (arith, there.0), placed-there sectors item items _ from _ there.0 there.1)

@@ -10,9 +10,9 @@ use Rattle.std.specs.List.{All, flat_map, list_any, enumerate_from, filter_map}
 use Rattle.std.specs.Str.Lines.{lines, lines_of_parts, strip_carriage_return}
 use Rattle.vd_trace.specs.declared.line.Line.{Line}
 use Rattle.vd_trace.specs.declared.line.Work.{Work}
-use Rattle.vd_trace.specs.Lines.{is_show, sectors_of, InOrder, IsGood, IsWithin}
+use Rattle.vd_trace.specs.Lines.{is_show, sectors_of, InOrder, IsGood, KeepsLimits}
 use Rattle.vd_trace.specs.Traces.{Asking, Showing, Script, asking, showing, SpellsLines}
-use Rattle.vd_trace.specs.Texts.{line_body, line_text, asking_line, showing_line, lines_of, who_asks, what_shows, ReadsBack, IsLine, IsScript}
+use Rattle.vd_trace.specs.Texts.{line_body, trace_line_text, asking_line, showing_line, lines_of, who_asks, what_shows, ReadsBack, IsLine, IsScript}
 use Rattle.vd_trace.proofs.Readings.{lines_of_parts-ended}
 use Rattle.vd_trace.proofs.Written.{IsPlain, line-spells, line-short, line-plain}
 
@@ -32,10 +32,10 @@ line-cut body rest is =
     ∙ lines_of_parts-ended body rest ∙ ap (λ (l : List ℕ). l ∷ lines rest) (not-stripped body is)
 
 -- the lines of the text are those that were written
-lines-written : (guests : ℕ) (says : List Line) → All (IsLine guests) says → lines (flat_map line_text says) ≡ map line_body says
+lines-written : (guests : ℕ) (says : List Line) → All (IsLine guests) says → lines (flat_map trace_line_text says) ≡ map line_body says
 lines-written guests [] all = refl
 lines-written guests (l ∷ says) all =
-    line-cut (line_body l) (flat_map line_text says) (line-plain guests l (All-head (IsLine guests) l says all))
+    line-cut (line_body l) (flat_map trace_line_text says) (line-plain guests l (All-head (IsLine guests) l says all))
     ∙ ap (λ (rest : List (List ℕ)). line_body l ∷ rest) (lines-written guests says (All-tail (IsLine guests) l says all))
 
 -- there is place for these lines behind those before
@@ -43,7 +43,7 @@ record HasPlace (before says : List Line) : Type 0 where
   few : length before + length says ≤ 500000
   small : sum_by sectors_of before + sum_by sectors_of says ≤ 262144
 
-place-within : (before : List Line) (l : Line) (says : List Line) → HasPlace before (l ∷ says) → IsWithin before l
+place-within : (before : List Line) (l : Line) (says : List Line) → HasPlace before (l ∷ says) → KeepsLimits before l
 place-within before l says has = record {
   lines = omega (arith, has.few);
   sectors = omega (arith, has.small, sum_by-cons sectors_of l says);

@@ -9,9 +9,9 @@ use Rattle.vd_trace.specs.declared.kept.Draft.{Draft}
 use Rattle.vd_trace.specs.declared.line.Line.{Line}
 use Rattle.vd_trace.specs.declared.error.TraceError.{TraceError}
 use Rattle.vd_trace.specs.declared.error.TraceError.TheVariants.{Bad, TooMuch, Source, NoMemory}
-use Rattle.vd_trace.specs.Lines.{IsGood, IsWithin}
+use Rattle.vd_trace.specs.Lines.{IsGood, KeepsLimits}
 use Rattle.vd_trace.specs.Traces.{SpellsLines, SpellsTrace, GoesTo, IsFirstBad, IsFirstTooMuch, script_of}
-use Rattle.vd_trace.specs.Keeping.{lists, asking_of, showing_of, Keeps, IsRead}
+use Rattle.vd_trace.specs.Keeping.{lists, asking_of, showing_of, KeepsLines, HasReadLines}
 use Rattle.vd_trace.specs.Streaming.{EndsBy}
 use Rattle.vd_trace.specs.Texts.{IsScript}
 use Rattle.vd_trace.specs.TraceFields.{IsTrace}
@@ -33,7 +33,7 @@ spells-unique guests before (line ∷ all) (x ∷ a) (y ∷ b) first second =
 pub record IsAt (guests : ℕ) (before : List Line) (all : List (List ℕ)) (says : List Line) (n : ℕ) (line : List ℕ) : Type 0 where
   pub here : Line
   pub good : IsGood guests (before ++ take n says) line here
-  pub within : IsWithin (before ++ take n says) here
+  pub within : KeepsLimits (before ++ take n says) here
   pub front : SpellsLines guests before (take n all) (take n says)
 
 spells-at : (guests : ℕ) (before : List Line) (all : List (List ℕ)) (says : List Line) (n : ℕ) (line : List ℕ) → SpellsLines guests before all says → slice_get all n ≡ Some line → IsAt guests before all says n line
@@ -45,7 +45,7 @@ spells-at guests before (x ∷ all) (s ∷ says) zero line spelled there =
     record {
       here = s;
       good = subst (λ (b : List Line). IsGood guests b line s) none (subst (λ (l : List ℕ). IsGood guests before l s) same spelled.0);
-      within = subst (λ (b : List Line). IsWithin b s) none spelled.1;
+      within = subst (λ (b : List Line). KeepsLimits b s) none spelled.1;
       front = tt;
     }
 spells-at guests before (x ∷ all) (s ∷ says) (suc n) line spelled there =
@@ -54,17 +54,17 @@ spells-at guests before (x ∷ all) (s ∷ says) (suc n) line spelled there =
     record {
       here = more.here;
       good = subst (λ (b : List Line). IsGood guests b line more.here) whole more.good;
-      within = subst (λ (b : List Line). IsWithin b more.here) whole more.within;
+      within = subst (λ (b : List Line). KeepsLimits b more.here) whole more.within;
       front = (spelled.0, spelled.1, more.front);
     }
 
 -- what stands before a place that a trace goes to is what it says there
 goes-at : (guests : ℕ) (all : List (List ℕ)) (says : List Line) (number : ℕ) (before : List Line) (line : List ℕ) → SpellsLines guests [] all says → GoesTo guests all number before line →
-    (here : Line) × IsGood guests before line here × IsWithin before here
+    (here : Line) × IsGood guests before line here × KeepsLimits before here
 goes-at guests all says number before line spelled goes =
     let at = spells-at guests [] all says (length before) line spelled goes.there in
     let same : take (length before) says ≡ before = spells-unique guests [] (take (length before) all) (take (length before) says) before at.front goes.good in
-    (at.here, subst (λ (b : List Line). IsGood guests b line at.here) same at.good, subst (λ (b : List Line). IsWithin b at.here) same at.within)
+    (at.here, subst (λ (b : List Line). IsGood guests b line at.here) same at.good, subst (λ (b : List Line). KeepsLimits b at.here) same at.within)
 
 not-bad : (guests : ℕ) (all : List (List ℕ)) (says : List Line) (number : ℕ) → SpellsLines guests [] all says → IsFirstBad guests all number → ⊥
 not-bad guests all says number spelled bad = let at = goes-at guests all says number bad.0 bad.1 spelled bad.2 in bad.3 at.0 at.1
@@ -73,7 +73,7 @@ not-much : (guests : ℕ) (all : List (List ℕ)) (says : List Line) (number : �
 not-much guests all says number spelled much =
     let at = goes-at guests all says number much.0 much.1 spelled much.3 in
     let same : at.0 ≡ much.2 = line-unique guests much.1 at.0 much.2 at.1.spells much.4.spells in
-    much.5 (subst (IsWithin much.0) same at.2)
+    much.5 (subst (KeepsLimits much.0) same at.2)
 
 -- a trace is refused for its lines by no error
 pub accepts-err : (guests : ℕ) (bytes : List ℕ) (says : List Line) (told : Type 0) (e : TraceError) → told → SpellsTrace guests bytes says → EndsBy guests (lines bytes) told e → (e ≡ Source) ⊎ (e ≡ NoMemory)
@@ -83,7 +83,7 @@ accepts-err guests bytes says told Source now spelled ends = inl refl
 accepts-err guests bytes says told NoMemory now spelled ends = inr refl
 
 -- nothing is kept of no lines
-pub empty-read : (draft : Draft) → draft.items.items ≡ [] → draft.sectors.items ≡ [] → draft.shows.items ≡ [] → lists draft.places.items ≡ replicate draft.guests [] → draft.lines ≡ 0 → draft.total ≡ 0 → IsRead [] draft
+pub empty-read : (draft : Draft) → draft.items.items ≡ [] → draft.sectors.items ≡ [] → draft.shows.items ≡ [] → lists draft.places.items ≡ replicate draft.guests [] → draft.lines ≡ 0 → draft.total ≡ 0 → HasReadLines [] draft
 empty-read draft items sectors shows places count total = record {
   says = [];
   spelled = tt;
@@ -108,13 +108,13 @@ empty-read draft items sectors shows places count total = record {
 }
 
 -- what is kept of these lines is their script
-pub kept-script : (draft : Draft) (says : List Line) → Keeps says draft →
+pub kept-script : (draft : Draft) (says : List Line) → KeepsLines says draft →
     record { guests = length draft.places.items; asks = map (asking_of draft.sectors.items) draft.items.items; shows = map showing_of draft.shows.items } ≡ script_of draft.guests says
 kept-script draft says keeps =
     let many : length draft.places.items ≡ draft.guests = sym (length-map draft.places.items (λ (v : Vec ℕ Global). v.items)) ∙ keeps.items.many in
     rw (many, keeps.items.told, keeps.shows) refl
 
-pub accepts-ok : (guests : ℕ) (bytes : List ℕ) (says : List Line) (draft : Draft) → draft.guests ≡ guests → SpellsTrace guests bytes says → IsRead (lines bytes) draft →
+pub accepts-ok : (guests : ℕ) (bytes : List ℕ) (says : List Line) (draft : Draft) → draft.guests ≡ guests → SpellsTrace guests bytes says → HasReadLines (lines bytes) draft →
     record { guests = length draft.places.items; asks = map (asking_of draft.sectors.items) draft.items.items; shows = map showing_of draft.shows.items } ≡ script_of guests says
 accepts-ok guests bytes says draft is spelled read =
     let own : SpellsLines guests [] (lines bytes) read.says = rw is at read.spelled in
@@ -122,7 +122,7 @@ accepts-ok guests bytes says draft is spelled read =
     kept-script draft read.says read.kept ∙ ap (λ (n : ℕ). script_of n read.says) is ∙ ap (script_of guests) same
 
 -- what is kept of lines that were read is a trace
-pub kept-trace : (draft : Draft) (done : List (List ℕ)) → IsRead done draft → IsTrace (record { items = draft.items; sectors = draft.sectors; places = draft.places; shows = draft.shows })
+pub kept-trace : (draft : Draft) (done : List (List ℕ)) → HasReadLines done draft → IsTrace (record { items = draft.items; sectors = draft.sectors; places = draft.places; shows = draft.shows })
 kept-trace draft done read =
     let keeps = read.kept in
     let many : length draft.places.items ≡ draft.guests = sym (length-map draft.places.items (λ (v : Vec ℕ Global). v.items)) ∙ keeps.items.many in

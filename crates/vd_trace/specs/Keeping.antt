@@ -14,7 +14,7 @@ use Rattle.vd_trace.specs.declared.line.Line.{Line}
 use Rattle.vd_trace.specs.declared.line.Line.TheVariants.{Nothing, Asks, Shows}
 use Rattle.vd_trace.specs.declared.error.TraceError.{TraceError}
 use Rattle.vd_trace.specs.declared.error.TraceError.TheVariants.{Bad, TooMuch, Source, NoMemory}
-use Rattle.vd_trace.specs.Lines.{sectors_of, sectors_of_work, IsGood, IsWithin}
+use Rattle.vd_trace.specs.Lines.{sectors_of, sectors_of_work, IsGood, KeepsLimits}
 use Rattle.vd_trace.specs.Scripts.{events_of, told_of}
 use Rattle.vd_trace.specs.Traces.{Asking, Showing, SpellsLines, asks_in, shows_in}
 
@@ -26,9 +26,9 @@ work_of sectors (Put first place) = work.Put first (slice_index_or sectors place
 work_of sectors Flush = work.Flush
 
 -- its sector is among so many
-abbrev pub IsStored : ℕ → Stored → Type 0
-IsStored many (Put first place) = place < many
-IsStored many stored = Unit {0}
+abbrev pub HasSectorAmong : ℕ → Stored → Type 0
+HasSectorAmong many (Put first place) = place < many
+HasSectorAmong many stored = Unit {0}
 
 -- how many sectors it reads or writes
 abbrev pub sectors_in : Stored → ℕ
@@ -65,8 +65,8 @@ abbrev pub PutsAt : (index at : ℕ) → List (Vec ℕ Global) → List (Vec ℕ
 PutsAt index at old new = lists new ≡ slice_set (lists old) index (slice_index_or (lists old) index [] ++ at ∷ [])
 
 -- the list grew at its end, by this many at most
-abbrev pub GrowsBy : {A : Type 0} → ℕ → List A → List A → Type 0
-GrowsBy most old new = (more : List _) × (new ≡ old ++ more) × (length more ≤ most)
+abbrev pub GrowsByAtMost : {A : Type 0} → ℕ → List A → List A → Type 0
+GrowsByAtMost most old new = (more : List _) × (new ≡ old ++ more) × (length more ≤ most)
 
 -- where the items of a guest stand, counted from `from` on
 abbrev pub positions : (guest from : ℕ) → List Item → List ℕ
@@ -77,14 +77,14 @@ positions guest from (item ∷ items) = if item.guest == guest then from ∷ pos
 -- listed by their places; no request has more than 2,048 sectors
 pub record HasItems (guests : ℕ) (sectors : List Sector) (items : List Item) (places : List (List ℕ)) (asks : List Asking) : Type 0 where
   pub told : map (asking_of sectors) items ≡ asks
-  pub stored : All (λ item. IsStored (length sectors) item.work) items
+  pub stored : All (λ item. HasSectorAmong (length sectors) item.work) items
   pub guests_in : All (λ item. (1 ≤ item.guest) × (item.guest ≤ guests)) items
   pub sized : All (λ item. sectors_in item.work ≤ 2048) items
   pub many : length places ≡ guests
   pub placed : (k : ℕ) → k < guests → slice_index_or places k [] ≡ positions (k + 1) 0 items
 
 -- what is kept is what these lines say, which keep the limits
-pub record Keeps (says : List Line) (draft : Draft) : Type 0 where
+pub record KeepsLines (says : List Line) (draft : Draft) : Type 0 where
   pub items : HasItems draft.guests draft.sectors.items draft.items.items (lists draft.places.items) (asks_in says)
   pub shows : map showing_of draft.shows.items ≡ shows_in says
   pub lines : draft.lines ≡ length says
@@ -96,16 +96,16 @@ pub record Keeps (says : List Line) (draft : Draft) : Type 0 where
   pub asked_few : sum_by (λ item. sectors_in item.work) draft.items.items ≤ sum_by sectors_of says
 
 -- these lines were read
-pub record IsRead (done : List (List ℕ)) (draft : Draft) : Type 0 where
+pub record HasReadLines (done : List (List ℕ)) (draft : Draft) : Type 0 where
   pub says : List Line
   pub spelled : SpellsLines draft.guests [] done says
-  pub kept : Keeps says draft
+  pub kept : KeepsLines says draft
 
 -- behind these lines, this one ends the reading
 abbrev pub Stops : (guests : ℕ) → List (List ℕ) → List ℕ → TraceError → Type 0
 Stops guests done line (Bad number) = (before : List Line) × SpellsLines guests [] done before × (number ≡ length before + 1) × ((says : Line) → ¬ (IsGood guests before line says))
 Stops guests done line (TooMuch number) =
-    (before : List Line) × SpellsLines guests [] done before × (number ≡ length before + 1) × (says : Line) × IsGood guests before line says × (¬ (IsWithin before says))
+    (before : List Line) × SpellsLines guests [] done before × (number ≡ length before + 1) × (says : Line) × IsGood guests before line says × (¬ (KeepsLimits before says))
 Stops guests done line Source = ⊥
 Stops guests done line NoMemory = Unit {0}
 
@@ -113,9 +113,9 @@ Stops guests done line NoMemory = Unit {0}
 pub record AddsItem (guest : ℕ) (asked : Work) (old new : Draft) : Type 0 where
   pub stored : Stored
   pub work : work_of new.sectors.items stored ≡ asked
-  pub inside : IsStored (length new.sectors.items) stored
+  pub inside : HasSectorAmong (length new.sectors.items) stored
   pub size : sectors_in stored ≡ sectors_of_work asked
-  pub sectors : GrowsBy (sectors_of_work asked) old.sectors.items new.sectors.items
+  pub sectors : GrowsByAtMost (sectors_of_work asked) old.sectors.items new.sectors.items
   pub items : new.items.items ≡ old.items.items ++ record { number = old.lines + 1; guest = guest; work = stored } ∷ []
   pub places : PutsAt (guest - 1) (length old.items.items) old.places.items new.places.items
 
@@ -125,10 +125,10 @@ pub record SameItems (old new : Draft) : Type 0 where
   pub places : lists new.places.items ≡ lists old.places.items
 
 -- what a line adds
-abbrev pub Adds : Line → Draft → Draft → Type 0
-Adds Nothing old new = SameItems old new × (new.shows.items ≡ old.shows.items)
-Adds (Asks guest work) old new = AddsItem guest work old new × (new.shows.items ≡ old.shows.items)
-Adds (Shows first count) old new = SameItems old new × (new.shows.items ≡ old.shows.items ++ record { number = old.lines + 1; first = first; count = count } ∷ [])
+abbrev pub AddsLine : Line → Draft → Draft → Type 0
+AddsLine Nothing old new = SameItems old new × (new.shows.items ≡ old.shows.items)
+AddsLine (Asks guest work) old new = AddsItem guest work old new × (new.shows.items ≡ old.shows.items)
+AddsLine (Shows first count) old new = SameItems old new × (new.shows.items ≡ old.shows.items ++ record { number = old.lines + 1; first = first; count = count } ∷ [])
 
 -- the counts are as they were
 pub record SameCounts (old new : Draft) : Type 0 where
@@ -137,8 +137,8 @@ pub record SameCounts (old new : Draft) : Type 0 where
   pub total : new.total ≡ old.total
 
 -- one more line
-pub record Counts (says : Line) (old new : Draft) : Type 0 where
-  pub adds : Adds says old new
+pub record CountsLine (says : Line) (old new : Draft) : Type 0 where
+  pub adds : AddsLine says old new
   pub guests : new.guests ≡ old.guests
   pub lines : new.lines ≡ old.lines + 1
   pub total : new.total ≡ old.total + sectors_of says
@@ -157,7 +157,7 @@ pub record CanTake (says : Line) (draft : Draft) : Type 0 where
   pub total : draft.total + sectors_of says ≤ 262144
 
 -- one more line was counted
-pub record IsNext (old new : Draft) : Type 0 where
+pub record HasNextLine (old new : Draft) : Type 0 where
   pub guests : new.guests ≡ old.guests
   pub lines : new.lines ≡ old.lines + 1
   pub few : old.lines < 500000

@@ -18,8 +18,8 @@ ranged_in low high field = option_and_then (λ n. if nat_le low n && nat_le n hi
 abbrev pub guest_in : (guests : ℕ) → List ℕ → Option ℕ
 guest_in guests field = ranged_in 1 guests field
 
-abbrev pub count_in : List ℕ → Option ℕ
-count_in field = ranged_in 1 2048 field
+abbrev pub count_of_field : List ℕ → Option ℕ
+count_of_field field = ranged_in 1 2048 field
 
 abbrev pub first_byte : Result (List ℕ) FromHexError → Option ℕ
 first_byte (Ok (b ∷ bytes)) = Some b
@@ -33,33 +33,33 @@ abbrev pub as_sector : Result (List ℕ) FromHexError → Option Sector
 as_sector (Ok bytes) = Some (record { bytes = bytes })
 as_sector (Err e) = None
 
-abbrev pub sector_in : List ℕ → Option Sector
-sector_in field = as_sector (decode_sized field 512)
+abbrev pub sector_of_field : List ℕ → Option Sector
+sector_of_field field = as_sector (decode_sized field 512)
 
 -- what the fields behind the guest ask
 abbrev pub work_in : List (List ℕ) → Option Work
 work_in (kind ∷ []) = if bytes_eq kind (codes "F") then Some Flush else None
 work_in (kind ∷ first ∷ last ∷ []) =
-    if bytes_eq kind (codes "R") then option_and_then (λ f. option_and_then (λ c. Some (Read f c)) (count_in last)) (number_in 10 first)
-    else if bytes_eq kind (codes "X") then option_and_then (λ f. option_and_then (λ s. Some (Put f s)) (sector_in last)) (number_in 10 first)
+    if bytes_eq kind (codes "R") then option_and_then (λ f. option_and_then (λ c. Some (Read f c)) (count_of_field last)) (number_in 10 first)
+    else if bytes_eq kind (codes "X") then option_and_then (λ f. option_and_then (λ s. Some (Put f s)) (sector_of_field last)) (number_in 10 first)
     else None
 work_in (kind ∷ first ∷ count ∷ byte ∷ []) =
-    if bytes_eq kind (codes "W") then option_and_then (λ f. option_and_then (λ c. option_and_then (λ b. Some (Fill f c b)) (byte_in byte)) (count_in count)) (number_in 10 first)
+    if bytes_eq kind (codes "W") then option_and_then (λ f. option_and_then (λ c. option_and_then (λ b. Some (Fill f c b)) (byte_in byte)) (count_of_field count)) (number_in 10 first)
     else None
 work_in _ = None
 
 abbrev pub show_in : (kind first count : List ℕ) → Option Line
 show_in kind first count =
-    if bytes_eq kind (codes "S") then option_and_then (λ f. option_and_then (λ c. Some (Shows f c)) (count_in count)) (number_in 10 first) else None
+    if bytes_eq kind (codes "S") then option_and_then (λ f. option_and_then (λ c. Some (Shows f c)) (count_of_field count)) (number_in 10 first) else None
 
-abbrev pub fields_in : (guests : ℕ) → List (List ℕ) → Option Line
-fields_in guests (kind ∷ first ∷ count ∷ []) = show_in kind first count
-fields_in guests (guest ∷ more) = option_and_then (λ g. option_and_then (λ w. Some (Asks g w)) (work_in more)) (guest_in guests guest)
-fields_in guests [] = None
+abbrev pub line_of_fields : (guests : ℕ) → List (List ℕ) → Option Line
+line_of_fields guests (kind ∷ first ∷ count ∷ []) = show_in kind first count
+line_of_fields guests (guest ∷ more) = option_and_then (λ g. option_and_then (λ w. Some (Asks g w)) (work_in more)) (guest_in guests guest)
+line_of_fields guests [] = None
 
 abbrev pub line_in : (guests : ℕ) → List ℕ → Option Line
 line_in guests [] = Some Nothing
-line_in guests (b ∷ bytes) = if b == 35 then Some Nothing else fields_in guests (slice_split (λ x. x == 32) (b ∷ bytes))
+line_in guests (b ∷ bytes) = if b == 35 then Some Nothing else line_of_fields guests (slice_split (λ x. x == 32) (b ∷ bytes))
 
 -- whether the line may stand behind one that shows, or behind none
 abbrev pub may_follow : (shown : Bool) → Line → Bool

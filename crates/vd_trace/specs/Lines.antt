@@ -2,7 +2,7 @@
 use Rattle.std.specs.Prelude.{ℕ, ◌≡◌, ◌+◌, ◌<◌, ◌≤◌, ◌==◌, Bool, true, false, List, [], ◌∷◌, length, Ok, codes, sum_by}
 use Rattle.std.specs.List.{slice_split, list_any}
 use Rattle.hex.specs.Hex.{decode_of}
-use Rattle.vd_decimal.specs.Numbers.{Spells as SpellsNumber}
+use Rattle.vd_decimal.specs.Numbers.{SpellsNumber}
 use Rattle.vd_trace.specs.declared.line.Line.{Line}
 use Rattle.vd_trace.specs.declared.line.Line.TheVariants.{Nothing, Asks, Shows}
 use Rattle.vd_trace.specs.declared.line.Work.{Work}
@@ -21,15 +21,15 @@ abbrev pub IsCount : List ℕ → ℕ → Type 0
 IsCount field count = IsNumber field count × (1 ≤ count) × (count ≤ 2048)
 
 -- so many hexadecimal digits, of either case, two for each byte
-pub record AreDigits (count : ℕ) (field bytes : List ℕ) : Type 0 where
+pub record AreHexDigits (count : ℕ) (field bytes : List ℕ) : Type 0 where
   pub many : length field ≡ count
   pub decoded : decode_of field ≡ Ok bytes
 
 -- what the fields behind the guest ask
 abbrev pub SpellsWork : List (List ℕ) → Work → Type 0
 SpellsWork (kind ∷ first ∷ count ∷ []) (Read f c) = (kind ≡ codes "R") × IsNumber first f × IsCount count c
-SpellsWork (kind ∷ first ∷ count ∷ byte ∷ []) (Fill f c b) = (kind ≡ codes "W") × IsNumber first f × IsCount count c × AreDigits 2 byte (b ∷ [])
-SpellsWork (kind ∷ first ∷ digits ∷ []) (Put f s) = (kind ≡ codes "X") × IsNumber first f × AreDigits 1024 digits s.bytes
+SpellsWork (kind ∷ first ∷ count ∷ byte ∷ []) (Fill f c b) = (kind ≡ codes "W") × IsNumber first f × IsCount count c × AreHexDigits 2 byte (b ∷ [])
+SpellsWork (kind ∷ first ∷ digits ∷ []) (Put f s) = (kind ≡ codes "X") × IsNumber first f × AreHexDigits 1024 digits s.bytes
 SpellsWork (kind ∷ []) Flush = kind ≡ codes "F"
 SpellsWork _ _ = ⊥
 
@@ -81,6 +81,6 @@ sectors_of (Asks guest work) = sectors_of_work work
 sectors_of (Shows first count) = count
 
 -- a trace has at most 500,000 lines, and 262,144 sectors in all of them
-pub record IsWithin (before : List Line) (says : Line) : Type 0 where
+pub record KeepsLimits (before : List Line) (says : Line) : Type 0 where
   pub lines : length before < 500000
   pub sectors : sum_by sectors_of before + sectors_of says ≤ 262144

@@ -13,7 +13,7 @@ use Rattle.vd_trace.specs.declared.error.TraceError.{TraceError}
 use Rattle.vd_trace.specs.declared.error.TraceError.TheVariants.{Bad, TooMuch, Source, NoMemory}
 use Rattle.vd_trace.specs.declared.trace.Asked.{Asked}
 use Rattle.vd_trace.specs.declared.trace.Asked.TheVariants as asked
-use Rattle.vd_trace.specs.Texts.{IsRange}
+use Rattle.vd_trace.specs.Texts.{IsRangeOfLine}
 use Rattle.vd_trace.specs.Traces.{Asking, Showing, Script, script_of, SpellsTrace, IsFirstBad, IsFirstTooMuch}
 
 -- what reading these bytes leads to
@@ -50,15 +50,15 @@ request_of asked.Flush content = law.Flush
 
 -- a request's range
 abbrev pub HasRange : Asked → Type 0
-HasRange (asked.Read first count) = IsRange first count
-HasRange (asked.Write first count) = IsRange first count
+HasRange (asked.Read first count) = IsRangeOfLine first count
+HasRange (asked.Write first count) = IsRangeOfLine first count
 HasRange asked.Flush = Unit {0}
 
 -- how many sectors were handed out
-abbrev pub handed : Asked → ℕ
-handed (asked.Read first count) = 0
-handed (asked.Write first count) = count
-handed asked.Flush = 0
+abbrev pub sectors_handed : Asked → ℕ
+sectors_handed (asked.Read first count) = 0
+sectors_handed (asked.Write first count) = count
+sectors_handed asked.Flush = 0
 
 -- in how many blocks the range lies: those that begin before its end, less those that end at or before its first sector
 abbrev pub pieces : (block first count : ℕ) → ℕ

@@ -5,12 +5,12 @@ use Rattle.vd_trace.specs.declared.kept.Draft.{Draft}
 use Rattle.vd_trace.specs.declared.error.TraceError.{TraceError}
 use Rattle.vd_trace.specs.declared.error.TraceError.TheVariants.{Bad, TooMuch, Source, NoMemory}
 use Rattle.vd_trace.specs.Traces.{IsFirstBad, IsFirstTooMuch}
-use Rattle.vd_trace.specs.Keeping.{IsRead}
+use Rattle.vd_trace.specs.Keeping.{HasReadLines}
 
 -- some of all lines were read, and where that is told, the others are those of the bytes that are left
 pub record StandsAt (all : List (List ℕ)) (told : Type 0) (left : List ℕ) (draft : Draft) : Type 0 where
   pub done : List (List ℕ)
-  pub read : IsRead done draft
+  pub read : HasReadLines done draft
   pub rest : told → all ≡ done ++ lines left
 
 -- where that is told, the error names the first line that is bad or too much

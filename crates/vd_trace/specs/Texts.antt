@@ -25,8 +25,8 @@ line_fields (Shows first count) = codes "S" ∷ decimal first ∷ decimal count 
 abbrev pub line_body : Line → List ℕ
 line_body says = join_with_byte 32 (line_fields says)
 
-abbrev pub line_text : Line → List ℕ
-line_text says = line_body says ++ codes "\n"
+abbrev pub trace_line_text : Line → List ℕ
+trace_line_text says = line_body says ++ codes "\n"
 
 abbrev pub asking_line : Asking → Line
 asking_line a = Asks a.guest a.work
@@ -39,7 +39,7 @@ abbrev pub lines_of : Script → List Line
 lines_of trace = map asking_line trace.asks ++ map showing_line trace.shows
 
 abbrev pub trace_text : Script → List ℕ
-trace_text trace = flat_map line_text (lines_of trace)
+trace_text trace = flat_map trace_line_text (lines_of trace)
 
 abbrev pub who_asks : Asking → ℕ × Work
 who_asks a = (a.guest, a.work)
@@ -58,12 +58,12 @@ abbrev pub ReadsBack : Script → Type 0
 ReadsBack trace = (says : List Line) × SpellsTrace trace.guests (trace_text trace) says × IsSameTrace (script_of trace.guests says) trace
 
 -- a range has from 1 to 2,048 sectors, and its first has at most ten digits
-abbrev pub IsRange : (first count : ℕ) → Type 0
-IsRange first count = (first < 10 ^ 10) × (1 ≤ count) × (count ≤ 2048)
+abbrev pub IsRangeOfLine : (first count : ℕ) → Type 0
+IsRangeOfLine first count = (first < 10 ^ 10) × (1 ≤ count) × (count ≤ 2048)
 
 -- what is asked has such a range, and a sector has 512 bytes
 abbrev pub IsRequest : Work → Type 0
-IsRequest (Read first count) = IsRange first count
+IsRequest (Read first count) = IsRangeOfLine first count
 IsRequest (Fill first count byte) = (first < 10 ^ 10) × (1 ≤ count) × (count ≤ 2048) × (byte < 256)
 IsRequest (Put first sector) = (first < 10 ^ 10) × (length sector.bytes ≡ 512) × IsBytes sector.bytes
 IsRequest Flush = Unit {0}
@@ -71,7 +71,7 @@ IsRequest Flush = Unit {0}
 abbrev pub IsLine : (guests : ℕ) → Line → Type 0
 IsLine guests Nothing = Unit {0}
 IsLine guests (Asks guest work) = (guest < 10 ^ 10) × (1 ≤ guest) × (guest ≤ guests) × IsRequest work
-IsLine guests (Shows first count) = IsRange first count
+IsLine guests (Shows first count) = IsRangeOfLine first count
 
 -- every number is in its range, and the limits are kept, as in every trace that is read
 pub record IsScript (trace : Script) : Type 0 where

@@ -8,12 +8,12 @@ use Rattle.vd_trace.specs.declared.line.Line.{Line}
 use Rattle.vd_trace.specs.declared.line.Line.TheVariants.{Asks, Shows}
 use Rattle.vd_trace.specs.declared.line.Work.{Work}
 use Rattle.vd_trace.specs.declared.line.Work.TheVariants.{Read, Fill, Put, Flush}
-use Rattle.vd_trace.specs.Lines.{IsGood, IsWithin}
+use Rattle.vd_trace.specs.Lines.{IsGood, KeepsLimits}
 
 -- each line says this, behind those before it
 abbrev pub SpellsLines : (guests : ℕ) (before : List Line) → List (List ℕ) → List Line → Type 0
 SpellsLines guests before [] [] = Unit {0}
-SpellsLines guests before (line ∷ lines) (says ∷ more) = IsGood guests before line says × IsWithin before says × SpellsLines guests (before ++ says ∷ []) lines more
+SpellsLines guests before (line ∷ lines) (says ∷ more) = IsGood guests before line says × KeepsLimits before says × SpellsLines guests (before ++ says ∷ []) lines more
 SpellsLines guests before _ _ = ⊥
 
 -- The bytes are a trace of so many guests, whose lines say this. A line ends with a line feed, which a carriage return may
@@ -34,7 +34,7 @@ IsFirstBad guests all number = (before : List Line) × (line : List ℕ) × Goes
 -- the line of this number is in the grammar, and the first with which a limit is passed
 abbrev pub IsFirstTooMuch : (guests : ℕ) → List (List ℕ) → (number : ℕ) → Type 0
 IsFirstTooMuch guests all number =
-    (before : List Line) × (line : List ℕ) × (says : Line) × GoesTo guests all number before line × IsGood guests before line says × (¬ (IsWithin before says))
+    (before : List Line) × (line : List ℕ) × (says : Line) × GoesTo guests all number before line × IsGood guests before line says × (¬ (KeepsLimits before says))
 
 -- A trace as it is kept: for how many guests it is, and its lines that ask and those that show, each with its number.
 
@@ -72,15 +72,15 @@ abbrev pub script_of : (guests : ℕ) → List Line → Script
 script_of guests says = record { guests = guests; asks = asks_in says; shows = shows_in says }
 
 -- what the guest asks of the disk
-abbrev pub asked_of : Work → Asked
-asked_of (Read first count) = law.Read first count
-asked_of (Fill first count byte) = law.Write first (replicate count (record { bytes = replicate 512 byte }))
-asked_of (Put first sector) = law.Write first (sector ∷ [])
-asked_of Flush = law.Flush
+abbrev pub work_asked : Work → Asked
+work_asked (Read first count) = law.Read first count
+work_asked (Fill first count byte) = law.Write first (replicate count (record { bytes = replicate 512 byte }))
+work_asked (Put first sector) = law.Write first (sector ∷ [])
+work_asked Flush = law.Flush
 
 -- a guest's requests, in the order of the lines
 abbrev pub requests_of : (guest : ℕ) → List Asking → List Asked
-requests_of guest asks = map (λ a. asked_of a.work) (filter (λ a. a.guest == guest) asks)
+requests_of guest asks = map (λ a. work_asked a.work) (filter (λ a. a.guest == guest) asks)
 
 abbrev pub script : Script → (guest : ℕ) → List Asked
 script trace guest = requests_of guest trace.asks

@@ -3,7 +3,7 @@
 ghost use Rattle.std.specs.Prelude.{◌≡◌, ◌↔◌, ◌+◌, ◌≤◌, ◌<◌, ℕ, IsTrue, List, [], ◌∷◌, ◌++◌, length, replicate, OnOk, IfOk, MatchResult};
 ghost use Rattle.vd_trace.specs.declared.line.Line.TheVariants.{Asks, Shows};
 ghost use Rattle.vd_trace.specs.Lines.{sectors_of, sectors_of_work};
-ghost use Rattle.vd_trace.specs.Keeping.{work_of, sectors_in, lists, IsStored, GrowsBy, PutsAt, CanTake, AddsItem, Adds, SameCounts, Counts, IsRead, Stops, IsNext};
+ghost use Rattle.vd_trace.specs.Keeping.{work_of, sectors_in, lists, HasSectorAmong, GrowsByAtMost, PutsAt, CanTake, AddsItem, AddsLine, SameCounts, CountsLine, HasReadLines, Stops, HasNextLine};
 
 use crate::error::TraceError;
 use crate::line::{Line, Work};
@@ -57,9 +57,9 @@ pub struct Draft {
 fn keep_work(sectors: &mut Vec<Sector>, work: Work) -> Result<Stored, AllocError>
     requires { length sectors.old.items ≤ 262144 }
     ensures work { IfOk result (λ s. work_of sectors.new.items s ≡ work) }
-    ensures stored { IfOk result (λ s. IsStored (length sectors.new.items) s) }
+    ensures stored { IfOk result (λ s. HasSectorAmong (length sectors.new.items) s) }
     ensures same { IfOk result (λ s. sectors_in s ≡ sectors_of_work work) }
-    ensures grows { OnOk result (GrowsBy (sectors_of_work work) sectors.old.items sectors.new.items) }
+    ensures grows { OnOk result (GrowsByAtMost (sectors_of_work work) sectors.old.items sectors.new.items) }
 {
     match work {
         Work::Read { first, count } => Ok(Stored::Read { first, count }),
@@ -102,7 +102,7 @@ fn add_item(draft: &mut Draft, guest: u32, work: Work) -> Result<(), AllocError>
 
 fn add_shown(draft: &mut Draft, first: u64, count: u32) -> Result<(), AllocError>
     requires { CanTake (Shows first count) draft.old }
-    ensures adds { OnOk result (Adds (Shows first count) draft.old draft.new) }
+    ensures adds { OnOk result (AddsLine (Shows first count) draft.old draft.new) }
     ensures counts { OnOk result (SameCounts draft.old draft.new) }
 {
     let number = draft.lines + 1;
@@ -116,7 +116,7 @@ fn add_shown(draft: &mut Draft, first: u64, count: u32) -> Result<(), AllocError
 
 fn add(draft: &mut Draft, says: Line) -> Result<(), AllocError>
     requires { CanTake says draft.old }
-    ensures adds { OnOk result (Adds says draft.old draft.new) }
+    ensures adds { OnOk result (AddsLine says draft.old draft.new) }
     ensures counts { OnOk result (SameCounts draft.old draft.new) }
 {
     match says {
@@ -160,7 +160,7 @@ fn is_within(draft: &Draft, says: &Line) -> bool
 /// Keeps what one more line says.
 fn keep(draft: &mut Draft, says: Line) -> Result<(), AllocError>
     requires { CanTake says draft.old }
-    ensures { OnOk result (Counts says draft.old draft.new) }
+    ensures { OnOk result (CountsLine says draft.old draft.new) }
 {
     let sectors = sectors_of(&says);
     add(draft, says)?;
@@ -171,9 +171,9 @@ fn keep(draft: &mut Draft, says: Line) -> Result<(), AllocError>
 
 /// Reads one more line.
 pub fn take(draft: &mut Draft, line: &[u8]) -> Result<(), TraceError>
-    requires { (done : List (List ℕ)) × IsRead done draft.old }
-    ensures reads { (done : List (List ℕ)) → IsRead done draft.old → MatchResult result (λ u. IsRead (done ++ line.now ∷ []) draft.new) (Stops draft.old.guests done line.now) }
-    ensures next { OnOk result (IsNext draft.old draft.new) }
+    requires { (done : List (List ℕ)) × HasReadLines done draft.old }
+    ensures reads { (done : List (List ℕ)) → HasReadLines done draft.old → MatchResult result (λ u. HasReadLines (done ++ line.now ∷ []) draft.new) (Stops draft.old.guests done line.now) }
+    ensures next { OnOk result (HasNextLine draft.old draft.new) }
 {
     let number = u64::from(draft.lines) + 1;
     let shown = !draft.shows.is_empty();
@@ -199,7 +199,7 @@ fn empty_places(alloc: Global, guests: u32) -> Result<Vec<Vec<u32>>, AllocError>
 
 /// No lines yet, for so many guests.
 pub fn empty_draft(alloc: Global, guests: u32) -> Result<Draft, AllocError>
-    ensures read { IfOk result (λ draft. IsRead [] draft) }
+    ensures read { IfOk result (λ draft. HasReadLines [] draft) }
     ensures guests { IfOk result (λ draft. draft.guests ≡ guests) }
 {
     let places = empty_places(alloc, guests)?;

@@ -3,10 +3,11 @@
 ghost use Rattle.std.specs.Prelude.{◌≡◌, ◌+◌, ◌≤◌, [], ◌∷◌, ◌++◌, length, codes, decimal, OnErr};
 ghost use Rattle.std.specs.List.{All, flat_map, join_with_byte};
 ghost use Rattle.hex.specs.Hex.{encode_lower};
-ghost use Rattle.vd_io.specs.Streams.{Rose, Writes};
+ghost use Rattle.vd_io.specs.Streams.{WritesText};
 ghost use Rattle.vd_trace.specs.Texts.{work_fields};
-ghost use Rattle.vd_trace.specs.Keeping.{work_of, IsStored};
-ghost use Rattle.vd_trace.specs.Printing.{item_text, shown_text};
+ghost use Rattle.vd_trace.specs.Keeping.{work_of, HasSectorAmong};
+ghost use Rattle.vd_trace.specs.Printing.{item_text, trace_shown_text};
+ghost use Rattle.vd_law.specs.Counts.{Rose};
 
 use crate::kept::{Item, Shown, Stored};
 use crate::text::{Text, push_hex, push_number, push_word};
@@ -50,7 +51,7 @@ fn push_put(text: &mut Text, first: u64, sector: &Sector)
 
 /// Appends what is asked.
 fn push_work(text: &mut Text, work: Stored, sectors: &[Sector])
-    requires stored { IsStored (length sectors.now) work }
+    requires stored { HasSectorAmong (length sectors.now) work }
     requires room { length text.old.items ≤ 30 }
     ensures items { text.new.items ≡ text.old.items ++ join_with_byte 32 (work_fields (work_of sectors.now work)) }
     ensures longer { length text.new.items ≤ 1080 }
@@ -65,10 +66,10 @@ fn push_work(text: &mut Text, work: Stored, sectors: &[Sector])
 
 /// Writes a line that asks, in one write.
 fn put_item<O: Sink>(out: &mut O, item: Item, sectors: &[Sector]) -> Result<(), Failed>
-    requires { IsStored (length sectors.now) item.work }
+    requires { HasSectorAmong (length sectors.now) item.work }
     ensures told_before { O.tells out.new → O.tells out.old }
-    ensures writes { O.tells out.new → Writes (item_text sectors.now item) result (O.written out.old) (O.written out.new) }
-    ensures calm { O.faults out.old ≤ O.faults out.new }
+    ensures writes { O.tells out.new → WritesText (item_text sectors.now item) result (O.written out.old) (O.written out.new) }
+    ensures no_fewer_faults { O.faults out.old ≤ O.faults out.new }
     ensures cause { OnErr result (Rose (O.faults out.old) (O.faults out.new)) }
 {
     let mut text = Text::new();
@@ -82,8 +83,8 @@ fn put_item<O: Sink>(out: &mut O, item: Item, sectors: &[Sector]) -> Result<(), 
 /// Writes a line that shows, in one write.
 fn put_shown<O: Sink>(out: &mut O, shown: Shown) -> Result<(), Failed>
     ensures told_before { O.tells out.new → O.tells out.old }
-    ensures writes { O.tells out.new → Writes (shown_text shown) result (O.written out.old) (O.written out.new) }
-    ensures calm { O.faults out.old ≤ O.faults out.new }
+    ensures writes { O.tells out.new → WritesText (trace_shown_text shown) result (O.written out.old) (O.written out.new) }
+    ensures no_fewer_faults { O.faults out.old ≤ O.faults out.new }
     ensures cause { OnErr result (Rose (O.faults out.old) (O.faults out.new)) }
 {
     let mut text = Text::new();
@@ -94,10 +95,10 @@ fn put_shown<O: Sink>(out: &mut O, shown: Shown) -> Result<(), Failed>
 
 /// Writes the lines that ask. After Failed a front of them is written.
 pub fn put_items<O: Sink>(out: &mut O, items: &[Item], sectors: &[Sector]) -> Result<(), Failed>
-    requires { All (λ item. IsStored (length sectors.now) item.work) items.now }
+    requires { All (λ item. HasSectorAmong (length sectors.now) item.work) items.now }
     ensures told_before { O.tells out.new → O.tells out.old }
-    ensures writes { O.tells out.new → Writes (flat_map (item_text sectors.now) items.now) result (O.written out.old) (O.written out.new) }
-    ensures calm { O.faults out.old ≤ O.faults out.new }
+    ensures writes { O.tells out.new → WritesText (flat_map (item_text sectors.now) items.now) result (O.written out.old) (O.written out.new) }
+    ensures no_fewer_faults { O.faults out.old ≤ O.faults out.new }
     ensures cause { OnErr result (Rose (O.faults out.old) (O.faults out.new)) }
 {
     for item in items {
@@ -109,8 +110,8 @@ pub fn put_items<O: Sink>(out: &mut O, items: &[Item], sectors: &[Sector]) -> Re
 /// Writes the lines that show. After Failed a front of them is written.
 pub fn put_shows<O: Sink>(out: &mut O, shows: &[Shown]) -> Result<(), Failed>
     ensures told_before { O.tells out.new → O.tells out.old }
-    ensures writes { O.tells out.new → Writes (flat_map shown_text shows.now) result (O.written out.old) (O.written out.new) }
-    ensures calm { O.faults out.old ≤ O.faults out.new }
+    ensures writes { O.tells out.new → WritesText (flat_map trace_shown_text shows.now) result (O.written out.old) (O.written out.new) }
+    ensures no_fewer_faults { O.faults out.old ≤ O.faults out.new }
     ensures cause { OnErr result (Rose (O.faults out.old) (O.faults out.new)) }
 {
     for shown in shows {

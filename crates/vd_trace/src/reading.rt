@@ -4,7 +4,7 @@ ghost use Rattle.std.specs.Prelude.{◌≡◌, ◌≢◌, ◌↔◌, List, ◌�
 ghost use Rattle.std.specs.List.{list_any};
 ghost use Rattle.vd_trace.specs.declared.line.Line.{Line};
 ghost use Rattle.vd_trace.specs.Lines.{is_show, IsGood};
-ghost use Rattle.vd_trace.specs.LineReading.{guest_in, count_in, byte_in, sector_in, work_in, show_in, fields_in, line_in, may_follow};
+ghost use Rattle.vd_trace.specs.LineReading.{guest_in, count_of_field, byte_in, sector_of_field, work_in, show_in, line_of_fields, line_in, may_follow};
 
 use crate::fields::fields_of;
 use crate::hex_digits::bytes_in;
@@ -33,7 +33,7 @@ fn guest_in(field: &[u8], guests: u32) -> Option<u32>
 }
 
 fn count_in(field: &[u8]) -> Option<u32>
-    ensures { result ≡ count_in field.now }
+    ensures { result ≡ count_of_field field.now }
 {
     let count = read_number(field, DIGITS)?;
     if 1 <= count && count <= MOST_SECTORS {
@@ -51,7 +51,7 @@ fn byte_in(field: &[u8]) -> Option<u8>
 }
 
 fn sector_in(field: &[u8]) -> Option<Sector>
-    ensures { result ≡ sector_in field.now }
+    ensures { result ≡ sector_of_field field.now }
 {
     let bytes = bytes_in(field)?;
     Some(Sector { bytes })
@@ -119,7 +119,7 @@ fn show_in(kind: &[u8], first: &[u8], count: &[u8]) -> Option<Line>
 
 fn asks_in(guest: &[u8], work: &[&[u8]], guests: u32) -> Option<Line>
     requires { length work.now ≢ 2 }
-    ensures { result ≡ fields_in guests (guest.now ∷ map (λ f. f.now) work.now) }
+    ensures { result ≡ line_of_fields guests (guest.now ∷ map (λ f. f.now) work.now) }
 {
     let guest = guest_in(guest, guests)?;
     let work = work_in(work)?;
@@ -127,7 +127,7 @@ fn asks_in(guest: &[u8], work: &[&[u8]], guests: u32) -> Option<Line>
 }
 
 fn fields_in(fields: &[&[u8]], guests: u32) -> Option<Line>
-    ensures { result ≡ fields_in guests (map (λ f. f.now) fields.now) }
+    ensures { result ≡ line_of_fields guests (map (λ f. f.now) fields.now) }
 {
     match fields {
         [] => None,

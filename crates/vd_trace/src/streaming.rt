@@ -3,10 +3,10 @@
 ghost use Rattle.std.specs.Prelude.{◌≡◌, ◌<◌, ◌≤◌, ℕ, List, [], ◌++◌, true, false, None, MatchResult, IfOk, IfErr, OnOk};
 ghost use Rattle.std.specs.Str.Lines.{lines, strip_carriage_return};
 ghost use Rattle.memchr.specs.Find.{IsFirstByte, is_byte};
-ghost use Rattle.vd_io.specs.Streams.{Rose};
 ghost use Rattle.vd_trace.specs.declared.error.TraceError.TheVariants.{Source};
-ghost use Rattle.vd_trace.specs.Keeping.{IsRead};
+ghost use Rattle.vd_trace.specs.Keeping.{HasReadLines};
 ghost use Rattle.vd_trace.specs.Streaming.{StandsAt, EndsBy, left_over};
+ghost use Rattle.vd_law.specs.Counts.{Rose};
 
 use crate::error::TraceError;
 use crate::kept::{Draft, take};
@@ -31,14 +31,14 @@ fn step<I: Source>(
     window: &mut Window,
     source: &mut I,
 ) -> Result<bool, TraceError>
-    requires { (done : List (List ℕ)) × IsRead done draft.old }
+    requires { (done : List (List ℕ)) × HasReadLines done draft.old }
     ensures goes { (all : List (List ℕ)) → StandsAt all (I.tells source.old) (window.old ++ I.rest source.old) draft.old → MatchResult result
         (λ ended. StandsAt all (I.tells source.new) (window.new ++ I.rest source.new) draft.new) (EndsBy draft.old.guests all (I.tells source.new)) }
     ensures ended { IfOk result (λ ended. ended ≡ true → IsFirstByte (is_byte 10) window.new None × (I.tells source.new → I.rest source.new ≡ [])) }
     ensures less { IfOk result (λ ended. ended ≡ false → left_over draft.new window.new < left_over draft.old window.old) }
     ensures guests { OnOk result (draft.new.guests ≡ draft.old.guests) }
     ensures told_before { I.tells source.new → I.tells source.old }
-    ensures calm { I.faults source.old ≤ I.faults source.new }
+    ensures no_fewer_faults { I.faults source.old ≤ I.faults source.new }
     ensures cause { IfErr result (λ e. e ≡ Source → Rose (I.faults source.old) (I.faults source.new)) }
 {
     match memchr::memchr(b'\n', window.bytes()) {
@@ -61,14 +61,14 @@ fn step<I: Source>(
 
 /// Reads the source to its end.
 pub fn read_lines<I: Source>(draft: &mut Draft, source: &mut I) -> Result<(), TraceError>
-    requires { IsRead [] draft.old }
-    ensures kept { OnOk result ((done : List (List ℕ)) × IsRead done draft.new) }
-    ensures reads { I.tells source.new → MatchResult result (λ u. IsRead (lines (I.rest source.old)) draft.new)
+    requires { HasReadLines [] draft.old }
+    ensures kept { OnOk result ((done : List (List ℕ)) × HasReadLines done draft.new) }
+    ensures reads { I.tells source.new → MatchResult result (λ u. HasReadLines (lines (I.rest source.old)) draft.new)
         (EndsBy draft.old.guests (lines (I.rest source.old)) (I.tells source.new)) }
     ensures ended { I.tells source.new → OnOk result (I.rest source.new ≡ []) }
     ensures guests { OnOk result (draft.new.guests ≡ draft.old.guests) }
     ensures told_before { I.tells source.new → I.tells source.old }
-    ensures calm { I.faults source.old ≤ I.faults source.new }
+    ensures no_fewer_faults { I.faults source.old ≤ I.faults source.new }
     ensures cause { IfErr result (λ e. e ≡ Source → Rose (I.faults source.old) (I.faults source.new)) }
 {
     let mut window = Window::new();

@@ -2,13 +2,14 @@
 
 ghost use Rattle.std.specs.Prelude.{◌≡◌, ◌↔◌, ◌≤◌, ◌<◌, ◌+◌, true, false, IsTrue, List, [], length, replicate, drop, slice_get, Some, find, nat_lt, OnOk, OnErr, IfOk, IfErr};
 ghost use Rattle.std.specs.Option.{option_map, option_or};
-ghost use Rattle.vd_io.specs.Streams.{Rose, Writes};
+ghost use Rattle.vd_io.specs.Streams.{WritesText};
 ghost use Rattle.vd_trace.specs.declared.line.Line.{Line};
 ghost use Rattle.vd_trace.specs.declared.error.TraceError.TheVariants.{Source as SourceFault};
-ghost use Rattle.vd_trace.specs.Traces.{SpellsTrace, Showing, script, asked_of};
-ghost use Rattle.vd_trace.specs.Scripts.{ReadsTrace, Accepts, request_of, HasRange, handed, asks_past, shows_past, need_of};
-ghost use Rattle.vd_trace.specs.Texts.{trace_text, ReadsBack, IsRange, IsRequest};
-ghost use Rattle.vd_trace.specs.Keeping.{work_of, sectors_in, end_in, IsStored};
+ghost use Rattle.vd_trace.specs.Traces.{SpellsTrace, Showing, script, work_asked};
+ghost use Rattle.vd_trace.specs.Scripts.{ReadsTrace, Accepts, request_of, HasRange, sectors_handed, asks_past, shows_past, need_of};
+ghost use Rattle.vd_trace.specs.Texts.{trace_text, ReadsBack, IsRangeOfLine, IsRequest};
+ghost use Rattle.vd_trace.specs.Keeping.{work_of, sectors_in, end_in, HasSectorAmong};
+ghost use Rattle.vd_law.specs.Counts.{Rose};
 
 use crate::error::TraceError;
 use crate::kept::{Draft, Item, Shown, Stored, empty_draft};
@@ -53,11 +54,11 @@ impl Model for Trace {
 
 /// Gives a request, and puts the sectors that it writes at the front of `content`.
 fn hand_out(sectors: &[Sector], work: Stored, content: &mut [Sector]) -> Asked
-    requires stored { IsStored (length sectors.now) work }
+    requires stored { HasSectorAmong (length sectors.now) work }
     requires room { sectors_in work ≤ length content.old }
-    ensures request { request_of result content.new ≡ asked_of (work_of sectors.now work) }
+    ensures request { request_of result content.new ≡ work_asked (work_of sectors.now work) }
     ensures range { IsRequest (work_of sectors.now work) → HasRange result }
-    ensures others { drop (handed result) content.new ≡ drop (handed result) content.old }
+    ensures others { drop (sectors_handed result) content.new ≡ drop (sectors_handed result) content.old }
 {
     match work {
         Stored::Read { first, count } => Asked::Read {
@@ -139,7 +140,7 @@ impl Trace {
         ensures ended { I.tells source.new → OnOk result (I.rest source.new ≡ []) }
         ensures guests { IfOk result (λ trace. trace.guests ≡ guests) }
         ensures told_before { I.tells source.new → I.tells source.old }
-        ensures calm { I.faults source.old ≤ I.faults source.new }
+        ensures no_fewer_faults { I.faults source.old ≤ I.faults source.new }
         ensures cause { IfErr result (λ e. e ≡ SourceFault → Rose (I.faults source.old) (I.faults source.new)) }
     {
         let mut draft = empty_draft(alloc, guests)?;
@@ -185,7 +186,7 @@ impl Trace {
         requires room { length content.old ≡ 2048 }
         ensures request { slice_get (script self.now guest) at ≡ Some (request_of result content.new) }
         ensures range { HasRange result }
-        ensures others { drop (handed result) content.new ≡ drop (handed result) content.old }
+        ensures others { drop (sectors_handed result) content.new ≡ drop (sectors_handed result) content.old }
     {
         let place = self.places[guest as usize - 1][at as usize];
         hand_out(
@@ -213,7 +214,7 @@ impl Trace {
     pub fn show(&self, at: u64) -> (u64, u64)
         requires { at < length self.now.shows }
         ensures shown { (shown : Showing) → slice_get self.now.shows at ≡ Some shown → (result.0 ≡ shown.first) × (result.1 ≡ shown.count) }
-        ensures range { IsRange result.0 result.1 }
+        ensures range { IsRangeOfLine result.0 result.1 }
     {
         let shown = self.shows[at as usize];
         (shown.first, u64::from(shown.count))
@@ -236,9 +237,9 @@ impl Trace {
     /// numbers of its lines may differ.
     pub fn print<O: Sink>(&self, out: &mut O) -> Result<(), Failed>
         ensures told_before { O.tells out.new → O.tells out.old }
-        ensures writes { O.tells out.new → Writes (trace_text self.now) result (O.written out.old) (O.written out.new) }
+        ensures writes { O.tells out.new → WritesText (trace_text self.now) result (O.written out.old) (O.written out.new) }
         ensures reads_back { ReadsBack self.now }
-        ensures calm { O.faults out.old ≤ O.faults out.new }
+        ensures no_fewer_faults { O.faults out.old ≤ O.faults out.new }
         ensures cause { OnErr result (Rose (O.faults out.old) (O.faults out.new)) }
     {
         put_items(out, self.items.as_slice(), self.sectors.as_slice())?;

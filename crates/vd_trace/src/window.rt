@@ -2,7 +2,7 @@
 
 ghost use Rattle.std.specs.Prelude.{◌≡◌, ◌≢◌, ◌+◌, ◌<◌, ◌≤◌, ◌++◌, [], length, take, drop, IfOk, OnErr};
 ghost use Rattle.memchr.specs.Find.{IsFirstByte, is_byte};
-ghost use Rattle.vd_io.specs.Streams.{Rose};
+ghost use Rattle.vd_law.specs.Counts.{Rose};
 
 use std::marker::Model;
 use vd_io::Failed;
@@ -70,7 +70,7 @@ impl Window {
         ensures told_before { I.tells source.new → I.tells source.old }
         ensures bytes { I.tells source.new → IfOk result (λ n. self.new ++ I.rest source.new ≡ self.old ++ I.rest source.old) }
         ensures ended { I.tells source.new → IfOk result (λ n. n ≡ 0 → I.rest source.new ≡ []) }
-        ensures calm { I.faults source.old ≤ I.faults source.new }
+        ensures no_fewer_faults { I.faults source.old ≤ I.faults source.new }
         ensures cause { OnErr result (Rose (I.faults source.old) (I.faults source.new)) }
     {
         let there = self.to - self.from;

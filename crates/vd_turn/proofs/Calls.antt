@@ -10,7 +10,7 @@ use Rattle.vd_turn.specs.declared.board.View.{View}
 use Rattle.vd_turn.specs.declared.keeping.Kept.{Ghosts}
 use Rattle.vd_turn.specs.Values.{PassValue}
 use Rattle.vd_turn.specs.Lists.{IsLaterFor, IsGrownBy, size}
-use Rattle.vd_turn.specs.Board.{note, view_of, noting, knowing, finding, looked, Standing, IsTaken, taken, given}
+use Rattle.vd_turn.specs.Board.{note, view_of, noting, knowing, finding, LoadsWord, HasOneValue, IsTaken, TakesValue, GivesValueBack}
 use Rattle.vd_turn.proofs.Steps.{looks, takes_value, gives_value}
 use Rattle.vd_turn.proofs.Entries.{later_reflexive, later_carries}
 
@@ -35,22 +35,22 @@ module _ {V E P F : Type 0} (g : Ghosts V E P F) where
   M = Me (Option V) (View V)
 
   abbrev Rule : ℕ → State (Option V) (View V) → Type 0
-  Rule passes = Standing (IsLaterFor g) (size g) passes
+  Rule passes = HasOneValue (IsLaterFor g) (size g) passes
 
-  pub may_look : (passes slots id pass : ℕ) (last : V) (fs : List ℕ) (m : M) → m ≡ knowing pass last false fs → Allows (Rule passes) slots id m 0 (λ n. n) (looked (step slots 0 0 0 none) m)
+  pub may_look : (passes slots id pass : ℕ) (last : V) (fs : List ℕ) (m : M) → m ≡ knowing pass last false fs → Allows (Rule passes) slots id m 0 (λ n. n) (LoadsWord (step slots 0 0 0 none) m)
   may_look passes slots id pass last fs m is =
-      subst (λ (z : M). Allows (Rule passes) slots id z 0 (λ n. n) (looked (step slots 0 0 0 none) z)) (sym is) (looks (IsLaterFor g) (size g) passes slots id pass last fs)
+      subst (λ (z : M). Allows (Rule passes) slots id z 0 (λ n. n) (LoadsWord (step slots 0 0 0 none) z)) (sym is) (looks (IsLaterFor g) (size g) passes slots id pass last fs)
 
   pub may_take : (passes slots id old pass : ℕ) (last : V) (fs : List ℕ) (m : M) → m ≡ knowing pass last false fs → old % 2 ≢ 1
-      → Allows (Rule passes) slots id m 0 (λ n. either (eqb n old) (old + 1) n) (taken (IsLaterFor g) (size g) (step slots 0 old (old + 1) none) m)
+      → Allows (Rule passes) slots id m 0 (λ n. either (eqb n old) (old + 1) n) (TakesValue (IsLaterFor g) (size g) (step slots 0 old (old + 1) none) m)
   may_take passes slots id old pass last fs m is odd =
-      subst (λ (z : M). Allows (Rule passes) slots id z 0 (λ n. either (eqb n old) (old + 1) n) (taken (IsLaterFor g) (size g) (step slots 0 old (old + 1) none) z))
+      subst (λ (z : M). Allows (Rule passes) slots id z 0 (λ n. either (eqb n old) (old + 1) n) (TakesValue (IsLaterFor g) (size g) (step slots 0 old (old + 1) none) z))
       (sym is) (takes_value (IsLaterFor g) (size g) passes (later_reflexive g) slots id old pass last fs (omega arith))
 
   pub may_give : (passes slots id pass n : ℕ) (x y : V) (fs : List ℕ) (m : M) → m ≡ in_hand pass x y fs → n ≡ 2 * size g y → IsGrownBy g pass x y
-      → Allows (Rule passes) slots id m 0 (λ _. n) (λ _. given (step slots 0 n 0 none) m n)
+      → Allows (Rule passes) slots id m 0 (λ _. n) (λ _. GivesValueBack (step slots 0 n 0 none) m n)
   may_give passes slots id pass n x y fs m is counted grown =
-      subst (λ (z : M). Allows (Rule passes) slots id z 0 (λ _. n) (λ _. given (step slots 0 n 0 none) z n))
+      subst (λ (z : M). Allows (Rule passes) slots id z 0 (λ _. n) (λ _. GivesValueBack (step slots 0 n 0 none) z n))
       (sym is) (gives_value (IsLaterFor g) (size g) passes (IsGrownBy g) (later_reflexive g) (later_carries g) slots id pass x y fs n counted grown)
 
   module _ (found pass : ℕ) (last : V) (fs : List ℕ) (m m' : M) (is : m ≡ knowing pass last false fs) (t : IsTaken (IsLaterFor g) (size g) m found m') where

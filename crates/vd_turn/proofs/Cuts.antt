@@ -10,7 +10,7 @@ use Rattle.vd_turn.specs.declared.board.Note.{Note}
 use Rattle.vd_turn.specs.declared.board.View.{View}
 use Rattle.vd_turn.specs.declared.keeping.Kept.{Ghosts}
 use Rattle.vd_turn.specs.Lists.{IsLaterFor, size}
-use Rattle.vd_turn.specs.Board.{note, view_of, notes_from, knowing, Standing}
+use Rattle.vd_turn.specs.Board.{note, view_of, notes_from, knowing, HasOneValue}
 use Rattle.vd_turn.proofs.Steps.{parts_pass, joins_pass}
 
 pub range_more : (a n : ℕ) → range_with_len a (n + 1) ≡ range_with_len a n ++ (a + n) ∷ []
@@ -63,7 +63,7 @@ module _ {V : Type 0} where
 
 module _ {V E P F : Type 0} (g : Ghosts V E P F) (passes : ℕ) where
   abbrev Rule : State (Option V) (View V) → Type 0
-  Rule = Standing (IsLaterFor g) (size g) passes
+  Rule = HasOneValue (IsLaterFor g) (size g) passes
 
   cuts : (id p c : ℕ) (x : V) → 0 < c → (let v : View V = view_of (notes_from p c x) false [] in Splits Rule id v (view_of (drop 1 v.notes) v.holds v.found) (view_of (take 1 v.notes) false []))
   cuts id p zero x some = absurd (omega arith)

@@ -10,8 +10,8 @@ use Rattle.vd_turn.specs.declared.board.View.{View}
 use Rattle.vd_turn.specs.Values.{PassValue}
 use Rattle.vd_turn.specs.declared.keeping.Kept.{Ghosts}
 use Rattle.vd_turn.specs.Lists.{IsLaterFor, size}
-use Rattle.vd_turn.specs.Board.{view_of, first_view, Standing}
-use Rattle.vd_turn.specs.Passes.{number_of}
+use Rattle.vd_turn.specs.Board.{view_of, first_view, HasOneValue}
+use Rattle.vd_turn.specs.Passes.{pass_number}
 use Rattle.vd_turn.specs.Board.{note_of}
 use Rattle.vd_turn.proofs.Steps.{starts, ends}
 use Rattle.vd_turn.proofs.Entries.{later_reflexive}
@@ -26,23 +26,23 @@ module _ {V : Type 0} where
   unmapped P [] all = All-nil (λ t. P (note_of t))
   unmapped P (t ∷ ts) all = All-cons (λ u. P (note_of u)) t ts (All-head P (note_of t) (map note_of ts) all) (unmapped P ts (All-tail P (note_of t) (map note_of ts) all))
 
-  noted : (items : List (PassValue V)) (p : ℕ) → Contains (map number_of items) p → (n : Note V) × Contains (map note_of items) n × (n.pass ≡ p)
+  noted : (items : List (PassValue V)) (p : ℕ) → Contains (map pass_number items) p → (n : Note V) × Contains (map note_of items) n × (n.pass ≡ p)
   noted [] p c = absurd (omega (arith, c.1))
   noted (t ∷ ts) p (zero, low, same) = (note_of t, (zero, (let h : 0 < suc (length (map note_of ts)) = omega arith in h), refl), same)
-  noted (t ∷ ts) p (suc k, low, same) = let r = noted ts p (k, (let h : k < length (map number_of ts) = omega arith in h), same) in
+  noted (t ∷ ts) p (suc k, low, same) = let r = noted ts p (k, (let h : k < length (map pass_number ts) = omega arith in h), same) in
       (r.0, (suc r.1.0, (let h : suc r.1.0 < suc (length (map note_of ts)) = omega (arith, r.1.1) in h), r.1.2), r.2)
 
-  pub some_there : (items : List (PassValue V)) (p : ℕ) → Contains (map number_of items) p → 0 < length items
+  pub some_there : (items : List (PassValue V)) (p : ℕ) → Contains (map pass_number items) p → 0 < length items
   some_there [] p c = absurd (omega (arith, c.1))
   some_there (t ∷ ts) p c = omega arith
 
 module _ {V E P F : Type 0} (g : Ghosts V E P F) (passes : ℕ) where
   abbrev Rule : State (Option V) (View V) → Type 0
-  Rule = Standing (IsLaterFor g) (size g) passes
+  Rule = HasOneValue (IsLaterFor g) (size g) passes
 
   -- what is found in the slot is a value later than what each pass has seen
   pub closes : (id count : ℕ) (items : List (PassValue V)) (v : View V) (ws : List ℕ) (xs : List (Option V)) (found : Option V) → v ≡ view_of (map note_of items) false v.found → passes ≡ count
-      → ((p : ℕ) → p < count → Contains (map number_of items) p) → Final (Seen Rule id v) ws xs → get_elem? xs 0 ≡ some found
+      → ((p : ℕ) → p < count → Contains (map pass_number items) p) → Final (Seen Rule id v) ws xs → get_elem? xs 0 ≡ some found
       → (x : V) × (found ≡ Some x) × All (λ (t : PassValue V). IsLaterFor g t.number t.last x) items
   closes id count items v ws xs found is counted covered final at =
       let within : (p : ℕ) → p < passes → p < count = λ p low. omega arith in
@@ -50,7 +50,7 @@ module _ {V E P F : Type 0} (g : Ghosts V E P F) (passes : ℕ) where
       (e.0, some-injective found (Some e.0) (sym at ∙ ap (λ l. get_elem? l 0) e.1), unmapped (λ n. IsLaterFor g n.pass n.value e.0) items e.2)
 
   pub later_end : (id count : ℕ) (items : List (PassValue V)) (v : View V) (ws : List ℕ) (xs : List (Option V)) (x : V) (found : Option V) → v ≡ view_of (map note_of items) false v.found → passes ≡ count
-      → ((p : ℕ) → p < count → Contains (map number_of items) p) → Final (Seen Rule id v) ws xs → get_elem? xs 0 ≡ some found → found ≡ Some x → All (λ (t : PassValue V). IsLaterFor g t.number t.last x) items
+      → ((p : ℕ) → p < count → Contains (map pass_number items) p) → Final (Seen Rule id v) ws xs → get_elem? xs 0 ≡ some found → found ≡ Some x → All (λ (t : PassValue V). IsLaterFor g t.number t.last x) items
   later_end id count items v ws xs x found is counted covered final at out =
       let e = closes id count items v ws xs found is counted covered final at in
       let some : Some x ≡ Some e.0 = sym out ∙ e.1 in let same : x ≡ e.0 = cc in

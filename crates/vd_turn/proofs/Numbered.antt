@@ -6,10 +6,10 @@ use Rattle.std.proofs.lemmas.List.FromFn.{get_or-range_with_len, length-range_wi
 use Rattle.std.proofs.lemmas.List.Elements.{All-nil, All-cons}
 use Rattle.atomic_table.specs.Seated.{TableId}
 use Rattle.vd_turn.specs.Values.{PassValue}
-use Rattle.vd_turn.specs.Passes.{number_of, resting}
+use Rattle.vd_turn.specs.Passes.{pass_number, resting}
 
 module _ {V : Type 0} where
-  pub numbers_of : (turn : TableId) (x : V) (numbers : List ℕ) → map number_of (map (resting turn x) numbers) ≡ numbers
+  pub numbers_of : (turn : TableId) (x : V) (numbers : List ℕ) → map pass_number (map (resting turn x) numbers) ≡ numbers
   numbers_of turn x [] = refl
   numbers_of turn x (n ∷ ns) = ap (λ l. n ∷ l) (numbers_of turn x ns)
 
@@ -18,14 +18,14 @@ module _ {V : Type 0} where
   each_rests turn x (n ∷ ns) P h = All-cons P (resting turn x n) (map (resting turn x) ns) (h n) (each_rests turn x ns P h)
 
   -- passes that were numbered by their place, and came back in their places, are all there
-  pub all_there : (before after : List (PassValue V)) (count : ℕ) → map number_of before ≡ range_with_len 0 count → length after ≡ length before
-      → ((i : ℕ) (d : PassValue V) → i < length before → (get_or after i d).number ≡ (get_or before i d).number) → (n : ℕ) → n < count → Contains (map number_of after) n
-  all_there before after count numbered same kept n low = let counted : length before ≡ count = sym (length-map before number_of) ∙ (ap length numbered ∙ length-range_with_len 0 count) in
-      let there : n < length before = omega (arith, counted) in let there' : n < length (map number_of after) = omega (arith, length-map after number_of, counted) in
+  pub all_there : (before after : List (PassValue V)) (count : ℕ) → map pass_number before ≡ range_with_len 0 count → length after ≡ length before
+      → ((i : ℕ) (d : PassValue V) → i < length before → (get_or after i d).number ≡ (get_or before i d).number) → (n : ℕ) → n < count → Contains (map pass_number after) n
+  all_there before after count numbered same kept n low = let counted : length before ≡ count = sym (length-map before pass_number) ∙ (ap length numbered ∙ length-range_with_len 0 count) in
+      let there : n < length before = omega (arith, counted) in let there' : n < length (map pass_number after) = omega (arith, length-map after pass_number, counted) in
       (n, there', from after (omega (arith, counted)) refl)
     where
-      from : (l : List (PassValue V)) → n < length l → l ≡ after → get_or (map number_of after) n n ≡ n
+      from : (l : List (PassValue V)) → n < length l → l ≡ after → get_or (map pass_number after) n n ≡ n
       from [] h e = absurd (omega arith)
-      from (d ∷ l) h e = let counted : length before ≡ count = sym (length-map before number_of) ∙ (ap length numbered ∙ length-range_with_len 0 count) in
+      from (d ∷ l) h e = let counted : length before ≡ count = sym (length-map before pass_number) ∙ (ap length numbered ∙ length-range_with_len 0 count) in
           let there : n < length before = omega (arith, counted) in let inside : n < length after = omega (arith, counted) in let z : 0 + n ≡ n = omega arith in
-          get_or-map number_of after n d n inside ∙ (kept n d there ∙ (sym (get_or-map number_of before n d 0 there) ∙ (ap (λ l. get_or l n 0) numbered ∙ (get_or-range_with_len 0 count n 0 low ∙ z))))
+          get_or-map pass_number after n d n inside ∙ (kept n d there ∙ (sym (get_or-map pass_number before n d 0 there) ∙ (ap (λ l. get_or l n 0) numbered ∙ (get_or-range_with_len 0 count n 0 low ∙ z))))

@@ -73,7 +73,7 @@ module _ {V : Type 0} (IsLater : ℕ → V → V → Type 0) (passes : ℕ) wher
     pub later : IsLater n.pass n.value x
 
 -- value is the one last at home or taken
-pub record Standing {V : Type 0} (IsLater : ℕ → V → V → Type 0) (size : V → ℕ) (passes : ℕ) (s : State (Option V) (View V)) : Type 0 where
+pub record HasOneValue {V : Type 0} (IsLater : ℕ → V → V → Type 0) (size : V → ℕ) (passes : ℕ) (s : State (Option V) (View V)) : Type 0 where
   pub value : V
   pub seat_of : ℕ → ℕ
   pub known : (seat : ℕ) (v : View V) → get_elem? s.views seat ≡ some v → All (IsNoteOf IsLater passes seat_of value seat) v.notes
@@ -87,13 +87,13 @@ module _ {V : Type 0} (IsLater : ℕ → V → V → Type 0) (size : V → ℕ) 
     pub later : All (λ n. IsLater n.pass n.value value) m.0.notes
     pub counted : found ≡ 2 * size value
 
-  abbrev pub taken : Step (Option V) → Me (Option V) (View V) → ℕ → Me (Option V) (View V) → Type 0
-  taken st m found m' = (found ≡ st.first → IsTaken m found m') × (found ≢ st.first → m' ≡ (finding m.0 found, m.1))
+  abbrev pub TakesValue : Step (Option V) → Me (Option V) (View V) → ℕ → Me (Option V) (View V) → Type 0
+  TakesValue st m found m' = (found ≡ st.first → IsTaken m found m') × (found ≢ st.first → m' ≡ (finding m.0 found, m.1))
 
 -- the value is at home again, and the pass has seen it
-abbrev pub given : {V : Type 0} → Step (Option V) → Me (Option V) (View V) → ℕ → Me (Option V) (View V) → Type 0
-given {V} st m found m' = (x : V) → m.1 ≡ (0, Some x) ∷ [] → m' ≡ (view_of (noting x m.0.notes) false m.0.found, [])
+abbrev pub GivesValueBack : {V : Type 0} → Step (Option V) → Me (Option V) (View V) → ℕ → Me (Option V) (View V) → Type 0
+GivesValueBack {V} st m found m' = (x : V) → m.1 ≡ (0, Some x) ∷ [] → m' ≡ (view_of (noting x m.0.notes) false m.0.found, [])
 
 -- a load
-abbrev pub looked : {V : Type 0} → Step (Option V) → Me (Option V) (View V) → ℕ → Me (Option V) (View V) → Type 0
-looked st m found m' = m' ≡ (finding m.0 found, m.1)
+abbrev pub LoadsWord : {V : Type 0} → Step (Option V) → Me (Option V) (View V) → ℕ → Me (Option V) (View V) → Type 0
+LoadsWord st m found m' = m' ≡ (finding m.0 found, m.1)

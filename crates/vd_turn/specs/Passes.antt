@@ -6,12 +6,12 @@ use Rattle.vd_turn.specs.declared.keeping.Kept.{Ghosts}
 use Rattle.vd_turn.specs.Values.{TurnValue, PassValue}
 
 module _ {V : Type 0} where
-  abbrev pub number_of : PassValue V → ℕ
-  number_of pass = pass.number
+  abbrev pub pass_number : PassValue V → ℕ
+  pass_number pass = pass.number
 
   -- the pass has the value x in hand
-  abbrev pub Holds : PassValue V → V → Type 0
-  Holds pass x = (pass.holds ≡ true) × (pass.last ≡ x)
+  abbrev pub HoldsValue : PassValue V → V → Type 0
+  HoldsValue pass x = (pass.holds ≡ true) × (pass.last ≡ x)
 
   -- the pass holds nothing, and x is what it gave back last, or the value at making
   abbrev pub Rests : PassValue V → V → Type 0
@@ -29,7 +29,7 @@ module _ {V : Type 0} where
 
   -- each pass of the turn is there
   abbrev pub HasAll : TurnValue V → List (PassValue V) → Type 0
-  HasAll turn passes = (number : ℕ) → number < turn.passes → Contains (map number_of passes) number
+  HasAll turn passes = (number : ℕ) → number < turn.passes → Contains (map pass_number passes) number
 
 module _ {V E P F : Type 0} where
   -- the pass is one of the turn's, and the value that it knows has the turn's fixed part

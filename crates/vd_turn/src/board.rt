@@ -33,10 +33,10 @@ pub struct Rule<V> {
 }
 
 impl<V: Kept> TableRule<Option<V>, View<V>, Terms<V>> for Rule<V> {
-    ghost use Rattle.vd_turn.specs.Board.{Standing, first_view};
+    ghost use Rattle.vd_turn.specs.Board.{HasOneValue, first_view};
     ghost use Rattle.vd_turn.specs.Lists.{IsLaterFor, size};
 
-    ghost holds = { λ terms. Standing (IsLaterFor ⟦<V as Kept>⟧) (size ⟦<V as Kept>⟧) terms.passes };
+    ghost holds = { λ terms. HasOneValue (IsLaterFor ⟦<V as Kept>⟧) (size ⟦<V as Kept>⟧) terms.passes };
 
     ghost first = { λ terms. first_view terms.passes terms.start.value };
 }

@@ -2,7 +2,7 @@
 ghost use Rattle.std.specs.Prelude.{◌≡◌, ◌<◌, ◌≤◌, [], ◌∷◌, true, false, map, vec_capacity, IfNone, IfSome, IfOk, IfErr};
 ghost use Rattle.std.specs.List.{All, range_with_len};
 ghost use Rattle.vd_turn.specs.Lists.{IsLaterFor, IsGrownBy};
-ghost use Rattle.vd_turn.specs.Passes.{Belongs, Holds, Rests, FindsTaken, HasAll, number_of};
+ghost use Rattle.vd_turn.specs.Passes.{Belongs, HoldsValue, Rests, FindsTaken, HasAll, pass_number};
 
 use crate::board::{Board, Terms};
 use crate::dealing::{deal, gather};
@@ -83,7 +83,7 @@ impl<V: Kept> Turn<V> {
     ) -> Result<(Turn<V>, Vec<TurnPass<V>>), Refused<V>>
         requires { (1 ≤ passes) × (passes ≤ 64) }
         ensures turn { IfOk result (λ t. (t.0.start ≡ value) × (t.0.passes ≡ passes)) }
-        ensures numbers { IfOk result (λ t. map number_of t.1.items ≡ range_with_len 0 passes) }
+        ensures numbers { IfOk result (λ t. map pass_number t.1.items ≡ range_with_len 0 passes) }
         ensures each { IfOk result (λ t. All (λ pass. Belongs ⟦<V as Kept>⟧ t.0 pass × Rests pass value) t.1.items) }
         ensures refused { IfErr result (λ r. r.value ≡ value) }
     {
@@ -120,7 +120,7 @@ impl<V: Kept> Turn<V> {
         ensures pass { (pass.new.number ≡ pass.old.number) × Belongs ⟦<V as Kept>⟧ self.now pass.new }
         ensures none { IfNone result (FindsTaken pass.old pass.new) }
         ensures unchanged { IfNone result (Rests pass.new pass.old.last) }
-        ensures holds { IfSome result (Holds pass.new) }
+        ensures holds { IfSome result (HoldsValue pass.new) }
         ensures later { IfSome result (IsLaterFor ⟦<V as Kept>⟧ pass.old.number pass.old.last) }
         ensures fixed { IfSome result (λ value. V.fixed value ≡ V.fixed self.now.start) }
     {
@@ -149,7 +149,7 @@ impl<V: Kept> Turn<V> {
         requires belongs { Belongs ⟦<V as Kept>⟧ self.now pass.old }
         requires rests { pass.old.holds ≡ false }
         ensures pass { (pass.new.number ≡ pass.old.number) × Belongs ⟦<V as Kept>⟧ self.now pass.new }
-        ensures holds { Holds pass.new result }
+        ensures holds { HoldsValue pass.new result }
         ensures later { IsLaterFor ⟦<V as Kept>⟧ pass.old.number pass.old.last result }
         ensures fixed { V.fixed result ≡ V.fixed self.now.start }
     {

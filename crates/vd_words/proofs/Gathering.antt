@@ -8,7 +8,7 @@ use Rattle.std.proofs.lemmas.List.{append-nil}
 use Rattle.std.proofs.lemmas.List.Elements.{All-pop}
 use Rattle.std.proofs.lemmas.List.Sums.{sum_by-cons, sum_by_push, sum_by-append}
 use Rattle.vd_words.specs.declared.view.View.{View}
-use Rattle.vd_words.specs.Counts.{times, past, times_seen, once_below}
+use Rattle.vd_words.specs.Counts.{times, count_past, times_seen, once_below}
 use Rattle.vd_words.specs.Rule.{view, both}
 use Rattle.vd_words.specs.Values.{ScanValue, times_drawn, times_looked, count_ended}
 
@@ -44,17 +44,17 @@ module _ (v w : View) (items rest : List ScanValue) (x : ScanValue) (is : w ≡ 
       let more = sum_by_push (λ (s : ScanValue). times_seen b s.looks) rest x in
       omega arith
 
-  pub ended_taken : (limit : ℕ) → (x.ended ≡ true → 0 < past x.limit x.draws) → All (λ (s : ScanValue). s.limit ≡ limit) items
-      → All (λ (s : ScanValue). s.limit ≡ limit) rest × (count_ended items + past limit v.drawn ≤ count_ended rest + past limit (both v w).drawn)
+  pub ended_taken : (limit : ℕ) → (x.ended ≡ true → 0 < count_past x.limit x.draws) → All (λ (s : ScanValue). s.limit ≡ limit) items
+      → All (λ (s : ScanValue). s.limit ≡ limit) rest × (count_ended items + count_past limit v.drawn ≤ count_ended rest + count_past limit (both v w).drawn)
   ended_taken limit ends all =
       let cut = All-pop (λ (s : ScanValue). s.limit ≡ limit) items rest (Some x) last all in
       let own = sum_by-append (λ z. cond (nat_le limit z) 1 0) v.drawn w.drawn in
-      let same : past limit w.drawn ≡ past limit x.draws = ap (λ (u : View). past limit u.drawn) is in
+      let same : count_past limit w.drawn ≡ count_past limit x.draws = ap (λ (u : View). count_past limit u.drawn) is in
       let whole = ap count_ended last in
       let more = sum_by_push (λ (s : ScanValue). cond s.ended 1 0) rest x in
-      let least : cond x.ended 1 0 ≤ past limit x.draws = ⊎_elim
-      (λ yes. let some_past = subst (λ k. 0 < past k x.draws) cut.1 (ends yes) in subst (λ q. cond q 1 0 ≤ past limit x.draws) (sym yes) (omega arith))
-      (λ no. subst (λ q. cond q 1 0 ≤ past limit x.draws) (sym no) (omega arith))
+      let least : cond x.ended 1 0 ≤ count_past limit x.draws = ⊎_elim
+      (λ yes. let some_past = subst (λ k. 0 < count_past k x.draws) cut.1 (ends yes) in subst (λ q. cond q 1 0 ≤ count_past limit x.draws) (sym yes) (omega arith))
+      (λ no. subst (λ q. cond q 1 0 ≤ count_past limit x.draws) (sym no) (omega arith))
       (true_or_false x.ended) in
       (cut.0, omega arith)
 
@@ -68,7 +68,7 @@ at_least : (a b : ℕ) → nat_le a b ≡ true → a ≤ b
 at_least a b e = grind (arith, nat_tests)
 
 -- where a number that is not below the limit was drawn, there is such a number
-past_some : (limit : ℕ) (xs : List ℕ) → 0 < past limit xs → (y : ℕ) × (limit ≤ y) × (0 < times y xs)
+past_some : (limit : ℕ) (xs : List ℕ) → 0 < count_past limit xs → (y : ℕ) × (limit ≤ y) × (0 < times y xs)
 past_some limit [] h = absurd (omega arith)
 past_some limit (x ∷ xs) h = ⊎_elim
     (λ yes.
@@ -105,7 +105,7 @@ pub at_most_one : (x n : ℕ) → once_below x n ≤ 1
 at_most_one x n = grind (arith, nat_tests)
 
 -- where all numbers below n were drawn and some number is not below the limit, each number below the limit was drawn
-pub all_below : (limit n : ℕ) (xs : List ℕ) → ((x : ℕ) → times x xs ≡ once_below x n) → 0 < past limit xs → (x : ℕ) → x < limit → times x xs ≡ 1
+pub all_below : (limit n : ℕ) (xs : List ℕ) → ((x : ℕ) → times x xs ≡ once_below x n) → 0 < count_past limit xs → (x : ℕ) → x < limit → times x xs ≡ 1
 all_below limit n xs each more x below =
     let far = past_some limit xs more in
     let reached : far.0 < n = is_below far.0 n (subst (λ k. 0 < k) (each far.0) far.2) in

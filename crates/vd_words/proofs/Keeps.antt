@@ -15,24 +15,24 @@ use Rattle.atomic_table.specs.Table.{State, step, opening, keeps, stepped, Allow
 use Rattle.atomic_table.proofs.Lists.{at_set, at_snoc, set_again}
 use Rattle.vd_words.specs.declared.view.View.{View}
 use Rattle.vd_words.specs.declared.view.Plan.{Plan}
-use Rattle.vd_words.specs.Counts.{times, past, times_seen, once_below}
-use Rattle.vd_words.specs.Rule.{cursor, word_of, word_count, IsMarked, total, maker, newcomer, nobody, Fits, Kept, Seated, drew, Drawn, looked_at, Looked, marked_by, Marked, Settled, with_one_less, both}
+use Rattle.vd_words.specs.Counts.{times, count_past, times_seen, once_below}
+use Rattle.vd_words.specs.Rule.{cursor, word_of, word_count, IsMarked, total, maker, newcomer, nobody, EndsOnce, AreMarksCounted, Seated, view_after_draw, Drawn, view_after_look, Looked, view_after_mark, Marked, Settled, with_one_less, both}
 use Rattle.vd_words.proofs.Sums.{sum_set, sum_same, sum_none, sum_le, one_of_sum}
 
 abbrev St : Type 0
 St = State (Unit {0}) View
 
 -- each view of the changed list fits
-each_set : (plan : Plan) (views : List View) (id : ℕ) (w : View) → ((i : ℕ) (v : View) → get_elem? views i ≡ some v → Fits plan v) → Fits plan w → (i : ℕ) (v : View) → get_elem? (set views id w) i ≡ some v → Fits plan v
-each_set plan views id w each mine i v e = ⊎_elim (λ (t : (i ≡ id) × (w ≡ v)). subst (Fits plan) t.1 mine) (λ (t : (i ≢ id) × (get_elem? views i ≡ some v)). each i v t.1) (at_set views id i w v e)
+each_set : (plan : Plan) (views : List View) (id : ℕ) (w : View) → ((i : ℕ) (v : View) → get_elem? views i ≡ some v → EndsOnce plan v) → EndsOnce plan w → (i : ℕ) (v : View) → get_elem? (set views id w) i ≡ some v → EndsOnce plan v
+each_set plan views id w each mine i v e = ⊎_elim (λ (t : (i ≡ id) × (w ≡ v)). subst (EndsOnce plan) t.1 mine) (λ (t : (i ≢ id) × (get_elem? views i ≡ some v)). each i v t.1) (at_set views id i w v e)
 
 -- a change of the cursor touches no mark
 mark_stays : (words : List ℕ) (n b : ℕ) → slice_index (set words 0 n) (word_of b) ≡ slice_index words (word_of b)
 mark_stays words n b = let other : word_of b ≢ 0 = omega arith in get_or-set_other words 0 (word_of b) n 0 other
 
 -- the cursor is at most the limit and one more for each part
-pub room : (plan : Plan) (s : St) → Kept plan s → cursor s.words ≤ plan.drawn + (plan.scans + 1)
-room plan s r = let le = sum_le (λ v. past plan.drawn v.drawn) (λ v. v.parts) s.views (λ i v e. (r.each i v e).ended_once) in let b = r.bounded in let p = r.seats in omega arith
+pub room : (plan : Plan) (s : St) → AreMarksCounted plan s → cursor s.words ≤ plan.drawn + (plan.scans + 1)
+room plan s r = let le = sum_le (λ v. count_past plan.drawn v.drawn) (λ v. v.parts) s.views (λ i v e. (r.each i v e).ended_once) in let b = r.bounded in let p = r.seats in omega arith
 
 once_more : (x n : ℕ) → once_below x (n + 1) ≡ once_below x n + cond (nat_eq n x) 1 0
 once_more x n = grind (arith, nat_tests)
@@ -92,11 +92,11 @@ seen_else : (b c : ℕ) (q : Bool) → c ≢ b → ◌≡◌ {A = ℕ} (cond (na
 seen_else b c q apart = grind (arith, nat_tests)
 
 module _ (plan : Plan) (slots id : ℕ) (m : Seated) where
-  draws_kept : (s : St) → Kept plan s → get_elem? s.views id ≡ some m.0 → 1 ≤ m.0.parts → past plan.drawn m.0.drawn ≡ 0
-      → Kept plan (stepped s 0 (cursor s.words + 1) id m.1 (drew m.0 (cursor s.words)) keeps)
+  draws_kept : (s : St) → AreMarksCounted plan s → get_elem? s.views id ≡ some m.0 → 1 ≤ m.0.parts → count_past plan.drawn m.0.drawn ≡ 0
+      → AreMarksCounted plan (stepped s 0 (cursor s.words + 1) id m.1 (view_after_draw m.0 (cursor s.words)) keeps)
   draws_kept s r at part unended =
       let n : ℕ = cursor s.words in
-      let w : View = drew m.0 n in
+      let w : View = view_after_draw m.0 n in
       let wide : 0 < length s.words = omega (arith, r.sized) in
       let now : cursor (set s.words 0 (n + 1)) ≡ n + 1 = get_or-set_same s.words 0 (n + 1) 0 wide in
       let more = sum_by_push (λ y. cond (nat_le plan.drawn y) 1 0) m.0.drawn n in record {
@@ -118,29 +118,29 @@ module _ (plan : Plan) (slots id : ℕ) (m : Seated) where
             let was = r.counted in
             subst (λ k. total (λ v. length v.drawn) (set s.views id w) ≡ k) (sym now) (omega arith);
         bounded =
-            let all = sum_set (λ v. past plan.drawn v.drawn) s.views id m.0 w at in
-            let was = bounded_more plan.drawn n (total (λ v. past plan.drawn v.drawn) s.views) r.bounded in
-            subst (λ k. k ≤ plan.drawn + total (λ v. past plan.drawn v.drawn) (set s.views id w)) (sym now) (omega arith);
+            let all = sum_set (λ v. count_past plan.drawn v.drawn) s.views id m.0 w at in
+            let was = bounded_more plan.drawn n (total (λ v. count_past plan.drawn v.drawn) s.views) r.bounded in
+            subst (λ k. k ≤ plan.drawn + total (λ v. count_past plan.drawn v.drawn) (set s.views id w)) (sym now) (omega arith);
         each = each_set plan s.views id w r.each record {
           ended_once = let one = past_more plan.drawn n in omega arith;
           idle = λ none_left. absurd (omega arith);
         };
       }
 
-  pub draws : plan.drawn + plan.scans < 2 ^ 63 → 1 ≤ m.0.parts → past plan.drawn m.0.drawn ≡ 0
-      → Allows (Kept plan) slots id m 0 (λ n. (n + 1) % 2 ^ 64) (Drawn (step slots 0 1 0 none) m)
+  pub draws : plan.drawn + plan.scans < 2 ^ 63 → 1 ≤ m.0.parts → count_past plan.drawn m.0.drawn ≡ 0
+      → Allows (AreMarksCounted plan) slots id m 0 (λ n. (n + 1) % 2 ^ 64) (Drawn (step slots 0 1 0 none) m)
   draws small part unended s r sized at fits =
       let n : ℕ = cursor s.words in
       let most = room plan s r in
       let same : n + 1 ≡ (n + 1) % 18446744073709551616 = omega arith in
-      (drew m.0 n, keeps, tt, subst (λ k. Kept plan (stepped s 0 k id m.1 (drew m.0 n) keeps)) same (draws_kept s r at part unended), (refl, (let own = one_of_sum (λ v. length v.drawn) s.views id m.0 at in let all = r.counted in omega arith)))
+      (view_after_draw m.0 n, keeps, tt, subst (λ k. AreMarksCounted plan (stepped s 0 k id m.1 (view_after_draw m.0 n) keeps)) same (draws_kept s r at part unended), (refl, (let own = one_of_sum (λ v. length v.drawn) s.views id m.0 at in let all = r.counted in omega arith)))
 
-  marks_kept : (s : St) (b : ℕ) → Kept plan s → get_elem? s.views id ≡ some m.0 → 1 ≤ m.0.parts → b < plan.blocks
-      → Kept plan (stepped s (word_of b) (bit_or (slice_index s.words (word_of b)) (mask_of b)) id m.1 (marked_by b m.0) keeps)
+  marks_kept : (s : St) (b : ℕ) → AreMarksCounted plan s → get_elem? s.views id ≡ some m.0 → 1 ≤ m.0.parts → b < plan.blocks
+      → AreMarksCounted plan (stepped s (word_of b) (bit_or (slice_index s.words (word_of b)) (mask_of b)) id m.1 (view_after_mark b m.0) keeps)
   marks_kept s b r at part within =
       let i : ℕ = word_of b in
       let n : ℕ = bit_or (slice_index s.words i) (mask_of b) in
-      let w : View = marked_by b m.0 in
+      let w : View = view_after_mark b m.0 in
       let wide : i < length s.words = omega (arith, r.sized) in
       let ahead : 0 ≢ i = omega arith in
       let same : cursor (set s.words i n) ≡ cursor s.words = get_or-set_other s.words i 0 n 0 ahead in
@@ -160,7 +160,7 @@ module _ (plan : Plan) (slots id : ℕ) (m : Seated) where
             (λ ne. set_bit_else s.words b c wide ne ∙ was);
         drawn = λ x. subst (λ (z : ℕ × ℕ). z.0 ≡ once_below x z.1) (λ j. (sym (sum_same (λ v. times x v.drawn) s.views id m.0 w at refl) j, sym same j)) (r.drawn x);
         counted = sum_same (λ v. length v.drawn) s.views id m.0 w at refl ∙ r.counted ∙ sym same;
-        bounded = subst (λ (z : ℕ × ℕ). z.1 ≤ plan.drawn + z.0) (λ j. (sym (sum_same (λ v. past plan.drawn v.drawn) s.views id m.0 w at refl) j, sym same j)) r.bounded;
+        bounded = subst (λ (z : ℕ × ℕ). z.1 ≤ plan.drawn + z.0) (λ j. (sym (sum_same (λ v. count_past plan.drawn v.drawn) s.views id m.0 w at refl) j, sym same j)) r.bounded;
         each = each_set plan s.views id w r.each record {
           ended_once = (r.each id m.0 at).ended_once;
           idle = λ none_left. absurd (omega arith);
@@ -168,15 +168,15 @@ module _ (plan : Plan) (slots id : ℕ) (m : Seated) where
       }
 
   pub marks : (b i k : ℕ) → 1 ≤ m.0.parts → b < plan.blocks → i ≡ word_of b → k ≡ mask_of b
-      → Allows (Kept plan) slots id m i (λ n. bit_or n k) (Marked b (step slots i k 0 none) m)
+      → Allows (AreMarksCounted plan) slots id m i (λ n. bit_or n k) (Marked b (step slots i k 0 none) m)
   marks b i k part within at_word is_mask s r sized at fits =
-      (marked_by b m.0, keeps, tt, subst (λ (z : ℕ × ℕ). Kept plan (stepped s z.0 (bit_or (slice_index s.words z.0) z.1) id m.1 (marked_by b m.0) keeps)) (λ j. (sym at_word j, sym is_mask j)) (marks_kept s b r at part within), refl)
+      (view_after_mark b m.0, keeps, tt, subst (λ (z : ℕ × ℕ). AreMarksCounted plan (stepped s z.0 (bit_or (slice_index s.words z.0) z.1) id m.1 (view_after_mark b m.0) keeps)) (λ j. (sym at_word j, sym is_mask j)) (marks_kept s b r at part within), refl)
 
-  looks_kept : (s : St) (b : ℕ) → Kept plan s → get_elem? s.views id ≡ some m.0 → 1 ≤ m.0.parts
-      → Kept plan record { words = s.words; homes = s.homes; views = set s.views id (looked_at b (slice_index s.words (word_of b)) m.0) }
+  looks_kept : (s : St) (b : ℕ) → AreMarksCounted plan s → get_elem? s.views id ≡ some m.0 → 1 ≤ m.0.parts
+      → AreMarksCounted plan record { words = s.words; homes = s.homes; views = set s.views id (view_after_look b (slice_index s.words (word_of b)) m.0) }
   looks_kept s b r at part =
       let answer : Bool = nat_eq (bit_of s.words b) 1 in
-      let w : View = looked_at b (slice_index s.words (word_of b)) m.0 in
+      let w : View = view_after_look b (slice_index s.words (word_of b)) m.0 in
       let new : List View = set s.views id w in
       let old_look = λ (c : ℕ) (h : 0 < total (λ v. times_seen c v.looks) new) (none_more : ◌≡◌ {A = ℕ} (cond (nat_eq b c && answer) 1 0) 0).
       let all = sum_set (λ v. times_seen c v.looks) s.views id m.0 w at in
@@ -194,26 +194,26 @@ module _ (plan : Plan) (slots id : ℕ) (m : Seated) where
             (λ ne. old_look c h (seen_else b c answer ne));
         drawn = λ x. sum_same (λ v. times x v.drawn) s.views id m.0 w at refl ∙ r.drawn x;
         counted = sum_same (λ v. length v.drawn) s.views id m.0 w at refl ∙ r.counted;
-        bounded = subst (λ k. cursor s.words ≤ plan.drawn + k) (sym (sum_same (λ v. past plan.drawn v.drawn) s.views id m.0 w at refl)) r.bounded;
+        bounded = subst (λ k. cursor s.words ≤ plan.drawn + k) (sym (sum_same (λ v. count_past plan.drawn v.drawn) s.views id m.0 w at refl)) r.bounded;
         each = each_set plan s.views id w r.each record {
           ended_once = (r.each id m.0 at).ended_once;
           idle = λ none_left. absurd (omega arith);
         };
       }
 
-  looks_there : (b i : ℕ) → 1 ≤ m.0.parts → i ≡ word_of b → (s : St) → Kept plan s → get_elem? s.views id ≡ some m.0
-      → Kept plan (stepped s (word_of b) (slice_index s.words (word_of b)) id m.1 (looked_at b (slice_index s.words (word_of b)) m.0) keeps)
+  looks_there : (b i : ℕ) → 1 ≤ m.0.parts → i ≡ word_of b → (s : St) → AreMarksCounted plan s → get_elem? s.views id ≡ some m.0
+      → AreMarksCounted plan (stepped s (word_of b) (slice_index s.words (word_of b)) id m.1 (view_after_look b (slice_index s.words (word_of b)) m.0) keeps)
   looks_there b i part at_word s r at =
-      subst (λ ws. Kept plan record { words = ws; homes = s.homes; views = set s.views id (looked_at b (slice_index s.words (word_of b)) m.0) })
+      subst (λ ws. AreMarksCounted plan record { words = ws; homes = s.homes; views = set s.views id (view_after_look b (slice_index s.words (word_of b)) m.0) })
       (sym (set-get_or s.words (word_of b) 0)) (looks_kept s b r at part)
 
-  pub looks : (b i : ℕ) → 1 ≤ m.0.parts → i ≡ word_of b → Allows (Kept plan) slots id m i (λ n. n) (Looked b (step slots i 0 0 none) m)
+  pub looks : (b i : ℕ) → 1 ≤ m.0.parts → i ≡ word_of b → Allows (AreMarksCounted plan) slots id m i (λ n. n) (Looked b (step slots i 0 0 none) m)
   looks b i part at_word s r sized at fits =
       let n : ℕ = slice_index s.words i in (
-        looked_at b n m.0,
+        view_after_look b n m.0,
         keeps,
         tt,
-        subst (λ z. Kept plan (stepped s z (slice_index s.words z) id m.1 (looked_at b (slice_index s.words z) m.0) keeps)) (sym at_word) (looks_there b i part at_word s r at),
+        subst (λ z. AreMarksCounted plan (stepped s z (slice_index s.words z) id m.1 (view_after_look b (slice_index s.words z) m.0) keeps)) (sym at_word) (looks_there b i part at_word s r at),
         refl,
       )
 
@@ -227,7 +227,7 @@ module _ (plan : Plan) (id : ℕ) (v : View) where
       omega arith
 
   -- a seat that has drawn nothing gives a part away
-  pub splits : 2 ≤ v.parts → v.drawn ≡ [] → Splits (Kept plan) id v (with_one_less v) newcomer
+  pub splits : 2 ≤ v.parts → v.drawn ≡ [] → Splits (AreMarksCounted plan) id v (with_one_less v) newcomer
   splits two none_drawn s r at =
       let same = λ (f : View → ℕ) (cut : f v ≡ f (with_one_less v) + f newcomer). split_sum f s.views at cut in
       let zero_more = λ (n : ℕ). let e : n ≡ n + 0 = omega arith in e in
@@ -238,11 +238,11 @@ module _ (plan : Plan) (id : ℕ) (v : View) where
         seen = λ b. subst (λ k. 0 < k → IsMarked s.words b) (sym (same (λ u. times_seen b u.looks) (zero_more (times_seen b v.looks)))) (r.seen b);
         drawn = λ x. same (λ u. times x u.drawn) (zero_more (times x v.drawn)) ∙ r.drawn x;
         counted = same (λ u. length u.drawn) (zero_more (length v.drawn)) ∙ r.counted;
-        bounded = subst (λ k. cursor s.words ≤ plan.drawn + k) (sym (same (λ u. past plan.drawn u.drawn) (zero_more (past plan.drawn v.drawn)))) r.bounded;
+        bounded = subst (λ k. cursor s.words ≤ plan.drawn + k) (sym (same (λ u. count_past plan.drawn u.drawn) (zero_more (count_past plan.drawn v.drawn)))) r.bounded;
         each = λ i u e. ⊎_elim
             (λ there. each_set plan s.views id (with_one_less v) r.each
-            record { ended_once = subst (λ l. past plan.drawn l ≤ v.parts - 1) (sym none_drawn) (omega arith); idle = λ none_left. absurd (omega arith) } i u there)
-            (λ is_new. subst (Fits plan) is_new record { ended_once = omega arith; idle = λ none_left. absurd (omega arith) })
+            record { ended_once = subst (λ l. count_past plan.drawn l ≤ v.parts - 1) (sym none_drawn) (omega arith); idle = λ none_left. absurd (omega arith) } i u there)
+            (λ is_new. subst (EndsOnce plan) is_new record { ended_once = omega arith; idle = λ none_left. absurd (omega arith) })
             (at_snoc (set s.views id (with_one_less v)) newcomer u i e);
       }
 
@@ -255,7 +255,7 @@ module _ (plan : Plan) (id : ℕ) (v : View) (other : ℕ) (w : View) where
       let second = sum_set f (set views id (both v w)) other w nobody there in
       omega arith
 
-  pub joins : 1 ≤ v.parts → Joins (Kept plan) id v other w (both v w) nobody
+  pub joins : 1 ≤ v.parts → Joins (AreMarksCounted plan) id v other w (both v w) nobody
   joins part s r at apart there =
       let same = λ (f : View → ℕ) (added : f (both v w) ≡ f v + f w) (nothing : f nobody ≡ 0). join_sum f s.views at there added nothing in
       let was = ⊎_elim (λ (t : (other ≡ id) × (both v w ≡ w)). absurd (apart t.0)) (λ (t : (other ≢ id) × (get_elem? s.views other ≡ some w)). t.1) (at_set s.views id other (both v w) w there) in
@@ -270,14 +270,14 @@ module _ (plan : Plan) (id : ℕ) (v : View) (other : ℕ) (w : View) where
         seen = λ b. subst (λ k. 0 < k → IsMarked s.words b) (sym (same (λ u. times_seen b u.looks) (sum_by-append (λ (l : ℕ × Bool). cond (nat_eq l.0 b && l.1) 1 0) v.looks w.looks) refl)) (r.seen b);
         drawn = λ x. same (λ u. times x u.drawn) (sum_by-append (λ y. cond (nat_eq y x) 1 0) v.drawn w.drawn) refl ∙ r.drawn x;
         counted = same (λ u. length u.drawn) (length-append v.drawn w.drawn) refl ∙ r.counted;
-        bounded = subst (λ k. cursor s.words ≤ plan.drawn + k) (sym (same (λ u. past plan.drawn u.drawn) past_both refl)) r.bounded;
+        bounded = subst (λ k. cursor s.words ≤ plan.drawn + k) (sym (same (λ u. count_past plan.drawn u.drawn) past_both refl)) r.bounded;
         each = each_set plan (set s.views id (both v w)) other nobody
             (each_set plan s.views id (both v w) r.each record { ended_once = omega arith; idle = λ none_left. absurd (omega arith) })
             record { ended_once = omega arith; idle = λ _. refl };
       }
 
 -- where a seat has all parts, what is counted over all views is counted in its own
-whole : (plan : Plan) (s : St) → Kept plan s → (id : ℕ) (v : View) → get_elem? s.views id ≡ some v → v.parts ≡ plan.scans + 1 → (f : View → ℕ) → f nobody ≡ 0 → total f s.views ≡ f v
+whole : (plan : Plan) (s : St) → AreMarksCounted plan s → (id : ℕ) (v : View) → get_elem? s.views id ≡ some v → v.parts ≡ plan.scans + 1 → (f : View → ℕ) → f nobody ≡ 0 → total f s.views ≡ f v
 whole plan s r id v at all f empty =
     let others : List View = set s.views id nobody in
     let p = sum_set (λ u. u.parts) s.views id v nobody at in
@@ -289,13 +289,13 @@ whole plan s r id v at all f empty =
     let mine = sum_set f s.views id v nobody at in
     omega arith
 
-pub settles : (plan : Plan) (slots id : ℕ) (m : Seated) → m.0.parts ≡ plan.scans + 1 → Allows (Kept plan) slots id m 0 (λ n. n) (Settled (step slots 0 0 0 none) m)
+pub settles : (plan : Plan) (slots id : ℕ) (m : Seated) → m.0.parts ≡ plan.scans + 1 → Allows (AreMarksCounted plan) slots id m 0 (λ n. n) (Settled (step slots 0 0 0 none) m)
 settles plan slots id m all s r sized at fits =
     let over = whole plan s r id m.0 at all in (
       m.0,
       keeps,
       tt,
-      subst (λ (z : List ℕ × List View). Kept plan record { words = z.0; homes = s.homes; views = z.1 }) (λ j. (sym (set-get_or s.words 0 0) j, sym (set_again s.views id m.0 at) j)) r,
+      subst (λ (z : List ℕ × List View). AreMarksCounted plan record { words = z.0; homes = s.homes; views = z.1 }) (λ j. (sym (set-get_or s.words 0 0) j, sym (set_again s.views id m.0 at) j)) r,
       (
         refl,
         (λ x. sym (over (λ v. times x v.drawn) refl) ∙ r.drawn x),
@@ -308,14 +308,14 @@ zeros zero i = refl
 zeros (suc n) zero = refl
 zeros (suc n) (suc i) = zeros n i
 
-pub begins : (plan : Plan) (n : ℕ) → n ≡ word_count plan.blocks → Kept plan (opening (replicate n 0) [] (maker plan))
+pub begins : (plan : Plan) (n : ℕ) → n ≡ word_count plan.blocks → AreMarksCounted plan (opening (replicate n 0) [] (maker plan))
 begins plan n sized =
     let words : List ℕ = replicate n 0 in
     let clear = λ (b : ℕ) (h : IsMarked words b).
     let bit : bit_at (slice_index words (word_of b)) (b % 64) ≡ 0 = ap (λ k. bit_at k (b % 64)) (zeros n (word_of b)) ∙ bit_at-zero (b % 64) in
     let no : ⊥ = omega arith in no in
     let first = maker plan in
-    let none : (i : ℕ) (v : View) → get_elem? (first ∷ []) i ≡ some v → Fits plan v = only plan in record {
+    let none : (i : ℕ) (v : View) → get_elem? (first ∷ []) i ≡ some v → EndsOnce plan v = only plan in record {
       sized = length-replicate n 0 ∙ sized;
       seats = omega arith;
       marked = λ b. ((λ h. absurd (clear b h)), (λ h. absurd (omega arith)));
@@ -329,6 +329,6 @@ begins plan n sized =
     none_below : (x : ℕ) → 0 ≡ once_below x 0
     none_below x = grind (arith, nat_tests)
 
-    only : (plan : Plan) (i : ℕ) (v : View) → get_elem? (maker plan ∷ []) i ≡ some v → Fits plan v
-    only plan zero v e = subst (Fits plan) (some-injective (maker plan) v e) record { ended_once = omega arith; idle = λ none_left. absurd (omega arith) }
+    only : (plan : Plan) (i : ℕ) (v : View) → get_elem? (maker plan ∷ []) i ≡ some v → EndsOnce plan v
+    only plan zero v e = subst (EndsOnce plan) (some-injective (maker plan) v e) record { ended_once = omega arith; idle = λ none_left. absurd (omega arith) }
     only plan (suc i) v e = absurd (some-ne-none v (sym e))

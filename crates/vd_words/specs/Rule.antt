@@ -7,7 +7,7 @@ use lib.ListN.{get_elem?}
 use Rattle.atomic_table.specs.Table.{State, Me, Step}
 use Rattle.vd_words.specs.declared.view.View.{View}
 use Rattle.vd_words.specs.declared.view.Plan.{Plan}
-use Rattle.vd_words.specs.Counts.{times, past, times_seen, once_below}
+use Rattle.vd_words.specs.Counts.{times, count_past, times_seen, once_below}
 
 -- the first word is the cursor
 abbrev pub cursor : List ℕ → ℕ
@@ -46,45 +46,45 @@ abbrev pub nobody : View
 nobody = view 0 [] [] [] []
 
 -- a part has drawn one number at most that is not below the limit, and a seat with no part has done nothing
-pub record Fits (plan : Plan) (v : View) : Type 0 where
-  pub ended_once : past plan.drawn v.drawn ≤ v.parts
+pub record EndsOnce (plan : Plan) (v : View) : Type 0 where
+  pub ended_once : count_past plan.drawn v.drawn ≤ v.parts
   pub idle : v.parts ≡ 0 → v ≡ nobody
 
 -- A block's bit is set exactly where some seat has marked it, and that of each block that was seen marked is set.
 -- Each number below the cursor was drawn once, and no other was
-pub record Kept (plan : Plan) (s : State (Unit {0}) View) : Type 0 where
+pub record AreMarksCounted (plan : Plan) (s : State (Unit {0}) View) : Type 0 where
   pub sized : length s.words ≡ word_count plan.blocks
   pub seats : total (λ v. v.parts) s.views ≡ plan.scans + 1
   pub marked : (b : ℕ) → IsMarked s.words b ↔ (0 < total (λ v. times b v.marked) s.views)
   pub seen : (b : ℕ) → 0 < total (λ v. times_seen b v.looks) s.views → IsMarked s.words b
   pub drawn : (x : ℕ) → total (λ v. times x v.drawn) s.views ≡ once_below x (cursor s.words)
   pub counted : total (λ v. length v.drawn) s.views ≡ cursor s.words
-  pub bounded : cursor s.words ≤ plan.drawn + total (λ v. past plan.drawn v.drawn) s.views
-  pub each : (i : ℕ) (v : View) → get_elem? s.views i ≡ some v → Fits plan v
+  pub bounded : cursor s.words ≤ plan.drawn + total (λ v. count_past plan.drawn v.drawn) s.views
+  pub each : (i : ℕ) (v : View) → get_elem? s.views i ≡ some v → EndsOnce plan v
 
 abbrev pub Seated : Type 0
 Seated = Me (Unit {0}) View
 
 -- the seat has drawn the number found, which is no less than how many it had drawn
-abbrev pub drew : View → ℕ → View
-drew v n = view v.parts v.marked (v.drawn ++ n ∷ []) v.looks v.found
+abbrev pub view_after_draw : View → ℕ → View
+view_after_draw v n = view v.parts v.marked (v.drawn ++ n ∷ []) v.looks v.found
 
 abbrev pub Drawn : Step (Unit {0}) → Seated → ℕ → Seated → Type 0
-Drawn st m n w = (w ≡ (drew m.0 n, m.1)) × (length m.0.drawn ≤ n)
+Drawn st m n w = (w ≡ (view_after_draw m.0 n, m.1)) × (length m.0.drawn ≤ n)
 
 -- the seat has looked at the block, and found this word
-abbrev pub looked_at : ℕ → ℕ → View → View
-looked_at block word v = view v.parts v.marked v.drawn (v.looks ++ (block, has_mark word block) ∷ []) (v.found ++ word ∷ [])
+abbrev pub view_after_look : ℕ → ℕ → View → View
+view_after_look block word v = view v.parts v.marked v.drawn (v.looks ++ (block, has_mark word block) ∷ []) (v.found ++ word ∷ [])
 
 abbrev pub Looked : ℕ → Step (Unit {0}) → Seated → ℕ → Seated → Type 0
-Looked block st m n w = w ≡ (looked_at block n m.0, m.1)
+Looked block st m n w = w ≡ (view_after_look block n m.0, m.1)
 
 -- the seat has marked the block
-abbrev pub marked_by : ℕ → View → View
-marked_by block v = view v.parts (v.marked ++ block ∷ []) v.drawn v.looks v.found
+abbrev pub view_after_mark : ℕ → View → View
+view_after_mark block v = view v.parts (v.marked ++ block ∷ []) v.drawn v.looks v.found
 
 abbrev pub Marked : ℕ → Step (Unit {0}) → Seated → ℕ → Seated → Type 0
-Marked block st m n w = w ≡ (marked_by block m.0, m.1)
+Marked block st m n w = w ≡ (view_after_mark block m.0, m.1)
 
 -- what the seat with all parts learns: all numbers below the cursor were drawn once, and each block seen is marked
 abbrev pub Settled : Step (Unit {0}) → Seated → ℕ → Seated → Type 0

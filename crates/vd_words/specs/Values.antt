@@ -3,7 +3,7 @@ use Rattle.std.specs.Prelude.{◌≡◌, ℕ, ◌<◌, ◌≤◌, Bool, true, fa
 use Rattle.atomic_table.specs.Seated.{TableId}
 use Rattle.vd_words.specs.declared.view.Plan.{Plan}
 use Rattle.vd_words.specs.declared.view.View.{View}
-use Rattle.vd_words.specs.Counts.{times, past, times_seen}
+use Rattle.vd_words.specs.Counts.{times, count_past, times_seen}
 use Rattle.vd_words.specs.Rule.{word_count, has_mark}
 use Rattle.std.specs.List.{All, sum_by, count_by}
 
@@ -41,7 +41,7 @@ pub record Draws (old new : ScanValue) (answer : Option ℕ) : Type 0 where
   pub answered : MatchOption answer ((old.limit ≤ number) × (new.ended ≡ true)) (λ n. (n ≡ number) × (number < old.limit) × (new.ended ≡ false))
 
 -- One look more, at the block. The answer is the block's bit in the word that the look found
-pub record Looks (old new : ScanValue) (block : ℕ) (answer : Bool) : Type 0 where
+pub record AddsLook (old new : ScanValue) (block : ℕ) (answer : Bool) : Type 0 where
   pub word : ℕ
   pub added : new ≡ record old { looks = old.looks ++ (block, answer) ∷ []; found = old.found ++ word ∷ [] }
   pub answered : answer ≡ has_mark word block
@@ -76,4 +76,4 @@ pub record Gathers (scans : List ScanValue) (old new : View) : Type 0 where
   pub marked : new.marked ≡ old.marked
   pub drawn : (x : ℕ) → times x new.drawn ≡ times x old.drawn + times_drawn x scans
   pub looked : (b : ℕ) → times_seen b new.looks ≡ times_seen b old.looks + times_looked b scans
-  pub ended : (limit : ℕ) → All (λ s. s.limit ≡ limit) scans → count_ended scans ≤ past limit new.drawn
+  pub ended : (limit : ℕ) → All (λ s. s.limit ≡ limit) scans → count_ended scans ≤ count_past limit new.drawn

@@ -2,9 +2,9 @@
 ghost use Rattle.std.specs.Prelude.{◌≡◌, ℕ, ◌+◌, ◌<◌, ◌≤◌, [], ◌∷◌, ◌++◌, false, true, IfOk, OnOk, replicate, vec_len};
 ghost use Rattle.std.specs.Arc.{arc_value};
 ghost use Rattle.std.specs.List.{All, Contains};
-ghost use Rattle.vd_words.specs.Counts.{past};
+ghost use Rattle.vd_words.specs.Counts.{count_past};
 ghost use Rattle.vd_words.specs.Rule.{view, newcomer};
-ghost use Rattle.vd_words.specs.Values.{IsScanOf, IsPenOf, IsMade, Draws, Looks, Gathers, new_scan, times_drawn, times_looked, count_ended};
+ghost use Rattle.vd_words.specs.Values.{IsScanOf, IsPenOf, IsMade, Draws, AddsLook, Gathers, new_scan, times_drawn, times_looked, count_ended};
 
 use crate::steps::{Board, Deal, Draw, Place, Settle, read_bit, set_bit};
 use crate::view::Plan;
@@ -88,13 +88,13 @@ pub struct Scan {
 impl Model for Scan {
     ghost use Rattle.std.specs.Prelude.{◌≡◌, ◌<◌, true, false, []};
     ghost use Rattle.vd_words.specs.Values.{ScanValue};
-    ghost use Rattle.vd_words.specs.Counts.{past};
+    ghost use Rattle.vd_words.specs.Counts.{count_past};
 
     ghost Value = { ScanValue };
 
     ghost view = { λ s. record { id = s.seat.table_id; limit = s.limit; draws = s.seat.me.0.drawn; looks = s.seat.me.0.looks; found = s.seat.me.0.found; ended = s.ended } };
 
-    ghost invariant = { λ s. (s.seat.me.0.parts ≡ 1) × (s.seat.me.0.marked ≡ []) × (s.seat.me.1 ≡ []) × (s.ended ≡ false → past s.limit s.seat.me.0.drawn ≡ 0) × (s.ended ≡ true → 0 < past s.limit s.seat.me.0.drawn) };
+    ghost invariant = { λ s. (s.seat.me.0.parts ≡ 1) × (s.seat.me.0.marked ≡ []) × (s.seat.me.1 ≡ []) × (s.ended ≡ false → count_past s.limit s.seat.me.0.drawn ≡ 0) × (s.ended ≡ true → 0 < count_past s.limit s.seat.me.0.drawn) };
 }
 
 impl Scan {
@@ -107,7 +107,7 @@ impl Scan {
 
     fn into_seat(self) -> Place
         ensures seat { (result.table_id ≡ self.id) × (result.me ≡ (view 1 [] self.draws self.looks self.found, [])) }
-        ensures ended { self.ended ≡ true → 0 < past self.limit self.draws }
+        ensures ended { self.ended ≡ true → 0 < count_past self.limit self.draws }
     {
         let Scan {
             seat,
@@ -175,7 +175,7 @@ impl Marks {
     pub fn seen(&self, scan: &mut Scan, block: u32) -> bool
         requires own { IsScanOf self.now scan.old }
         requires within { block < self.now.blocks }
-        ensures { Looks scan.old scan.new block result }
+        ensures { AddsLook scan.old scan.new block result }
     {
         read_bit::<Brand>(&self.table, &mut scan.seat, block)
     }

@@ -1,6 +1,6 @@
 //! The rule of the marks, what each step on a word tells, and the steps.
 ghost use Rattle.std.specs.Prelude.{◌≡◌, ℕ, ◌≤◌};
-ghost use Rattle.vd_words.specs.Rule.{marked_by, looked_at, has_mark};
+ghost use Rattle.vd_words.specs.Rule.{view_after_mark, view_after_look, has_mark};
 ghost use Rattle.vd_words.specs.Values.{IsBoardFor};
 
 use crate::view::{Plan, View};
@@ -22,9 +22,9 @@ impl Chosen for Brand {
 pub(crate) struct Marking;
 
 impl TableRule<(), View, Plan> for Marking {
-    ghost use Rattle.vd_words.specs.Rule.{Kept, maker};
+    ghost use Rattle.vd_words.specs.Rule.{AreMarksCounted, maker};
 
-    ghost holds = { Kept };
+    ghost holds = { AreMarksCounted };
 
     ghost first = { maker };
 }
@@ -93,7 +93,7 @@ pub(crate) fn set_bit<B: Chosen>(board: &Board, seat: &mut Place, block: u32)
     requires seat { seat.old.table_id ≡ board.now.shared.table_id }
     requires part { 1 ≤ seat.old.me.0.parts }
     requires block { block ≡ B.block }
-    ensures seat { (seat.new.table_id ≡ seat.old.table_id) × (seat.new.me ≡ (marked_by block seat.old.me.0, seat.old.me.1)) }
+    ensures seat { (seat.new.table_id ≡ seat.old.table_id) × (seat.new.me ≡ (view_after_mark block seat.old.me.0, seat.old.me.1)) }
 {
     let mask = 1 << (block % 64);
     board
@@ -108,7 +108,7 @@ pub(crate) fn read_bit<B: Chosen>(board: &Board, seat: &mut Place, block: u32) -
     requires part { 1 ≤ seat.old.me.0.parts }
     requires block { block ≡ B.block }
     ensures table { seat.new.table_id ≡ seat.old.table_id }
-    ensures seat { (word : ℕ) × (seat.new.me ≡ (looked_at block word seat.old.me.0, seat.old.me.1)) × (result ≡ has_mark word block) }
+    ensures seat { (word : ℕ) × (seat.new.me ≡ (view_after_look block word seat.old.me.0, seat.old.me.1)) × (result ≡ has_mark word block) }
 {
     let found = board.shared.load::<Look<B>>(seat, 1 + block as usize / 64);
     (found >> (block % 64)) & 1 == 1

@@ -6,16 +6,15 @@ use Rattle.vd_replay.specs.declared.state.State.{State}
 use Rattle.vd_law.specs.declared.entry.Room.{Room}
 use Rattle.vd_law.specs.declared.entry.Answer.{Answer}
 use Rattle.vd_law.specs.Entries.{Asked, Read, Write, Flush}
-use Rattle.vd_law.specs.Histories.{Numbered}
+use Rattle.vd_law.specs.Histories.{HistoryState}
 use Rattle.vd_law.specs.Logs.{asked_content}
 use Rattle.vd_law.specs.Rules.{IsInside}
 use Rattle.vd_regions.specs.declared.regions.Region.{Region}
-use Rattle.vd_table.specs.Tables.{Given}
+use Rattle.vd_table.specs.Tables.{TableState}
 use Rattle.vd_passes.specs.declared.shape.Shape.{Shape}
 use Rattle.vd_passes.specs.declared.pass.Pass.{Pass}
 use Rattle.vd_passes.specs.declared.pass.Phase.TheVariants.{Idle}
-use Rattle.vd_passes.specs.Needs.{need_of}
-use Rattle.vd_passes.specs.Places.{place_of, ArePlaces, Extends}
+use Rattle.vd_passes.specs.Places.{place_of, ArePlaces, KeepsPlaces}
 use Rattle.vd_passes.specs.Passes.{has_region, after_ask}
 use Rattle.vd_passes.specs.Steps.{IsAt}
 use Rattle.vd_passes.proofs.Lists.{some-inj}
@@ -23,11 +22,12 @@ use Rattle.vd_passes.proofs.PlacesGiven.{are-places}
 use Rattle.vd_passes.proofs.Needing.{room-idle, room-asked}
 use Rattle.vd_passes.proofs.Holding.{phase-at, asks-regions, asks_full-regions}
 use Rattle.vd_passes.proofs.Asking.{IsPlaced, asks-coherent, asks-faithful, asks_full-coherent, asks_full-faithful}
-use Rattle.vd_core.specs.Asking.{asking, CanAsk, HasSize, EndsFull, EndsAsked, AskEnds}
-use Rattle.vd_core.specs.Kept.{IsRoomy, IsKept, IsFaithfullyKept}
+use Rattle.vd_core.specs.Asking.{ask_state, CanAsk, HasSize, EndsFull, EndsAsked, AskEnds}
+use Rattle.vd_core.specs.Kept.{RoomIsReserved, IsSoundCore, IsFaithfullyKept}
 use Rattle.vd_core.proofs.Claiming.{some-sectors, need-events, need-sectors, inside-more, run-inside, run-placed, claim-extends, claim-storage}
 use Rattle.vd_core.proofs.Reserving.{room-shared}
 use Rattle.vd_core.proofs.Keeping.Telling.{told-here}
+use Rattle.vd_passes.specs.Needs.{need_of}
 
 -- what a pass that has asked has for its request, and which call it is
 asked-has : (p : Pass) (r : Asked) (events sectors : ℕ) → ((after_ask p r events sectors).events ≡ events) × ((after_ask p r events sectors).sectors ≡ sectors) × ((after_ask p r events sectors).call ≡ p.call + 1)
@@ -35,8 +35,8 @@ asked-has p (Read first count) events sectors = (refl, refl, refl)
 asked-has p (Write first content) events sectors = (refl, refl, refl)
 asked-has p Flush events sectors = (refl, refl, refl)
 
-module _ {shape : Shape} {state : State} {regions : List (Option Region)} {passes : List Pass} {history : Numbered} {spare : Room} {S B : Type 0} {g : store.Ghosts S} {h : base.Ghosts B} {s : S} {b : B}
-    (request : Asked) (i : ℕ) (kept : IsKept g h shape state regions passes history spare s b)
+module _ {shape : Shape} {state : State} {regions : List (Option Region)} {passes : List Pass} {history : HistoryState} {spare : Room} {S B : Type 0} {g : store.Ghosts S} {h : base.Ghosts B} {s : S} {b : B}
+    (request : Asked) (i : ℕ) (kept : IsSoundCore g h shape state regions passes history spare s b)
     (at : IsAt passes i (λ p. p.phase ≡ Idle)) (size : HasSize request) (inside : IsInside (shape.block * shape.blocks) request) where
   pub can-ask : CanAsk shape state.table passes history spare (g.events s) request i
   can-ask = record {
@@ -64,8 +64,8 @@ module _ {shape : Shape} {state : State} {regions : List (Option Region)} {passe
   none-held = phase-at false Idle passes i refl at
 
   -- A write is answered Full.
-  module _ {needed free : ℕ} {table' : Given} {passes' : List Pass} {history' : Numbered} {spare' : Room} (ends : EndsFull request needed free (g.events s) i (asking shape state.table passes history spare) (asking shape table' passes' history' spare')) where
-    full-roomy : IsRoomy shape.block passes' history' spare' (g.events s)
+  module _ {needed free : ℕ} {table' : TableState} {passes' : List Pass} {history' : HistoryState} {spare' : Room} (ends : EndsFull request needed free (g.events s) i (ask_state shape state.table passes history spare) (ask_state shape table' passes' history' spare')) where
+    full-roomy : RoomIsReserved shape.block passes' history' spare' (g.events s)
     full-roomy =
         let step = ends.asks in let none = none-left step.there in
         let few = need-events shape.block request in let told = need-sectors shape.block request in
@@ -75,8 +75,8 @@ module _ {shape : Shape} {state : State} {regions : List (Option Region)} {passe
         (omega (arith, few, a, c)) (omega (arith, told, b, d)) (omega arith) (omega arith)
 
   -- The request is asked.
-  module _ {table' : Given} {passes' : List Pass} {history' : Numbered} {spare' : Room} (ends : EndsAsked request (g.events s) i (asking shape state.table passes history spare) (asking shape table' passes' history' spare')) where
-    asked-roomy : IsRoomy shape.block passes' history' spare' (g.events s)
+  module _ {table' : TableState} {passes' : List Pass} {history' : HistoryState} {spare' : Room} (ends : EndsAsked request (g.events s) i (ask_state shape state.table passes history spare) (ask_state shape table' passes' history' spare')) where
+    asked-roomy : RoomIsReserved shape.block passes' history' spare' (g.events s)
     asked-roomy =
         let step = ends.asks in let none = none-left step.there in
         let few = need-events shape.block request in let told = need-sectors shape.block request in
@@ -86,7 +86,7 @@ module _ {shape : Shape} {state : State} {regions : List (Option Region)} {passe
         room-shared kept.roomy i step.there step.after ends.extends (room-asked shape.block step.pass request _ _ (omega (arith, few)) (omega (arith, told))) spare'
         (omega (arith, few, a, c, own.0, none.0)) (omega (arith, told, b, d, own.1, none.1)) (omega (arith, own.2)) (omega arith)
 
-    asked-extends : Extends (place_of shape state.table.chunks) (place_of shape table'.chunks)
+    asked-extends : KeepsPlaces (place_of shape state.table.chunks) (place_of shape table'.chunks)
     asked-extends = claim-extends shape state.table table' ends.claims.kept
 
     asked-places : ArePlaces shape.block shape.storage_at (g.sectors s) (place_of shape table'.chunks)
@@ -95,7 +95,7 @@ module _ {shape : Shape} {state : State} {regions : List (Option Region)} {passe
     asked-placed : IsPlaced shape.block (place_of shape table'.chunks) request
     asked-placed = run-placed shape table' request kept.coherent.shaped.some kept.coherent.shaped.some_blocks ends.claims.all
 
-    asked-kept : IsKept g h shape (record state { table = table' }) regions passes' history' spare' s b
+    asked-kept : IsSoundCore g h shape (record state { table = table' }) regions passes' history' spare' s b
     asked-kept = record {
       coherent = asks-coherent request kept.coherent at (some-sectors request size) inside asked-extends asked-places asked-placed ends.asks;
       held = kept.held ∙ sym (asks-regions none-held ends.asks);
@@ -107,11 +107,11 @@ module _ {shape : Shape} {state : State} {regions : List (Option Region)} {passe
     asked-told told = told-here told ends.extends.opened (λ start faithful. asks-faithful request kept.coherent at (some-sectors request size) inside asked-extends asked-places asked-placed ends.asks faithful)
 
 -- Only a write is answered Full.
-module _ {shape : Shape} {state : State} {regions : List (Option Region)} {passes : List Pass} {history : Numbered} {spare : Room} {S B : Type 0} {g : store.Ghosts S} {h : base.Ghosts B} {s : S} {b : B} where
-  full-kept : (request : Asked) (i : ℕ) → IsKept g h shape state regions passes history spare s b → IsAt passes i (λ p. p.phase ≡ Idle)
-      → HasSize request → IsInside (shape.block * shape.blocks) request → {needed free : ℕ} {table' : Given} {passes' : List Pass} {history' : Numbered} {spare' : Room}
-      → EndsFull request needed free (g.events s) i (asking shape state.table passes history spare) (asking shape table' passes' history' spare')
-      → IsKept g h shape (record state { table = table' }) regions passes' history' spare' s b
+module _ {shape : Shape} {state : State} {regions : List (Option Region)} {passes : List Pass} {history : HistoryState} {spare : Room} {S B : Type 0} {g : store.Ghosts S} {h : base.Ghosts B} {s : S} {b : B} where
+  full-kept : (request : Asked) (i : ℕ) → IsSoundCore g h shape state regions passes history spare s b → IsAt passes i (λ p. p.phase ≡ Idle)
+      → HasSize request → IsInside (shape.block * shape.blocks) request → {needed free : ℕ} {table' : TableState} {passes' : List Pass} {history' : HistoryState} {spare' : Room}
+      → EndsFull request needed free (g.events s) i (ask_state shape state.table passes history spare) (ask_state shape table' passes' history' spare')
+      → IsSoundCore g h shape (record state { table = table' }) regions passes' history' spare' s b
   full-kept (Read first count) i kept at size inside {needed} ends = let none : needed ≡ 0 = ends.needed_is in absurd (let less = ends.fewer in omega arith)
   full-kept (Write first content) i kept at size inside ends = record {
     coherent = rw ends.table_same (asks_full-coherent first content kept.coherent at size.0 inside ends.asks);
@@ -121,9 +121,9 @@ module _ {shape : Shape} {state : State} {regions : List (Option Region)} {passe
   }
   full-kept Flush i kept at size inside {needed} ends = let none : needed ≡ 0 = ends.needed_is in absurd (let less = ends.fewer in omega arith)
 
-  full-told : (request : Asked) (i : ℕ) → IsKept g h shape state regions passes history spare s b → IsAt passes i (λ p. p.phase ≡ Idle)
-      → HasSize request → IsInside (shape.block * shape.blocks) request → {needed free : ℕ} {table' : Given} {passes' : List Pass} {history' : Numbered} {spare' : Room}
-      → EndsFull request needed free (g.events s) i (asking shape state.table passes history spare) (asking shape table' passes' history' spare')
+  full-told : (request : Asked) (i : ℕ) → IsSoundCore g h shape state regions passes history spare s b → IsAt passes i (λ p. p.phase ≡ Idle)
+      → HasSize request → IsInside (shape.block * shape.blocks) request → {needed free : ℕ} {table' : TableState} {passes' : List Pass} {history' : HistoryState} {spare' : Room}
+      → EndsFull request needed free (g.events s) i (ask_state shape state.table passes history spare) (ask_state shape table' passes' history' spare')
       → IsFaithfullyKept g h shape state passes history s b → IsFaithfullyKept g h shape (record state { table = table' }) passes' history' s b
   full-told (Read first count) i kept at size inside {needed} ends told = let none : needed ≡ 0 = ends.needed_is in absurd (let less = ends.fewer in omega arith)
   full-told (Write first content) i kept at size inside ends told =
@@ -131,11 +131,11 @@ module _ {shape : Shape} {state : State} {regions : List (Option Region)} {passe
   full-told Flush i kept at size inside {needed} ends told = let none : needed ≡ 0 = ends.needed_is in absurd (let less = ends.fewer in omega arith)
 
 -- However an ask ends.
-module _ {shape : Shape} {state : State} {regions : List (Option Region)} {passes : List Pass} {history : Numbered} {spare : Room} {S B : Type 0} {g : store.Ghosts S} {h : base.Ghosts B} {s : S} {b : B}
-    (request : Asked) (i : ℕ) (kept : IsKept g h shape state regions passes history spare s b)
+module _ {shape : Shape} {state : State} {regions : List (Option Region)} {passes : List Pass} {history : HistoryState} {spare : Room} {S B : Type 0} {g : store.Ghosts S} {h : base.Ghosts B} {s : S} {b : B}
+    (request : Asked) (i : ℕ) (kept : IsSoundCore g h shape state regions passes history spare s b)
     (at : IsAt passes i (λ p. p.phase ≡ Idle)) (size : HasSize request) (inside : IsInside (shape.block * shape.blocks) request)
-    {result : Option Answer} {table' : Given} {passes' : List Pass} {history' : Numbered} {spare' : Room} (ends : AskEnds result request (g.events s) i (asking shape state.table passes history spare) (asking shape table' passes' history' spare')) where
-  pub ask-kept : IsKept g h shape (record state { table = table' }) regions passes' history' spare' s b
+    {result : Option Answer} {table' : TableState} {passes' : List Pass} {history' : HistoryState} {spare' : Room} (ends : AskEnds result request (g.events s) i (ask_state shape state.table passes history spare) (ask_state shape table' passes' history' spare')) where
+  pub ask-kept : IsSoundCore g h shape (record state { table = table' }) regions passes' history' spare' s b
   ask-kept = elim ends [
     | inl none ↦ let same = none.2 in rw (same.table_same, same.passes_same, same.history_same, same.left_same) kept
     | inr more ↦ elim more [

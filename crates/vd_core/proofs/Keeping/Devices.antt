@@ -5,20 +5,20 @@ use Rattle.std.proofs.lemmas.Option.{slice_get_within}
 use Rattle.vd_law.specs.declared.entry.Sector.{Sector}
 use Rattle.vd_law.specs.Entries.{Entry}
 use Rattle.vd_device.specs.declared.ticket.Ticket.{Ticket}
-use Rattle.vd_device.specs.Tickets.{Keeps}
+use Rattle.vd_device.specs.Tickets.{KeepsFlight}
 use Rattle.vd_regions.specs.declared.regions.Region.{Region}
-use Rattle.vd_reading.specs.Background.{background}
 use Rattle.vd_passes.specs.declared.shape.Shape.{Shape}
 use Rattle.vd_passes.specs.declared.pass.Pass.{Pass}
 use Rattle.vd_passes.specs.Passes.{region_of, IsPiece}
 use Rattle.vd_passes.specs.Laying.{Backs}
 use Rattle.vd_passes.specs.Coherent.{IsCoherent}
 use Rattle.vd_passes.proofs.Backing.{background-backs}
+use Rattle.vd_format.specs.Background.{background_of}
 
 -- what was in flight on the base is so now
-pub flight-kept : {shape : Shape} {fresh : List Bool} {places : ℕ → Option ℕ} {passes : List Pass} {history : List Entry} {sectors depth base_sectors base_depth : ℕ} {flies base_flies base_flies' : List Ticket → Type 0}
-    → IsCoherent shape fresh places passes history sectors depth base_sectors base_depth flies base_flies → Keeps base_flies base_flies' → IsCoherent shape fresh places passes history sectors depth base_sectors base_depth flies base_flies'
-flight-kept {shape} {fresh} {places} {passes} {history} {sectors} {depth} {base_sectors} {base_depth} {flies} {base_flies} {base_flies'} co keeps = record {
+pub flight-kept : {shape : Shape} {fresh : List Bool} {places : ℕ → Option ℕ} {passes : List Pass} {history : List Entry} {sectors depth base_sectors base_depth : ℕ} {flight base_flight base_flight' : List Ticket → Type 0}
+    → IsCoherent shape fresh places passes history sectors depth base_sectors base_depth flight base_flight → KeepsFlight base_flight base_flight' → IsCoherent shape fresh places passes history sectors depth base_sectors base_depth flight base_flight'
+flight-kept {shape} {fresh} {places} {passes} {history} {sectors} {depth} {base_sectors} {base_depth} {flight} {base_flight} {base_flight'} co keeps = record {
   shaped = co.shaped;
   size = co.size;
   placed = co.placed;
@@ -35,9 +35,9 @@ flight-kept {shape} {fresh} {places} {passes} {history} {sectors} {depth} {base_
 }
 
 -- A told base is what is behind the disk.
-pub backed : {shape : Shape} {fresh : List Bool} {places : ℕ → Option ℕ} {passes : List Pass} {history : List Entry} {sectors depth base_sectors base_depth : ℕ} {flies base_flies : List Ticket → Type 0}
-    → IsCoherent shape fresh places passes history sectors depth base_sectors base_depth flies base_flies → (base : List Sector) → length base ≡ base_sectors → Backs (background base shape.tracked) shape.limit base
-backed {shape} {fresh} {places} {passes} {history} {sectors} {depth} {base_sectors} {base_depth} {flies} {base_flies} co base size =
+pub backed : {shape : Shape} {fresh : List Bool} {places : ℕ → Option ℕ} {passes : List Pass} {history : List Entry} {sectors depth base_sectors base_depth : ℕ} {flight base_flight : List Ticket → Type 0}
+    → IsCoherent shape fresh places passes history sectors depth base_sectors base_depth flight base_flight → (base : List Sector) → length base ≡ base_sectors → Backs (background_of base shape.tracked) shape.limit base
+backed {shape} {fresh} {places} {passes} {history} {sectors} {depth} {base_sectors} {base_depth} {flight} {base_flight} co base size =
     background-backs base shape.tracked shape.limit (co.shaped.limit ∙ ap (λ (n : ℕ). min n shape.tracked) (sym size))
 
 -- each pass has its place among the regions

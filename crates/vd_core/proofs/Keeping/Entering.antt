@@ -7,7 +7,7 @@ use Rattle.vd_device.specs.declared.store.Store as store
 use Rattle.vd_device.specs.declared.base.Base as base
 use Rattle.vd_replay.specs.declared.state.State.{State}
 use Rattle.vd_law.specs.declared.entry.Room.{Room}
-use Rattle.vd_law.specs.Histories.{Numbered}
+use Rattle.vd_law.specs.Histories.{HistoryState}
 use Rattle.vd_regions.specs.declared.regions.Region.{Region}
 use Rattle.vd_regions.specs.declared.regions.Busy.{Busy}
 use Rattle.vd_passes.specs.declared.shape.Shape.{Shape}
@@ -20,7 +20,7 @@ use Rattle.vd_passes.proofs.Needing.{is_before_event, room-entered}
 use Rattle.vd_passes.proofs.Holding.{region_on}
 use Rattle.vd_passes.proofs.Entering.{enters-coherent, enters-faithful, enters-regions}
 use Rattle.vd_core.specs.Entering.{CanEnter, EntersBlock, IsKeptOut}
-use Rattle.vd_core.specs.Kept.{IsKept, IsFaithfullyKept}
+use Rattle.vd_core.specs.Kept.{IsSoundCore, IsFaithfullyKept}
 use Rattle.vd_core.proofs.Rooming.{room-same}
 use Rattle.vd_core.proofs.Keeping.Telling.{told-here}
 
@@ -39,8 +39,8 @@ map-there (q ∷ qs) (suc i) p there = map-there qs i p there
 none-held : (p : Pass) → p.phase ≡ HasAsked → region_of p ≡ None
 none-held p is = ap (λ ph. if has_region ph then Some (region_on p.block p.write) else None) is
 
-module _ {shape : Shape} {state : State} {regions : List (Option Region)} {passes : List Pass} {history : Numbered} {spare : Room} {S B : Type 0} {g : store.Ghosts S} {h : base.Ghosts B} {s : S} {b : B}
-    (kept : IsKept g h shape state regions passes history spare s b) (i : ℕ) (at : IsAt passes i (λ p. (p.phase ≡ HasAsked) × (p.flush ≡ false))) where
+module _ {shape : Shape} {state : State} {regions : List (Option Region)} {passes : List Pass} {history : HistoryState} {spare : Room} {S B : Type 0} {g : store.Ghosts S} {h : base.Ghosts B} {s : S} {b : B}
+    (kept : IsSoundCore g h shape state regions passes history spare s b) (i : ℕ) (at : IsAt passes i (λ p. (p.phase ≡ HasAsked) × (p.flush ≡ false))) where
   pub can-enter : IsAt passes i (CanEnter shape state.table.chunks)
   can-enter =
       let p = at.0 in let co = kept.coherent in let stands = co.each i p at.1 in let is = at.2.0 in
@@ -63,7 +63,7 @@ module _ {shape : Shape} {state : State} {regions : List (Option Region)} {passe
   holds-nothing = ap (λ (rs : List (Option Region)). slice_get rs i) kept.held ∙ map-there passes i at.0 at.1 ∙ ap Some (none-held at.0 at.2.0)
 
   module _ {regions' : List (Option Region)} {passes' : List Pass} where
-    entered-kept : EntersBlock shape state.table.chunks regions regions' i passes passes' → IsKept g h shape state regions' passes' history spare s b
+    entered-kept : EntersBlock shape state.table.chunks regions regions' i passes passes' → IsSoundCore g h shape state regions' passes' history spare s b
     entered-kept step =
         let e = step.enters in let p = e.pass in let is = ap (λ (x : Pass). x.phase) (some-inj (sym e.there ∙ at.1)) ∙ at.2.0 in
         record {
@@ -73,11 +73,11 @@ module _ {shape : Shape} {state : State} {regions : List (Option Region)} {passe
           storage = kept.storage;
         }
 
-    kept-out-kept : (by : ℕ) → IsKeptOut shape regions regions' i passes passes' by → IsKept g h shape state regions' passes' history spare s b
+    kept-out-kept : (by : ℕ) → IsKeptOut shape regions regions' i passes passes' by → IsSoundCore g h shape state regions' passes' history spare s b
     kept-out-kept by out = rw (out.regions_same, out.passes_same) kept
 
     pub enter-kept : (result : Result Unit Busy) → IfErr result (λ busy. IsKeptOut shape regions regions' i passes passes' busy.by) → OnOk result (EntersBlock shape state.table.chunks regions regions' i passes passes')
-        → IsKept g h shape state regions' passes' history spare s b
+        → IsSoundCore g h shape state regions' passes' history spare s b
     enter-kept (Ok v) busy enters = entered-kept enters
     enter-kept (Err busy) out enters = kept-out-kept busy.by out
 

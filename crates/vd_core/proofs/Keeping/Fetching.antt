@@ -2,12 +2,12 @@
 use Rattle.std.proofs.Common.{◌≡◌, ℕ, ◌≤◌, true, List, refl, sym, ◌∙◌, ap, inl, inr, arith, Option, Some, slice_get}
 use Rattle.vd_device.specs.declared.store.Store as store
 use Rattle.vd_device.specs.declared.base.Base as base
-use Rattle.vd_device.specs.Tickets.{Keeps}
+use Rattle.vd_device.specs.Tickets.{KeepsFlight}
 use Rattle.vd_device.specs.Bases.{KeepsBase}
 use Rattle.vd_replay.specs.declared.state.State.{State}
 use Rattle.vd_law.specs.declared.entry.Sector.{Sector}
 use Rattle.vd_law.specs.declared.entry.Room.{Room}
-use Rattle.vd_law.specs.Histories.{Numbered}
+use Rattle.vd_law.specs.Histories.{HistoryState}
 use Rattle.vd_device.specs.declared.ticket.Ticket.{Ticket}
 use Rattle.vd_device.specs.declared.settled.Settled.{Settled}
 use Rattle.vd_device.specs.declared.settled.Settled.TheVariants as settled
@@ -17,21 +17,21 @@ use Rattle.vd_passes.specs.declared.pass.Pass.{Pass}
 use Rattle.vd_passes.specs.declared.pass.Phase.TheVariants.{Held, Fetching}
 use Rattle.vd_passes.specs.Needs.{HasRoom}
 use Rattle.vd_passes.specs.Passes.{has_region}
-use Rattle.vd_passes.specs.Steps.{IsAt, IsWaitingForBase, Fetches, FillsZeros, FetchSettled, fetched}
+use Rattle.vd_passes.specs.Steps.{IsAt, IsWaitingForBase, Fetches, FillsZeros, FetchSettled, after_base_read}
 use Rattle.vd_passes.proofs.Lists.{some-inj}
 use Rattle.vd_passes.proofs.Needing.{is_before_event, room-fetched, room-filled, room-failed}
 use Rattle.vd_passes.proofs.Holding.{phase-at, fetches-regions, fills_zeros-regions, fetch_settled-regions, regions_fetched}
 use Rattle.vd_passes.proofs.Fetching.{IsToFill, fetches-coherent, fetches-faithful, fills_zeros-coherent, fills_zeros-faithful, fetch_settled-coherent, fetch_settled-faithful, waiting-for-fetch, fetch-count}
-use Rattle.vd_core.specs.Outcomes.{outcome_of, released_failed}
+use Rattle.vd_core.specs.Outcomes.{outcome_of, regions_after_failure}
 use Rattle.vd_core.specs.Fetching.{FetchesBlock}
-use Rattle.vd_core.specs.Kept.{IsKept, IsFaithfullyKept}
+use Rattle.vd_core.specs.Kept.{IsSoundCore, IsFaithfullyKept}
 use Rattle.vd_core.proofs.Rooming.{room-same}
 use Rattle.vd_core.proofs.Keeping.Devices.{flight-kept, backed}
 use Rattle.vd_core.proofs.Keeping.Telling.{faithful-base, told-here}
 
-module _ {shape : Shape} {state : State} {regions : List (Option Region)} {passes : List Pass} {history : Numbered} {spare : Room}
+module _ {shape : Shape} {state : State} {regions : List (Option Region)} {passes : List Pass} {history : HistoryState} {spare : Room}
     {S B : Type 0} {g : store.Ghosts S} {h : base.Ghosts B} {s : S} {b : B}
-    (kept : IsKept g h shape state regions passes history spare s b) (i : ℕ) (at : IsAt passes i (IsToFill state.fresh.bits)) where
+    (kept : IsSoundCore g h shape state regions passes history spare s b) (i : ℕ) (at : IsAt passes i (IsToFill state.fresh.bits)) where
   holding : IsAt passes i (λ p. has_region p.phase ≡ true)
   holding = phase-at true Held passes i refl (at.0, at.1, at.2.0)
 
@@ -40,7 +40,7 @@ module _ {shape : Shape} {state : State} {regions : List (Option Region)} {passe
 
   -- the base has been read, or has nothing of the block
   module _ {passes' : List Pass} {b' : B} (stays : KeepsBase h b b') where
-    fetches-kept : Fetches shape i passes passes' (h.flies b) (h.flies b') → IsKept g h shape state regions passes' history spare s b'
+    fetches-kept : Fetches shape i passes passes' (h.flight b) (h.flight b') → IsSoundCore g h shape state regions passes' history spare s b'
     fetches-kept step = record {
       coherent = rw (stays.counts.sectors, stays.counts.depth) (fetches-coherent kept.coherent at step);
       held = kept.held ∙ sym (fetches-regions holding step);
@@ -48,7 +48,7 @@ module _ {shape : Shape} {state : State} {regions : List (Option Region)} {passe
       storage = kept.storage;
     }
 
-    fills-kept : FillsZeros shape i passes passes' → Keeps (h.flies b) (h.flies b') → IsKept g h shape state regions passes' history spare s b'
+    fills-kept : FillsZeros shape i passes passes' → KeepsFlight (h.flight b) (h.flight b') → IsSoundCore g h shape state regions passes' history spare s b'
     fills-kept step flight = record {
       coherent = rw (stays.counts.sectors, stays.counts.depth) (flight-kept (fills_zeros-coherent kept.coherent at step) flight);
       held = kept.held ∙ sym (fills_zeros-regions holding step);
@@ -56,7 +56,7 @@ module _ {shape : Shape} {state : State} {regions : List (Option Region)} {passe
       storage = kept.storage;
     }
 
-    pub fetch-kept : FetchesBlock h shape i passes passes' b b' → IsKept g h shape state regions passes' history spare s b'
+    pub fetch-kept : FetchesBlock h shape i passes passes' b b' → IsSoundCore g h shape state regions passes' history spare s b'
     fetch-kept step = elim step [ inl f ↦ fetches-kept f.0 | inr z ↦ fills-kept z.0 z.1 ]
 
     pub fetch-told : FetchesBlock h shape i passes passes' b b' → (g.tells s → h.tells b → IsFaithfullyKept g h shape state passes history s b) → g.tells s → h.tells b' → IsFaithfullyKept g h shape state passes' history s b'
@@ -67,34 +67,34 @@ module _ {shape : Shape} {state : State} {regions : List (Option Region)} {passe
 
 -- The settle of that read.
 
-fetched-room : (answer : Settled) (block : ℕ) (p : Pass) (ticket : Ticket) (content : List Sector) → HasRoom block p → is_before_event p.phase ≡ true → HasRoom block (fetched answer p ticket block content)
+fetched-room : (answer : Settled) (block : ℕ) (p : Pass) (ticket : Ticket) (content : List Sector) → HasRoom block p → is_before_event p.phase ≡ true → HasRoom block (after_base_read answer p ticket block content)
 fetched-room settled.Done block p ticket content room before = room-filled room before _
 fetched-room (settled.NotYet same) block p ticket content room before = room
 fetched-room (settled.Failed number) block p ticket content room before = room-failed room before _
 
 -- it adds no entry
-fetched-same : (answer : Settled) (block : ℕ) (p : Pass) (ticket : Ticket) (content : List Sector) → let p' = fetched answer p ticket block content in (p'.events ≡ p.events) × (p'.sectors ≡ p.sectors) × (p'.call ≡ p.call)
+fetched-same : (answer : Settled) (block : ℕ) (p : Pass) (ticket : Ticket) (content : List Sector) → let p' = after_base_read answer p ticket block content in (p'.events ≡ p.events) × (p'.sectors ≡ p.sectors) × (p'.call ≡ p.call)
 fetched-same settled.Done block p ticket content = (refl, refl, refl)
 fetched-same (settled.NotYet same) block p ticket content = (refl, refl, refl)
 fetched-same (settled.Failed number) block p ticket content = (refl, refl, refl)
 
-released-same : (answer : Settled) (i : ℕ) (regions : List (Option Region)) → released_failed (outcome_of answer) i regions ≡ regions_fetched answer i regions
+released-same : (answer : Settled) (i : ℕ) (regions : List (Option Region)) → regions_after_failure (outcome_of answer) i regions ≡ regions_fetched answer i regions
 released-same settled.Done i regions = refl
 released-same (settled.NotYet same) i regions = refl
 released-same (settled.Failed number) i regions = refl
 
-module _ {shape : Shape} {state : State} {regions : List (Option Region)} {passes : List Pass} {history : Numbered} {spare : Room}
+module _ {shape : Shape} {state : State} {regions : List (Option Region)} {passes : List Pass} {history : HistoryState} {spare : Room}
     {S B : Type 0} {g : store.Ghosts S} {h : base.Ghosts B} {s : S} {b : B}
-    (kept : IsKept g h shape state regions passes history spare s b) (i : ℕ) (at : IsAt passes i (λ p. p.phase ≡ Fetching)) where
-  pub waiting-block : IsAt passes i (λ p. (w : IsWaitingForBase shape (h.flies b) p) × (w.ticket.count ≤ shape.block))
+    (kept : IsSoundCore g h shape state regions passes history spare s b) (i : ℕ) (at : IsAt passes i (λ p. p.phase ≡ Fetching)) where
+  pub waiting-block : IsAt passes i (λ p. (w : IsWaitingForBase shape (h.flight b) p) × (w.ticket.count ≤ shape.block))
   waiting-block = let w = waiting-for-fetch kept.coherent i at in
       (w.0, w.1, (w.2, fetch-count kept.coherent i (w.0, w.1, ap (λ (x : Pass). x.phase) (some-inj (sym w.1 ∙ at.1)) ∙ at.2) w.2.ticket w.2.has))
 
-  module _ {answer : Settled} {passes' : List Pass} {b' : B} (step : FetchSettled answer shape i passes passes' (h.flies b) (h.flies b') (h.tells b') (h.content b')) (stays : KeepsBase h b b') where
+  module _ {answer : Settled} {passes' : List Pass} {b' : B} (step : FetchSettled answer shape i passes passes' (h.flight b) (h.flight b') (h.tells b') (h.content b')) (stays : KeepsBase h b b') where
     now-before : is_before_event step.pass.phase ≡ true
     now-before = ap (λ (x : Pass). is_before_event x.phase) (some-inj (sym step.there ∙ at.1)) ∙ ap is_before_event at.2
 
-    pub settle_fetch-kept : (regions' : List (Option Region)) → regions' ≡ released_failed (outcome_of answer) i regions → IsKept g h shape state regions' passes' history spare s b'
+    pub settle_fetch-kept : (regions' : List (Option Region)) → regions' ≡ regions_after_failure (outcome_of answer) i regions → IsSoundCore g h shape state regions' passes' history spare s b'
     settle_fetch-kept regions' released = let same = fetched-same answer shape.block step.pass step.ticket step.content in record {
       coherent = rw (stays.counts.sectors, stays.counts.depth) (fetch_settled-coherent kept.coherent at step);
       held = released ∙ released-same answer i regions ∙ ap (regions_fetched answer i) kept.held ∙ sym (fetch_settled-regions (phase-at true Fetching passes i refl at) step);

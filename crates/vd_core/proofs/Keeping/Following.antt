@@ -4,18 +4,18 @@ use Rattle.std.specs.Prelude.{Result, Ok, Err, IfErr, OnOk}
 use Rattle.vd_law.specs.declared.entry.Room.{Room}
 use Rattle.vd_law.specs.declared.entry.Answer.{Answer}
 use Rattle.vd_law.specs.Entries.{Asked, Entry}
-use Rattle.vd_law.specs.Histories.{Numbered}
+use Rattle.vd_law.specs.Histories.{HistoryState}
 use Rattle.vd_device.specs.declared.ticket.Ticket.{Ticket}
 use Rattle.vd_regions.specs.declared.regions.Region.{Region}
 use Rattle.vd_regions.specs.declared.regions.Busy.{Busy}
-use Rattle.vd_table.specs.Tables.{Given}
+use Rattle.vd_table.specs.Tables.{TableState}
 use Rattle.vd_passes.specs.declared.shape.Shape.{Shape}
 use Rattle.vd_passes.specs.declared.pass.Pass.{Pass}
 use Rattle.vd_passes.specs.declared.pass.Phase.TheVariants.{Idle, Asked as HasAsked, Held}
 use Rattle.vd_passes.specs.Steps.{IsAt}
 use Rattle.vd_passes.specs.Following.{IsFollowed}
 use Rattle.vd_passes.proofs.TracingSteps.{enters-followed, fetches-followed, fills-followed, asks-followed, asks_full-followed}
-use Rattle.vd_core.specs.Asking.{asking, AskEnds}
+use Rattle.vd_core.specs.Asking.{ask_state, AskEnds}
 use Rattle.vd_core.specs.Entering.{IsKeptOut, EntersBlock}
 use Rattle.vd_core.specs.Fetching.{FetchesIn}
 
@@ -26,8 +26,8 @@ module _ (shape : Shape) (chunks : List (Option ℕ)) (regions regions' : List (
   enter-followed at (Ok v) busy entered = enters-followed followed at entered.enters
   enter-followed at (Err busy) out entered = rw out.passes_same followed
 
-pub fetch-followed : {shape : Shape} {passes passes' : List Pass} {history : List Entry} {numbers : List ℕ} {log : List Entry} {base_flies base_flies' : List Ticket → Type 0} → IsFollowed passes history numbers log → (i : ℕ) → IsAt passes i (λ p. p.phase ≡ Held)
-    → FetchesIn shape i passes passes' base_flies base_flies' → IsFollowed passes' history numbers log
+pub fetch-followed : {shape : Shape} {passes passes' : List Pass} {history : List Entry} {numbers : List ℕ} {log : List Entry} {base_flight base_flight' : List Ticket → Type 0} → IsFollowed passes history numbers log → (i : ℕ) → IsAt passes i (λ p. p.phase ≡ Held)
+    → FetchesIn shape i passes passes' base_flight base_flight' → IsFollowed passes' history numbers log
 fetch-followed followed i at (inl f) = fetches-followed followed at f.0
 fetch-followed followed i at (inr z) = fills-followed followed at z.0
 
@@ -35,20 +35,20 @@ longer : (xs : List Entry) (x : Entry) → xs ≡ xs ++ x ∷ [] → ⊥
 longer xs x same = let e = ap length same in let f = length-append xs (x ∷ []) in omega (arith, e, f)
 
 -- where the history has grown, the store runs
-pub ask-followed : {result : Option Answer} {request : Asked} {shape : Shape} {i : ℕ} {table table' : Given} {passes passes' : List Pass} {history history' : Numbered} {spare spare' : Room} {events : ℕ} {log : List Entry}
-    → IsFollowed passes history.log.entries history.numbers log → IsAt passes i (λ p. p.phase ≡ Idle) → AskEnds result request events i (asking shape table passes history spare) (asking shape table' passes' history' spare')
+pub ask-followed : {result : Option Answer} {request : Asked} {shape : Shape} {i : ℕ} {table table' : TableState} {passes passes' : List Pass} {history history' : HistoryState} {spare spare' : Room} {events : ℕ} {log : List Entry}
+    → IsFollowed passes history.log.entries history.numbers log → IsAt passes i (λ p. p.phase ≡ Idle) → AskEnds result request events i (ask_state shape table passes history spare) (ask_state shape table' passes' history' spare')
     → (history' ≡ history) ⊎ (events ≡ length log) → IsFollowed passes' history'.log.entries history'.numbers log
 ask-followed {result} {request} {shape} {i} {table} {table'} {passes} {passes'} {history} {history'} {spare} {spare'} {events} {log} followed at (inl none) running = rw (none.2.passes_same, none.2.history_same) followed
 ask-followed {result} {request} {shape} {i} {table} {table'} {passes} {passes'} {history} {history'} {spare} {spare'} {events} {log} followed at (inr (inl full)) running =
     asks_full-followed followed events at full.3.asks full.3.extends.numbers
 ask-followed {result} {request} {shape} {i} {table} {table'} {passes} {passes'} {history} {history'} {spare} {spare'} {events} {log} followed at (inr (inr asked)) (inl same) =
-    absurd (longer history.log.entries _ (sym (ap (λ (h : Numbered). h.log.entries) same) ∙ asked.1.asks.event))
+    absurd (longer history.log.entries _ (sym (ap (λ (h : HistoryState). h.log.entries) same) ∙ asked.1.asks.event))
 ask-followed {result} {request} {shape} {i} {table} {table'} {passes} {passes'} {history} {history'} {spare} {spare'} {events} {log} followed at (inr (inr asked)) (inr running) =
     asks-followed followed asked.1.asks asked.1.extends.numbers running
 
 -- no ask changes what the store had told at opening
-pub ask-opened : {result : Option Answer} {request : Asked} {shape : Shape} {i : ℕ} {table table' : Given} {passes passes' : List Pass} {history history' : Numbered} {spare spare' : Room} {events : ℕ}
-    → AskEnds result request events i (asking shape table passes history spare) (asking shape table' passes' history' spare') → history'.opened ≡ history.opened
-ask-opened (inl none) = ap (λ (h : Numbered). h.opened) none.2.history_same
+pub ask-opened : {result : Option Answer} {request : Asked} {shape : Shape} {i : ℕ} {table table' : TableState} {passes passes' : List Pass} {history history' : HistoryState} {spare spare' : Room} {events : ℕ}
+    → AskEnds result request events i (ask_state shape table passes history spare) (ask_state shape table' passes' history' spare') → history'.opened ≡ history.opened
+ask-opened (inl none) = ap (λ (h : HistoryState). h.opened) none.2.history_same
 ask-opened (inr (inl full)) = full.3.extends.opened
 ask-opened (inr (inr asked)) = asked.1.extends.opened

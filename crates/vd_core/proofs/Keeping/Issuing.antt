@@ -5,7 +5,7 @@ use Rattle.vd_device.specs.Stores.{KeepsStore}
 use Rattle.vd_replay.specs.declared.state.State.{State}
 use Rattle.vd_law.specs.declared.entry.Sector.{Sector}
 use Rattle.vd_law.specs.declared.entry.Room.{Room}
-use Rattle.vd_law.specs.Histories.{Numbered}
+use Rattle.vd_law.specs.Histories.{HistoryState}
 use Rattle.vd_device.specs.declared.store.Store as store
 use Rattle.vd_regions.specs.declared.regions.Region.{Region}
 use Rattle.vd_passes.specs.declared.shape.Shape.{Shape}
@@ -18,10 +18,10 @@ use Rattle.vd_passes.proofs.Needing.{is_before_event, room-issued}
 use Rattle.vd_passes.proofs.Ready.{IsHolding, holding-region, can-write-asked}
 use Rattle.vd_passes.proofs.Issuing.{issues-coherent, issues-faithful}
 use Rattle.vd_passes.proofs.Holding.{issues-regions}
-use Rattle.vd_core.specs.Adding.{Extends}
+use Rattle.vd_core.specs.Adding.{AddsEntries}
 use Rattle.vd_core.proofs.Keeping.Devices.{piece-short}
 use Rattle.vd_core.specs.Issuing.{CanIssue, IsWritable}
-use Rattle.vd_core.specs.Kept.{IsKept, IsLogged, IsFaithfullyKept}
+use Rattle.vd_core.specs.Kept.{IsSoundCore, LogAgrees, IsFaithfullyKept}
 use Rattle.vd_core.proofs.Rooming.{can-add, room-used}
 use Rattle.vd_core.proofs.Keeping.Telling.{told-on}
 
@@ -56,7 +56,7 @@ holding-sectors block p room (inl held) = let a = room.sectors in let e = ap (λ
 holding-sectors block p room (inr filled) = let a = room.sectors in let e = ap (λ ph. sectors_needed ph (sectors_left p) p.piece) filled in omega arith
 
 -- what is reserved suffices for the Issue of the piece
-pub can-issue : {shape : Shape} {state : State} {regions : List (Option Region)} {passes : List Pass} {history : Numbered} {spare : Room} {S B : Type 0} {g : store.Ghosts S} {h : base.Ghosts B} {s : S} {b : B} → IsKept g h shape state regions passes history spare s b
+pub can-issue : {shape : Shape} {state : State} {regions : List (Option Region)} {passes : List Pass} {history : HistoryState} {spare : Room} {S B : Type 0} {g : store.Ghosts S} {h : base.Ghosts B} {s : S} {b : B} → IsSoundCore g h shape state regions passes history spare s b
     → (i : ℕ) (content : List Sector) → IsAt passes i (IsWritable shape state.fresh.bits) → HasAskedWrite history.log.entries i content → IsAt passes i (CanIssue g shape state.fresh.bits content history s)
 can-issue {shape} {state} {passes = passes} kept i content at asked =
     let can = can-write-asked kept.coherent i content asked (writing-at passes i at) in
@@ -73,19 +73,19 @@ can-issue {shape} {state} {passes = passes} kept i content at asked =
       },
     )
 
-module _ {shape : Shape} {state : State} {regions : List (Option Region)} {passes : List Pass} {history : Numbered} {spare : Room} {S B : Type 0} {g : store.Ghosts S} {h : base.Ghosts B} {s : S} {b : B}
-    (kept : IsKept g h shape state regions passes history spare s b)
+module _ {shape : Shape} {state : State} {regions : List (Option Region)} {passes : List Pass} {history : HistoryState} {spare : Room} {S B : Type 0} {g : store.Ghosts S} {h : base.Ghosts B} {s : S} {b : B}
+    (kept : IsSoundCore g h shape state regions passes history spare s b)
     (i : ℕ) (content : List Sector) (at : IsAt passes i (IsWritable shape state.fresh.bits)) (asked : HasAskedWrite history.log.entries i content) where
-  module _ {passes' : List Pass} {history' : Numbered} {s' : S}
-      (step : Issues shape state.fresh.bits content i passes passes' history.log.entries history'.log.entries (g.flies s) (g.flies s') (g.tells s) (g.tells s') (g.disk s) (g.disk s') (g.last s) (g.last s')) where
-    pub issue-kept : IsAt passes i (λ p. Extends (g.events s ∷ []) p.piece history history') → KeepsStore g s s'
-        → IsKept g h shape state regions passes' history' spare s' b
+  module _ {passes' : List Pass} {history' : HistoryState} {s' : S}
+      (step : Issues shape state.fresh.bits content i passes passes' history.log.entries history'.log.entries (g.flight s) (g.flight s') (g.tells s) (g.tells s') (g.disk s) (g.disk s') (g.last s) (g.last s')) where
+    pub issue-kept : IsAt passes i (λ p. AddsEntries (g.events s ∷ []) p.piece history history') → KeepsStore g s s'
+        → IsSoundCore g h shape state regions passes' history' spare s' b
     issue-kept extends stays =
         let p = step.pass in let there = step.there in
         let holding = subst (λ (x : Pass). IsHolding x) (some-inj (sym at.1 ∙ there)) (writable-holding at.2) in
         let piece = (kept.coherent.each i p there).piece (holding-region p holding) in
         let used = room-issued piece (kept.roomy.reserved i p there) (holding-before p holding) step.ticket step.buffer in
-        let more = subst (λ (x : Pass). Extends (g.events s ∷ []) x.piece history history') (some-inj (sym extends.1 ∙ there)) extends.2 in
+        let more = subst (λ (x : Pass). AddsEntries (g.events s ∷ []) x.piece history history') (some-inj (sym extends.1 ∙ there)) extends.2 in
         record {
           coherent = rw (stays.counts.sectors, stays.counts.depth) (issues-coherent content kept.coherent (writing-at passes i at) asked step);
           held = kept.held ∙ sym (issues-regions (at.0, at.1, holding-region at.0 (writable-holding at.2)) step);
@@ -93,7 +93,7 @@ module _ {shape : Shape} {state : State} {regions : List (Option Region)} {passe
           storage = rw stays.counts.sectors kept.storage;
         }
 
-    pub issue-told : history'.opened ≡ history.opened → (g.tells s → IsLogged passes history (g.disk s)) → (g.tells s → h.tells b → IsFaithfullyKept g h shape state passes history s b)
+    pub issue-told : history'.opened ≡ history.opened → (g.tells s → LogAgrees passes history (g.disk s)) → (g.tells s → h.tells b → IsFaithfullyKept g h shape state passes history s b)
         → g.tells s' → h.tells b → IsFaithfullyKept g h shape state passes' history' s' b
     issue-told opened logged was told base_told = let before = step.told_before told in
         told-on (was before base_told) (logged before) (_, (step.told told).0) opened (λ start faithful. issues-faithful content kept.coherent (writing-at passes i at) asked step (λ b. faithful) told)

@@ -13,10 +13,9 @@ use Rattle.vd_format.specs.declared.header.Header.{Header}
 use Rattle.vd_format.specs.Headers.{IsValid}
 use Rattle.vd_format.specs.Layouts.{blocks_of, need_of}
 use Rattle.vd_format.proofs.Rules.{block_within, chunk_within, size_within}
-use Rattle.vd_reading.specs.Background.{zero_sector}
-use Rattle.vd_table.specs.Tables.{Given, IsOneToOne}
+use Rattle.vd_table.specs.Tables.{TableState, IsOneToOne}
 use Rattle.vd_replay.specs.declared.state.State.{State}
-use Rattle.vd_replay.specs.States.{IsWhole}
+use Rattle.vd_replay.specs.States.{IsWholeState}
 use Rattle.vd_replay.proofs.Starting.{whole-storage}
 use Rattle.vd_passes.specs.declared.shape.Shape.{Shape}
 use Rattle.vd_passes.specs.declared.pass.Pass.{Pass}
@@ -24,22 +23,23 @@ use Rattle.vd_passes.specs.declared.pass.Phase.TheVariants.{Idle}
 use Rattle.vd_passes.specs.Tracks.{writes}
 use Rattle.vd_passes.specs.Standings.{Standing, standing}
 use Rattle.vd_passes.specs.Places.{IsShape, place_of}
-use Rattle.vd_passes.specs.Passes.{has_region, region_of, ticket_of, tickets_of, fetches_of, writes_in, IsNew, HasTicket, StandsAs}
+use Rattle.vd_passes.specs.Passes.{has_region, region_of, ticket_of, tickets_of, fetches_of, writes_in, IsNew, HasInFlight, IsAsHistorySays}
 use Rattle.vd_passes.specs.Coherent.{IsCoherent}
 use Rattle.vd_regions.specs.declared.regions.Region.{Region}
 use Rattle.vd_passes.proofs.Holding.{region-none}
 use Rattle.vd_passes.proofs.Standing.{standing-nothing}
 use Rattle.vd_passes.proofs.PlacesGiven.{are-places, has-place}
 use Rattle.vd_passes.proofs.Needing.{room-idle}
-use Rattle.vd_core.specs.Kept.{IsRoomy, IsStorage, IsKept}
-use Rattle.vd_core.specs.Opening.{shape_of, AreNew, empty_history}
+use Rattle.vd_core.specs.Kept.{RoomIsReserved, IsStorage, IsSoundCore}
+use Rattle.vd_core.specs.Opening.{disk_shape, AreNew, empty_history}
+use Rattle.vd_format.specs.Background.{zero_sector}
 
 -- The shape of a header's disk.
 
 pub whole-blocks : (h : Header) → IsValid h → h.block * blocks_of h ≡ h.size
 whole-blocks h valid = let parts = div-add-mod h.size h.block in let rest = valid.whole_blocks in omega arith
 
-shaped : (h : Header) (sectors base_sectors : ℕ) → IsValid h → sectors < 2 ^ 64 → IsShape (shape_of h base_sectors) sectors base_sectors
+shaped : (h : Header) (sectors base_sectors : ℕ) → IsValid h → sectors < 2 ^ 64 → IsShape (disk_shape h base_sectors) sectors base_sectors
 shaped h sectors base_sectors valid bounded =
     let block = block_within h valid in let chunk = chunk_within h valid in let all = whole-blocks h valid in let size = size_within h valid in let tracked = valid.tracked in let slots = valid.some_slot in
     record {
@@ -75,8 +75,8 @@ no-sum f [] none = refl
 no-sum f (p ∷ passes) none = let first = none 0 p refl in let rest = no-sum f passes (λ i. none (suc i)) in let step = sum_by-cons f p passes in omega (arith, first, rest, step)
 
 -- a pass that is new, in a history without entries
-new-stands : {buffer : List Sector} (shape : Shape) (fresh : List Bool) (places : ℕ → Option ℕ) (i : ℕ) (p : Pass) → IsNew buffer p → length buffer ≡ shape.block → StandsAs shape fresh places (standing [] i) p
-new-stands {buffer} shape fresh places i p new long = subst (λ (t : Standing). StandsAs shape fresh places t p) (sym (standing-nothing i)) (record {
+new-stands : {buffer : List Sector} (shape : Shape) (fresh : List Bool) (places : ℕ → Option ℕ) (i : ℕ) (p : Pass) → IsNew buffer p → length buffer ≡ shape.block → IsAsHistorySays shape fresh places (standing [] i) p
+new-stands {buffer} shape fresh places i p new long = subst (λ (t : Standing). IsAsHistorySays shape fresh places t p) (sym (standing-nothing i)) (record {
   call = sym new.call;
   idle = λ is some. absurd (let c = new.call in omega arith);
   busy = λ is. absurd (is new.phase);
@@ -95,7 +95,7 @@ new-stands {buffer} shape fresh places i p new long = subst (λ (t : Standing). 
   placed = λ is. absurd (is new.phase);
   piece = λ is. absurd (let none = sym (ap has_region new.phase) ∙ is in cc);
   at = λ is. absurd (let none = sym (ap has_region new.phase) ∙ is in cc);
-  ticket = subst (λ ph. HasTicket ph shape fresh p) (sym new.phase) (record { ticket = new.ticket; fetch = new.fetch });
+  ticket = subst (λ ph. HasInFlight ph shape fresh p) (sym new.phase) (record { ticket = new.ticket; fetch = new.fetch });
   buffer = ap length new.buffer_is ∙ long;
 })
 
@@ -114,7 +114,7 @@ chunk-inside blocks chunk b some inside =
     subst (λ (n : ℕ). b / chunk < n / chunk) (sym same) goal
 
 -- no two chunks have one storage chunk, and there is each that a chunk has
-one-to-one : (s : State) → IsWhole s → IsOneToOne s.table
+one-to-one : (s : State) → IsWholeState s → IsOneToOne s.table
 one-to-one s whole = record {
   apart = whole.placed.apart;
   inside = λ chunk p has.
@@ -123,8 +123,8 @@ one-to-one s whole = record {
       let fits = entry.storage in let is = given.1.2 in let all = whole.sized.storage in omega (arith, fits, is, all);
 }
 
-module _ (s : State) (whole : IsWhole s) (passes : List Pass) (count sectors depth events base_sectors base_depth : ℕ) (room : Room) (flies base_flies : List Ticket → Type 0)
-    (fits : need_of s.header ≤ sectors) (bounded : sectors < 2 ^ 64) (deep : 128 ≤ depth) (base_deep : 128 ≤ base_depth) (idle : flies []) (base_idle : base_flies [])
+module _ (s : State) (whole : IsWholeState s) (passes : List Pass) (count sectors depth events base_sectors base_depth : ℕ) (room : Room) (flight base_flight : List Ticket → Type 0)
+    (fits : need_of s.header ≤ sectors) (bounded : sectors < 2 ^ 64) (deep : 128 ≤ depth) (base_deep : 128 ≤ base_depth) (idle : flight []) (base_idle : base_flight [])
     (few : count ≤ 64) (new : AreNew count s.header.block passes) (counted : room.events < 2 ^ 64) where
   abbrev h : Header
   h = s.header
@@ -133,9 +133,9 @@ module _ (s : State) (whole : IsWhole s) (passes : List Pass) (count sectors dep
   valid = whole.sized.valid
 
   abbrev shape : Shape
-  shape = shape_of h base_sectors
+  shape = disk_shape h base_sectors
 
-  abbrev table : Given
+  abbrev table : TableState
   table = s.table
 
   abbrev fresh : List Bool
@@ -153,7 +153,7 @@ module _ (s : State) (whole : IsWhole s) (passes : List Pass) (count sectors dep
     inside = let same : s.table.storage * (h.chunk * h.block) ≡ h.storage * h.chunk * h.block = ap (λ (n : ℕ). n * (h.chunk * h.block)) whole.sized.storage ∙ sym (mul_assoc h.storage h.chunk h.block) in omega (arith, same, fits);
   }
 
-  coherent : IsCoherent shape fresh (place_of shape table.chunks) passes [] sectors depth base_sectors base_depth flies base_flies
+  coherent : IsCoherent shape fresh (place_of shape table.chunks) passes [] sectors depth base_sectors base_depth flight base_flight
   coherent = record {
     shaped = shaped h sectors base_sectors valid bounded;
     size = whole.sized.fresh;
@@ -165,12 +165,12 @@ module _ (s : State) (whole : IsWhole s) (passes : List Pass) (count sectors dep
     base_deep = base_deep;
     each = λ i p there. new-stands shape fresh (place_of shape table.chunks) i p (new.each i p there) (length-replicate h.block zero_sector);
     apart = λ i j p q there_p there_q other has_p. absurd (let none = sym (ap has_region (is-idle i p there_p)) ∙ has_p in cc);
-    flight = subst flies (sym (no-tickets passes (λ i p there. (new.each i p there).ticket))) idle;
-    base_flight = subst base_flies (sym (no-fetches passes (λ i p there. (new.each i p there).fetch))) base_idle;
+    flight = subst flight (sym (no-tickets passes (λ i p there. (new.each i p there).ticket))) idle;
+    base_flight = subst base_flight (sym (no-fetches passes (λ i p there. (new.each i p there).fetch))) base_idle;
     guest = λ x. inl (record { nobody = λ i p there w. let phase = w.phase in let other = sym (is-idle i p there) ∙ phase in cc; none = no-writes x });
   }
 
-  roomy : IsRoomy h.block passes (empty_history room events) room events
+  roomy : RoomIsReserved h.block passes (empty_history room events) room events
   roomy = record {
     later = omega arith;
     spare_events = let none = no-sum (λ (p : Pass). p.events) passes (λ i p there. (new.each i p there).events) in omega arith;
@@ -180,14 +180,14 @@ module _ (s : State) (whole : IsWhole s) (passes : List Pass) (count sectors dep
     bounded = counted;
   }
 
-  opened-parts : IsCoherent shape fresh (place_of shape table.chunks) passes [] sectors depth base_sectors base_depth flies base_flies × IsRoomy h.block passes (empty_history room events) room events × IsStorage shape table sectors
+  opened-parts : IsCoherent shape fresh (place_of shape table.chunks) passes [] sectors depth base_sectors base_depth flight base_flight × RoomIsReserved h.block passes (empty_history room events) room events × IsStorage shape table sectors
   opened-parts = (coherent, roomy, storage)
 
-pub opened-kept : {S B : Type 0} (g : store.Ghosts S) (h : base.Ghosts B) (x : S) (y : B) (s : State) → IsWhole s → (passes : List Pass) (count : ℕ) (room : Room) → need_of s.header ≤ g.sectors x → g.sectors x < 2 ^ 64 → 128 ≤ g.depth x → 128 ≤ h.depth y
-    → g.flies x [] → h.flies y [] → count ≤ 64 → AreNew count s.header.block passes → room.events < 2 ^ 64
-    → IsKept g h (shape_of s.header (h.sectors y)) s (replicate count None) passes (empty_history room (g.events x)) room x y
+pub opened-kept : {S B : Type 0} (g : store.Ghosts S) (h : base.Ghosts B) (x : S) (y : B) (s : State) → IsWholeState s → (passes : List Pass) (count : ℕ) (room : Room) → need_of s.header ≤ g.sectors x → g.sectors x < 2 ^ 64 → 128 ≤ g.depth x → 128 ≤ h.depth y
+    → g.flight x [] → h.flight y [] → count ≤ 64 → AreNew count s.header.block passes → room.events < 2 ^ 64
+    → IsSoundCore g h (disk_shape s.header (h.sectors y)) s (replicate count None) passes (empty_history room (g.events x)) room x y
 opened-kept g h x y s whole passes count room fits bounded deep base_deep idle base_idle few new counted =
-    let made = opened-parts s whole passes count (g.sectors x) (g.depth x) (g.events x) (h.sectors y) (h.depth y) room (g.flies x) (h.flies y) fits bounded deep base_deep idle base_idle few new counted in
+    let made = opened-parts s whole passes count (g.sectors x) (g.depth x) (g.events x) (h.sectors y) (h.depth y) room (g.flight x) (h.flight y) fits bounded deep base_deep idle base_idle few new counted in
     record {
       coherent = made.0;
       held = ap (λ (n : ℕ). replicate n None) (sym new.many) ∙ sym (idle-regions passes (λ i p there. (new.each i p there).phase));

@@ -5,24 +5,24 @@ use Rattle.vd_device.specs.declared.store.Store as store
 use Rattle.vd_device.specs.declared.base.Base as base
 use Rattle.vd_device.specs.Disks.{Disk, IsHonest}
 use Rattle.vd_replay.specs.declared.state.State.{State}
-use Rattle.vd_replay.specs.States.{IsWhole, Says}
+use Rattle.vd_replay.specs.States.{IsWholeState, StateSays}
 use Rattle.vd_passes.specs.declared.pass.Pass.{Pass}
 use Rattle.vd_passes.specs.Tracks.{track}
 use Rattle.vd_passes.proofs.Tracing.{new-followed}
 use Rattle.vd_metadata.proofs.Others.{new-attended}
-use Rattle.vd_core.specs.Kept.{IsFaithfullyKept, IsLogged, IsRecorded}
+use Rattle.vd_core.specs.Kept.{IsFaithfullyKept, LogAgrees, MetadataAgrees}
 use Rattle.vd_core.proofs.Local.{new-marks}
-use Rattle.vd_core.specs.Opening.{shape_of, AreNew, empty_history, new_keeping}
+use Rattle.vd_core.specs.Opening.{disk_shape, AreNew, empty_history, new_keeping}
 use Rattle.vd_core.proofs.Starting.{all-told}
 use Rattle.vd_core.proofs.StartingTold.{stands-at}
 use Rattle.vd_core.proofs.Keeping.Opening.{whole-blocks}
 
-pub opened-logged : {passes : List Pass} {count block events : ℕ} (room : Room) (disk : Disk) → AreNew count block passes → events ≡ length disk.log → IsLogged passes (empty_history room events) disk
+pub opened-logged : {passes : List Pass} {count block events : ℕ} (room : Room) (disk : Disk) → AreNew count block passes → events ≡ length disk.log → LogAgrees passes (empty_history room events) disk
 opened-logged room disk new all = record { since = omega arith; followed = new-followed new.each disk.log }
 
 -- whatever the guest's disk was, the store agrees with it where blocks are local, and the base elsewhere
-pub opened-told : {S B : Type 0} (g : store.Ghosts S) (h : base.Ghosts B) (x : S) (y : B) (s : State) → IsWhole s → s.header.version ≡ 2 → {passes : List Pass} {count events : ℕ} (room : Room) → AreNew count s.header.block passes
-    → length (h.content y) ≡ h.sectors y → events ≡ length (g.disk x).log → IsHonest (g.disk x) → Says (g.disk x).held s → IsFaithfullyKept g h (shape_of s.header (h.sectors y)) s passes (empty_history room events) x y
+pub opened-told : {S B : Type 0} (g : store.Ghosts S) (h : base.Ghosts B) (x : S) (y : B) (s : State) → IsWholeState s → s.header.version ≡ 2 → {passes : List Pass} {count events : ℕ} (room : Room) → AreNew count s.header.block passes
+    → length (h.content y) ≡ h.sectors y → events ≡ length (g.disk x).log → IsHonest (g.disk x) → StateSays (g.disk x).held s → IsFaithfullyKept g h (disk_shape s.header (h.sectors y)) s passes (empty_history room events) x y
 opened-told g h x y s whole version {passes} {count} {events} room new base_size all honest says = let disk = g.disk x in record {
   base_size = base_size;
   faithful = λ start is. record {
@@ -40,7 +40,7 @@ opened-told g h x y s whole version {passes} {count} {events} room new base_size
 }
 
 -- the keeper is a new one, and no flush is under way
-pub opened-recorded : (s : State) → IsWhole s → s.header.version ≡ 2 → {passes : List Pass} {count block : ℕ} (base_sectors : ℕ) → AreNew count block passes → IsRecorded (shape_of s.header base_sectors) s passes None (new_keeping s)
+pub opened-recorded : (s : State) → IsWholeState s → s.header.version ≡ 2 → {passes : List Pass} {count block : ℕ} (base_sectors : ℕ) → AreNew count block passes → MetadataAgrees (disk_shape s.header base_sectors) s passes None (new_keeping s)
 opened-recorded s whole version base_sectors new = record {
   attended = new-attended s.header s.fresh s.more s.cursor.next refl whole.sized.valid version (let next = whole.next in let slots = whole.sized.slots in omega (arith, next, slots))
       whole.sized.chunk whole.sized.fresh (let more = whole.sized.more in omega (arith, more)) refl refl refl refl refl whole.sized.table whole.sized.storage

@@ -5,7 +5,7 @@ use Rattle.vd_law.specs.declared.entry.Sector.{Sector}
 use Rattle.vd_law.specs.declared.entry.Room.{Room}
 use Rattle.vd_law.specs.declared.entry.Answer.{Answer}
 use Rattle.vd_law.specs.Entries.{Asked, Read, Write, Flush, Entry}
-use Rattle.vd_law.specs.Histories.{Numbered}
+use Rattle.vd_law.specs.Histories.{HistoryState}
 use Rattle.vd_device.specs.declared.ticket.Ticket.{Ticket}
 use Rattle.vd_device.specs.declared.settled.Settled.{Settled}
 use Rattle.vd_device.specs.declared.settled.Settled.TheVariants as settled
@@ -13,11 +13,11 @@ use Rattle.vd_device.specs.Disks.{Disk}
 use Rattle.vd_bits.specs.Blocks.{Blocks}
 use Rattle.vd_regions.specs.declared.regions.Region.{Region}
 use Rattle.vd_regions.specs.declared.regions.Busy.{Busy}
-use Rattle.vd_table.specs.Tables.{Given}
+use Rattle.vd_table.specs.Tables.{TableState}
 use Rattle.vd_format.specs.declared.header.Header.{Header}
 use Rattle.vd_image.specs.Image.{geometry_of}
-use Rattle.vd_meta.specs.Keeping.{Keeping}
-use Rattle.vd_meta.specs.Moves.{owing}
+use Rattle.vd_keeper.specs.Keeping.{KeeperState}
+use Rattle.vd_keeper.specs.Moves.{after_owe}
 use Rattle.vd_replay.specs.declared.state.State.{State}
 use Rattle.vd_replay.specs.States.{IsSized}
 use Rattle.vd_passes.specs.declared.shape.Shape.{Shape}
@@ -26,15 +26,15 @@ use Rattle.vd_passes.specs.declared.pass.Fault.{Fault}
 use Rattle.vd_passes.specs.declared.pass.Phase.{Phase}
 use Rattle.vd_passes.specs.declared.pass.Phase.TheVariants.{Idle, Asked as HasAsked, Held, Fetching, Filled, Issuing, Looking, Flushing, Ready}
 use Rattle.vd_passes.specs.Passes.{after_ask}
-use Rattle.vd_passes.specs.Steps.{IsAt, fetched, FetchSettled, Issues, EndsWrite, WriteSettled, Looks, LooksAtBase, Sees, EndsRead, LookSettled, BaseLookSettled, Replies}
+use Rattle.vd_passes.specs.Steps.{IsAt, after_base_read, FetchSettled, Issues, EndsWrite, WriteSettled, Looks, LooksAtBase, Sees, EndsRead, LookSettled, BaseLookSettled, Replies}
 use Rattle.vd_passes.proofs.Lists.{some-inj, length-set'}
-use Rattle.vd_metadata.specs.Attending.{IsAttended}
+use Rattle.vd_metadata.specs.Attending.{KeeperAgrees}
 use Rattle.vd_metadata.proofs.Others.{pass-attended, table-attended, owing-attended}
-use Rattle.vd_core.specs.Asking.{asking, AskEnds}
+use Rattle.vd_core.specs.Asking.{ask_state, AskEnds}
 use Rattle.vd_core.specs.Entering.{IsKeptOut, EntersBlock}
 use Rattle.vd_core.specs.Fetching.{FetchesIn}
-use Rattle.vd_core.specs.Issuing.{owed_after}
-use Rattle.vd_core.specs.Kept.{IsRecorded}
+use Rattle.vd_core.specs.Issuing.{keeper_after_write}
+use Rattle.vd_core.specs.Kept.{MetadataAgrees}
 use Rattle.vd_core.proofs.Local.{same-marks}
 
 -- No phase of these is that of a flush under way.
@@ -77,69 +77,69 @@ ready-not e = cc
 idle-not : Idle ≢ Flushing
 idle-not e = cc
 
-fetched-not : (answer : Settled) (p : Pass) (ticket : Ticket) (block : ℕ) (content : List Sector) → p.phase ≢ Flushing → (fetched answer p ticket block content).phase ≢ Flushing
+fetched-not : (answer : Settled) (p : Pass) (ticket : Ticket) (block : ℕ) (content : List Sector) → p.phase ≢ Flushing → (after_base_read answer p ticket block content).phase ≢ Flushing
 fetched-not settled.Done p ticket block content before = filled-not
 fetched-not (settled.NotYet same) p ticket block content before = before
 fetched-not (settled.Failed number) p ticket block content before = ready-not
 
-module _ {shape : Shape} {state : State} {passes : List Pass} {flusher : Option ℕ} {k : Keeping} (was : IsRecorded shape state passes flusher k) where
-  pub recorded-pass : (i : ℕ) {p : Pass} (p' : Pass) {passes' : List Pass} → slice_get passes i ≡ Some p → passes' ≡ slice_set passes i p' → p.phase ≢ Flushing → p'.phase ≢ Flushing → IsRecorded shape state passes' flusher k
+module _ {shape : Shape} {state : State} {passes : List Pass} {flusher : Option ℕ} {k : KeeperState} (was : MetadataAgrees shape state passes flusher k) where
+  pub recorded-pass : (i : ℕ) {p : Pass} (p' : Pass) {passes' : List Pass} → slice_get passes i ≡ Some p → passes' ≡ slice_set passes i p' → p.phase ≢ Flushing → p'.phase ≢ Flushing → MetadataAgrees shape state passes' flusher k
   recorded-pass i {p} p' there after before now = record { attended = pass-attended i p p' was.attended there after before now; sized = was.sized; same = was.same; stale = was.stale }
 
-  recorded-same : {passes' : List Pass} → passes' ≡ passes → IsRecorded shape state passes' flusher k
-  recorded-same {passes'} same = subst (λ (ps : List Pass). IsRecorded shape state ps flusher k) (sym same) was
+  recorded-same : {passes' : List Pass} → passes' ≡ passes → MetadataAgrees shape state passes' flusher k
+  recorded-same {passes'} same = subst (λ (ps : List Pass). MetadataAgrees shape state ps flusher k) (sym same) was
 
   module _ (i : ℕ) {passes' : List Pass} where
     pub enter-recorded : (chunks : List (Option ℕ)) (regions regions' : List (Option Region)) → IsAt passes i (λ p. p.phase ≡ HasAsked) → (result : Result Unit Busy) → IfErr result (λ busy. IsKeptOut shape regions regions' i passes passes' busy.by)
-        → OnOk result (EntersBlock shape chunks regions regions' i passes passes') → IsRecorded shape state passes' flusher k
+        → OnOk result (EntersBlock shape chunks regions regions' i passes passes') → MetadataAgrees shape state passes' flusher k
     enter-recorded chunks regions regions' at (Ok v) busy entered =
         let e = entered.enters in recorded-pass i _ e.there e.after (other-phase e.pass (phase-of passes i at e.pass e.there) asked-not) held-not
     enter-recorded chunks regions regions' at (Err busy) out entered = recorded-same out.passes_same
 
-    pub fetch-recorded : {base_flies base_flies' : List Ticket → Type 0} → IsAt passes i (λ p. p.phase ≡ Held) → FetchesIn shape i passes passes' base_flies base_flies' → IsRecorded shape state passes' flusher k
-    fetch-recorded {base_flies} {base_flies'} at (inl f) = let step = f.0 in recorded-pass i _ step.there step.after (other-phase step.pass (phase-of passes i at step.pass step.there) held-not) fetching-not
-    fetch-recorded {base_flies} {base_flies'} at (inr z) = let step = z.0 in recorded-pass i _ step.there step.after (other-phase step.pass (phase-of passes i at step.pass step.there) held-not) filled-not
+    pub fetch-recorded : {base_flight base_flight' : List Ticket → Type 0} → IsAt passes i (λ p. p.phase ≡ Held) → FetchesIn shape i passes passes' base_flight base_flight' → MetadataAgrees shape state passes' flusher k
+    fetch-recorded {base_flight} {base_flight'} at (inl f) = let step = f.0 in recorded-pass i _ step.there step.after (other-phase step.pass (phase-of passes i at step.pass step.there) held-not) fetching-not
+    fetch-recorded {base_flight} {base_flight'} at (inr z) = let step = z.0 in recorded-pass i _ step.there step.after (other-phase step.pass (phase-of passes i at step.pass step.there) held-not) filled-not
 
-    pub settle_fetch-recorded : {answer : Settled} {base_flies base_flies' : List Ticket → Type 0} {base_tells : Type 0} {base : List Sector} → IsAt passes i (λ p. p.phase ≡ Fetching)
-        → FetchSettled answer shape i passes passes' base_flies base_flies' base_tells base → IsRecorded shape state passes' flusher k
+    pub settle_fetch-recorded : {answer : Settled} {base_flight base_flight' : List Ticket → Type 0} {base_tells : Type 0} {base : List Sector} → IsAt passes i (λ p. p.phase ≡ Fetching)
+        → FetchSettled answer shape i passes passes' base_flight base_flight' base_tells base → MetadataAgrees shape state passes' flusher k
     settle_fetch-recorded {answer} at step =
         let before = other-phase step.pass (phase-of passes i at step.pass step.there) fetching-not in
         recorded-pass i _ step.there step.after before (fetched-not answer step.pass step.ticket shape.block step.content before)
 
-    pub look-recorded : {flies flies' : List Ticket → Type 0} {tells tells' : Type 0} {disk disk' : Disk} {last last' : ℕ} → IsAt passes i (λ p. p.phase ≡ Held)
-        → Looks shape i passes passes' flies flies' tells tells' disk disk' last last' → IsRecorded shape state passes' flusher k
+    pub look-recorded : {flight flight' : List Ticket → Type 0} {tells tells' : Type 0} {disk disk' : Disk} {last last' : ℕ} → IsAt passes i (λ p. p.phase ≡ Held)
+        → Looks shape i passes passes' flight flight' tells tells' disk disk' last last' → MetadataAgrees shape state passes' flusher k
     look-recorded at step = recorded-pass i _ step.there step.after (other-phase step.pass (phase-of passes i at step.pass step.there) held-not) looking-not
 
-    pub base_look-recorded : {base_flies base_flies' : List Ticket → Type 0} → IsAt passes i (λ p. p.phase ≡ Held) → LooksAtBase shape i passes passes' base_flies base_flies' → IsRecorded shape state passes' flusher k
+    pub base_look-recorded : {base_flight base_flight' : List Ticket → Type 0} → IsAt passes i (λ p. p.phase ≡ Held) → LooksAtBase shape i passes passes' base_flight base_flight' → MetadataAgrees shape state passes' flusher k
     base_look-recorded at step = recorded-pass i _ step.there step.after (other-phase step.pass (phase-of passes i at step.pass step.there) held-not) looking-not
 
     pub sees-recorded : {phase : Phase} {content : List Sector} {history history' : List Entry} {out out' : List Sector} → phase ≢ Flushing → IsAt passes i (λ p. p.phase ≡ phase)
-        → Sees content i passes passes' history history' out out' → IsRecorded shape state passes' flusher k
+        → Sees content i passes passes' history history' out out' → MetadataAgrees shape state passes' flusher k
     sees-recorded other at step = recorded-pass i _ step.there step.after (other-phase step.pass (phase-of passes i at step.pass step.there) other) (piece-not (nat_lt (step.pass.done + step.pass.piece) step.pass.count))
 
     ends_read-recorded : (answer : Settled) (p : Pass) (why : Fault) (content : List Sector) (history history' : List Entry) (out out' : List Sector) → IsAt passes i (λ p. p.phase ≡ Looking) → slice_get passes i ≡ Some p
-        → EndsRead answer p why content i passes passes' history history' out out' → IsRecorded shape state passes' flusher k
+        → EndsRead answer p why content i passes passes' history history' out out' → MetadataAgrees shape state passes' flusher k
     ends_read-recorded settled.Done p why content history history' out out' at there ends = sees-recorded looking-not at ends
     ends_read-recorded (settled.NotYet same) p why content history history' out out' at there ends = recorded-same ends.0
     ends_read-recorded (settled.Failed number) p why content history history' out out' at there ends = recorded-pass i _ there ends.0 (other-phase p (phase-of passes i at p there) looking-not) ready-not
 
-    pub settle_look-recorded : {answer : Settled} {history history' : List Entry} {flies flies' : List Ticket → Type 0} {tells tells' : Type 0} {disk disk' : Disk} {last last' : ℕ} {out out' : List Sector} → IsAt passes i (λ p. p.phase ≡ Looking)
-        → LookSettled answer i passes passes' history history' flies flies' tells tells' disk disk' last last' out out' → IsRecorded shape state passes' flusher k
+    pub settle_look-recorded : {answer : Settled} {history history' : List Entry} {flight flight' : List Ticket → Type 0} {tells tells' : Type 0} {disk disk' : Disk} {last last' : ℕ} {out out' : List Sector} → IsAt passes i (λ p. p.phase ≡ Looking)
+        → LookSettled answer i passes passes' history history' flight flight' tells tells' disk disk' last last' out out' → MetadataAgrees shape state passes' flusher k
     settle_look-recorded {answer} {history} {history'} {out = out} {out' = out'} at step = ends_read-recorded answer step.pass _ step.content history history' out out' at step.there step.effect
 
-    pub settle_base_look-recorded : {answer : Settled} {history history' : List Entry} {flies flies' : List Ticket → Type 0} {tells : Type 0} {base out out' : List Sector} → IsAt passes i (λ p. p.phase ≡ Looking)
-        → BaseLookSettled answer shape i passes passes' history history' flies flies' tells base out out' → IsRecorded shape state passes' flusher k
+    pub settle_base_look-recorded : {answer : Settled} {history history' : List Entry} {flight flight' : List Ticket → Type 0} {tells : Type 0} {base out out' : List Sector} → IsAt passes i (λ p. p.phase ≡ Looking)
+        → BaseLookSettled answer shape i passes passes' history history' flight flight' tells base out out' → MetadataAgrees shape state passes' flusher k
     settle_base_look-recorded {answer} {history} {history'} {out = out} {out' = out'} at step = ends_read-recorded answer step.pass _ _ history history' out out' at step.there step.effect
 
-    pub issue-recorded : {fresh : List Bool} {content : List Sector} {history history' : List Entry} {flies flies' : List Ticket → Type 0} {tells tells' : Type 0} {disk disk' : Disk} {last last' : ℕ}
-        → (step : Issues shape fresh content i passes passes' history history' flies flies' tells tells' disk disk' last last') → step.pass.phase ≢ Flushing → IsRecorded shape state passes' flusher k
+    pub issue-recorded : {fresh : List Bool} {content : List Sector} {history history' : List Entry} {flight flight' : List Ticket → Type 0} {tells tells' : Type 0} {disk disk' : Disk} {last last' : ℕ}
+        → (step : Issues shape fresh content i passes passes' history history' flight flight' tells tells' disk disk' last last') → step.pass.phase ≢ Flushing → MetadataAgrees shape state passes' flusher k
     issue-recorded step before = recorded-pass i _ step.there step.after before issuing-not
 
-    pub reply-recorded : {answer : Answer} {history history' : List Entry} → IsAt passes i (λ p. p.phase ≡ Ready) → Replies answer i passes passes' history history' → IsRecorded shape state passes' flusher k
+    pub reply-recorded : {answer : Answer} {history history' : List Entry} → IsAt passes i (λ p. p.phase ≡ Ready) → Replies answer i passes passes' history history' → MetadataAgrees shape state passes' flusher k
     reply-recorded at step = recorded-pass i _ step.there step.after (other-phase step.pass (phase-of passes i at step.pass step.there) ready-not) idle-not
 
 -- A request gives chunks storage: the state's table is another, of the same size.
-tabled : (state : State) (table' : Given) → IsSized state → length table'.chunks ≡ length state.table.chunks → table'.storage ≡ state.table.storage → IsSized (record state { table = table' })
+tabled : (state : State) (table' : TableState) → IsSized state → length table'.chunks ≡ length state.table.chunks → table'.storage ≡ state.table.storage → IsSized (record state { table = table' })
 tabled state table' sized chunks storage = record {
   valid = sized.valid;
   map = sized.map;
@@ -152,16 +152,16 @@ tabled state table' sized chunks storage = record {
   slots = sized.slots;
 }
 
-with-table : {shape : Shape} {state : State} {passes : List Pass} {flusher : Option ℕ} {k : Keeping} (table' : Given) → length table'.chunks ≡ length state.table.chunks → table'.storage ≡ state.table.storage
-    → IsRecorded shape state passes flusher k → IsRecorded shape (record state { table = table' }) passes flusher k
+with-table : {shape : Shape} {state : State} {passes : List Pass} {flusher : Option ℕ} {k : KeeperState} (table' : TableState) → length table'.chunks ≡ length state.table.chunks → table'.storage ≡ state.table.storage
+    → MetadataAgrees shape state passes flusher k → MetadataAgrees shape (record state { table = table' }) passes flusher k
 with-table {shape} {state} table' chunks storage was = record { attended = table-attended was.attended chunks storage; sized = tabled state table' was.sized chunks storage; same = was.same; stale = was.stale }
 
-pub ask-recorded : {shape : Shape} {state : State} {passes : List Pass} {flusher : Option ℕ} {k : Keeping} {result : Option Answer} {request : Asked} {i : ℕ} {table' : Given} {passes' : List Pass} {history history' : Numbered} {spare spare' : Room} {events : ℕ}
-    → IsRecorded shape state passes flusher k → IsAt passes i (λ p. p.phase ≡ Idle) → AskEnds result request events i (asking shape state.table passes history spare) (asking shape table' passes' history' spare') → IsRecorded shape (record state { table = table' }) passes' flusher k
+pub ask-recorded : {shape : Shape} {state : State} {passes : List Pass} {flusher : Option ℕ} {k : KeeperState} {result : Option Answer} {request : Asked} {i : ℕ} {table' : TableState} {passes' : List Pass} {history history' : HistoryState} {spare spare' : Room} {events : ℕ}
+    → MetadataAgrees shape state passes flusher k → IsAt passes i (λ p. p.phase ≡ Idle) → AskEnds result request events i (ask_state shape state.table passes history spare) (ask_state shape table' passes' history' spare') → MetadataAgrees shape (record state { table = table' }) passes' flusher k
 ask-recorded {table' = table'} {passes' = passes'} was at (inl none) = let same = none.2 in
-    with-table table' (ap (λ (t : Given). length t.chunks) same.table_same) (ap (λ (t : Given). t.storage) same.table_same) (recorded-same was same.passes_same)
+    with-table table' (ap (λ (t : TableState). length t.chunks) same.table_same) (ap (λ (t : TableState). t.storage) same.table_same) (recorded-same was same.passes_same)
 ask-recorded {passes = passes} {i = i} {table' = table'} was at (inr (inl full)) = let e = full.3 in let step = e.asks in let before = other-phase step.pass (phase-of passes i at step.pass step.there) idle-not in
-    with-table table' (ap (λ (t : Given). length t.chunks) e.table_same) (ap (λ (t : Given). t.storage) e.table_same) (recorded-pass was i _ step.there step.after before before)
+    with-table table' (ap (λ (t : TableState). length t.chunks) e.table_same) (ap (λ (t : TableState). t.storage) e.table_same) (recorded-pass was i _ step.there step.after before before)
 ask-recorded {passes = passes} {request = request} {i = i} {table' = table'} was at (inr (inr asked)) = let e = asked.1 in let step = e.asks in
     with-table table' e.claims.chunks e.claims.storage
     (recorded-pass was i _ step.there step.after (other-phase step.pass (phase-of passes i at step.pass step.there) idle-not) (other-phase (after_ask step.pass request _ _) (asked-phase step.pass request _ _) asked-not))
@@ -180,48 +180,48 @@ marked-sized state fresh' sized chunk many = record {
   slots = sized.slots;
 }
 
-owing-stale : (block : ℕ) (k : Keeping) → (owing block k).stale ≡ k.stale
+owing-stale : (block : ℕ) (k : KeeperState) → (after_owe block k).stale ≡ k.stale
 owing-stale block k = by (slice_index_or k.stale block false)
   where
     by : (stale : Bool) → (if stale then k else record k { owed = slice_set k.owed block true }).stale ≡ k.stale
     by true = refl
     by false = refl
 
-owing-header : (block : ℕ) (k : Keeping) → (owing block k).header ≡ k.header
+owing-header : (block : ℕ) (k : KeeperState) → (after_owe block k).header ≡ k.header
 owing-header block k = by (slice_index_or k.stale block false)
   where
     by : (stale : Bool) → (if stale then k else record k { owed = slice_set k.owed block true }).header ≡ k.header
     by true = refl
     by false = refl
 
-module _ {shape : Shape} {state : State} {passes : List Pass} {flusher : Option ℕ} {k : Keeping} (was : IsRecorded shape state passes flusher k) (i : ℕ) (at : IsAt passes i (λ p. p.phase ≡ Issuing))
-    (fresh' : Blocks) (chunk : fresh'.chunk ≡ state.fresh.chunk) {passes' : List Pass} {k' : Keeping} where
+module _ {shape : Shape} {state : State} {passes : List Pass} {flusher : Option ℕ} {k : KeeperState} (was : MetadataAgrees shape state passes flusher k) (i : ℕ) (at : IsAt passes i (λ p. p.phase ≡ Issuing))
+    (fresh' : Blocks) (chunk : fresh'.chunk ≡ state.fresh.chunk) {passes' : List Pass} {k' : KeeperState} where
   -- the local blocks are as they were, and so is the keeper
-  still-marked : fresh'.bits ≡ state.fresh.bits → k' ≡ k → IsRecorded shape state passes' flusher k → IsRecorded shape (record state { fresh = fresh' }) passes' flusher k'
+  still-marked : fresh'.bits ≡ state.fresh.bits → k' ≡ k → MetadataAgrees shape state passes' flusher k → MetadataAgrees shape (record state { fresh = fresh' }) passes' flusher k'
   still-marked bits keeper kept = rw keeper (record {
-    attended = subst (λ (xs : List Bool). IsAttended shape state.table xs passes' flusher k) (sym bits) kept.attended;
+    attended = subst (λ (xs : List Bool). KeeperAgrees shape state.table xs passes' flusher k) (sym bits) kept.attended;
     sized = marked-sized state fresh' kept.sized chunk (ap (λ (xs : List Bool). length xs) bits);
     same = kept.same;
     stale = kept.stale;
   })
 
   ends_write-recorded : (answer : Settled) (p : Pass) (ticket : Ticket) (history history' : List Entry) → slice_get passes i ≡ Some p → p.block < length state.fresh.bits
-      → EndsWrite answer p ticket i state.fresh.bits fresh'.bits passes passes' history history' → k' ≡ owed_after answer p.block k → IsRecorded shape (record state { fresh = fresh' }) passes' flusher k'
+      → EndsWrite answer p ticket i state.fresh.bits fresh'.bits passes passes' history history' → k' ≡ keeper_after_write answer p.block k → MetadataAgrees shape (record state { fresh = fresh' }) passes' flusher k'
   ends_write-recorded settled.Done p ticket history history' there inside ends after =
       let kept = recorded-pass was i _ there ends.1 (other-phase p (phase-of passes i at p there) issuing-not) (piece-not (nat_lt (p.done + p.piece) p.count)) in
       record {
         attended = owing-attended p.block kept.attended inside ends.0 after;
         sized = marked-sized state fresh' kept.sized chunk (ap (λ (xs : List Bool). length xs) ends.0 ∙ length-set' state.fresh.bits p.block true);
-        same = ap (λ (x : Keeping). geometry_of x.header) after ∙ ap (λ (h : Header). geometry_of h) (owing-header p.block k) ∙ kept.same;
-        stale = same-marks shape state.map (ap (λ (x : Keeping). x.stale) after ∙ owing-stale p.block k) kept.stale;
+        same = ap (λ (x : KeeperState). geometry_of x.header) after ∙ ap (λ (h : Header). geometry_of h) (owing-header p.block k) ∙ kept.same;
+        stale = same-marks shape state.map (ap (λ (x : KeeperState). x.stale) after ∙ owing-stale p.block k) kept.stale;
       }
   ends_write-recorded (settled.NotYet same) p ticket history history' there inside ends after = still-marked ends.0 after (recorded-same was ends.1)
   ends_write-recorded (settled.Failed number) p ticket history history' there inside ends after =
       still-marked ends.0 after (recorded-pass was i _ there ends.1 (other-phase p (phase-of passes i at p there) issuing-not) ready-not)
 
-  pub settle_issue-recorded : {answer : Settled} {history history' : List Entry} {flies flies' : List Ticket → Type 0} {tells tells' : Type 0} {disk disk' : Disk} {last last' : ℕ}
-      → (step : WriteSettled answer i state.fresh.bits fresh'.bits passes passes' history history' flies flies' tells tells' disk disk' last last') → step.pass.block < length state.fresh.bits
-      → IsAt passes i (λ p. k' ≡ owed_after answer p.block k) → IsRecorded shape (record state { fresh = fresh' }) passes' flusher k'
+  pub settle_issue-recorded : {answer : Settled} {history history' : List Entry} {flight flight' : List Ticket → Type 0} {tells tells' : Type 0} {disk disk' : Disk} {last last' : ℕ}
+      → (step : WriteSettled answer i state.fresh.bits fresh'.bits passes passes' history history' flight flight' tells tells' disk disk' last last') → step.pass.block < length state.fresh.bits
+      → IsAt passes i (λ p. k' ≡ keeper_after_write answer p.block k) → MetadataAgrees shape (record state { fresh = fresh' }) passes' flusher k'
   settle_issue-recorded {answer} {history} {history'} step inside after =
       ends_write-recorded answer step.pass step.ticket history history' step.there inside step.effect
-      (subst (λ (x : Pass). k' ≡ owed_after answer x.block k) (some-inj (sym after.1 ∙ step.there)) after.2)
+      (subst (λ (x : Pass). k' ≡ keeper_after_write answer x.block k) (some-inj (sym after.1 ∙ step.there)) after.2)

@@ -8,7 +8,7 @@ use Rattle.vd_law.specs.declared.entry.Room.{Room}
 use Rattle.vd_law.specs.declared.entry.Answer.{Answer}
 use Rattle.vd_law.specs.declared.entry.Answer.TheVariants.{Ok}
 use Rattle.vd_law.specs.Entries.{Entry}
-use Rattle.vd_law.specs.Histories.{Numbered}
+use Rattle.vd_law.specs.Histories.{HistoryState}
 use Rattle.vd_regions.specs.declared.regions.Region.{Region}
 use Rattle.vd_passes.specs.declared.shape.Shape.{Shape}
 use Rattle.vd_passes.specs.declared.pass.Pass.{Pass}
@@ -21,9 +21,9 @@ use Rattle.vd_passes.proofs.Lists.{some-inj}
 use Rattle.vd_passes.proofs.Needing.{sum-part, room-reply, room-replied}
 use Rattle.vd_passes.proofs.Holding.{phase-at, replies-regions}
 use Rattle.vd_passes.proofs.Asking.{replies-coherent, replies-faithful}
-use Rattle.vd_core.specs.Adding.{Extends}
-use Rattle.vd_core.specs.Asking.{CanReply, IsOkWhereDone, freed}
-use Rattle.vd_core.specs.Kept.{IsRoomy, IsKept, IsFaithfullyKept}
+use Rattle.vd_core.specs.Adding.{AddsEntries}
+use Rattle.vd_core.specs.Asking.{CanReply, IsOkWhereDone, room_after_reply}
+use Rattle.vd_core.specs.Kept.{RoomIsReserved, IsSoundCore, IsFaithfullyKept}
 use Rattle.vd_core.proofs.Reserving.{room-shared}
 use Rattle.vd_core.proofs.Keeping.Telling.{told-here}
 
@@ -34,8 +34,8 @@ ok-where p broken (Some (fault.Store ticket)) outcome data_call = (λ is. absurd
 ok-where p broken (Some (fault.Base ticket)) outcome data_call = (λ is. absurd (cc), λ is. absurd (let less = outcome.0 in omega arith))
 ok-where p broken (Some (fault.Worn generation)) outcome data_call = absurd (let f = sym outcome.0 ∙ data_call in cc)
 
-module _ {shape : Shape} {state : State} {regions : List (Option Region)} {passes : List Pass} {history : Numbered} {spare : Room} {S B : Type 0} {g : store.Ghosts S} {h : base.Ghosts B} {s : S} {b : B}
-    (i : ℕ) (kept : IsKept g h shape state regions passes history spare s b) (at : IsAt passes i (λ p. p.phase ≡ Ready)) where
+module _ {shape : Shape} {state : State} {regions : List (Option Region)} {passes : List Pass} {history : HistoryState} {spare : Room} {S B : Type 0} {g : store.Ghosts S} {h : base.Ghosts B} {s : S} {b : B}
+    (i : ℕ) (kept : IsSoundCore g h shape state regions passes history spare s b) (at : IsAt passes i (λ p. p.phase ≡ Ready)) where
   pub can-reply : IsAt passes i (CanReply passes history spare (g.events s))
   can-reply =
       let p = at.0 in let a = sum-part (λ (q : Pass). q.events) passes i p at.1 in let b = sum-part (λ (q : Pass). q.sectors) passes i p at.1 in
@@ -59,15 +59,15 @@ module _ {shape : Shape} {state : State} {regions : List (Option Region)} {passe
       let p = step.pass in
       (p, step.there, subst (λ (a : Answer). IsOkWhereDone a p) (sym step.is) (ok-where p _ p.fault ((kept.coherent.each i p step.there).ready (ready-is step.there))))
 
-  module _ {answer : Answer} {passes' : List Pass} {history' : Numbered} (step : Replies answer i passes passes' history.log.entries history'.log.entries) where
-    replied-roomy : {spare' : Room} → Extends (g.events s ∷ []) 0 history history' → IsAt passes i (λ p. spare' ≡ freed p spare) → IsRoomy shape.block passes' history' spare' (g.events s)
+  module _ {answer : Answer} {passes' : List Pass} {history' : HistoryState} (step : Replies answer i passes passes' history.log.entries history'.log.entries) where
+    replied-roomy : {spare' : Room} → AddsEntries (g.events s ∷ []) 0 history history' → IsAt passes i (λ p. spare' ≡ room_after_reply p spare) → RoomIsReserved shape.block passes' history' spare' (g.events s)
     replied-roomy {spare'} extends left =
         let p = step.pass in let some = room-reply (kept.roomy.reserved i p step.there) (ready-is step.there) in
-        let is : spare' ≡ freed p spare = left.2 ∙ ap (λ (x : Pass). freed x spare) (some-inj (sym left.1 ∙ step.there)) in
+        let is : spare' ≡ room_after_reply p spare = left.2 ∙ ap (λ (x : Pass). room_after_reply x spare) (some-inj (sym left.1 ∙ step.there)) in
         let c = ap (λ (r : Room). r.events) is in let d = ap (λ (r : Room). r.sectors) is in
         room-shared kept.roomy i step.there step.after extends (room-replied shape.block p) spare' (omega (arith, c, some)) (omega (arith, d)) (omega arith) (omega arith)
 
-    pub reply-kept : {spare' : Room} → Extends (g.events s ∷ []) 0 history history' → IsAt passes i (λ p. spare' ≡ freed p spare) → IsKept g h shape state regions passes' history' spare' s b
+    pub reply-kept : {spare' : Room} → AddsEntries (g.events s ∷ []) 0 history history' → IsAt passes i (λ p. spare' ≡ room_after_reply p spare) → IsSoundCore g h shape state regions passes' history' spare' s b
     reply-kept {spare'} extends left = record {
       coherent = replies-coherent kept.coherent at step;
       held = kept.held ∙ sym (replies-regions (phase-at false Ready passes i refl at) step);

@@ -8,7 +8,7 @@ use Rattle.vd_device.specs.Bases.{KeepsBase}
 use Rattle.vd_replay.specs.declared.state.State.{State}
 use Rattle.vd_law.specs.declared.entry.Sector.{Sector}
 use Rattle.vd_law.specs.declared.entry.Room.{Room}
-use Rattle.vd_law.specs.Histories.{Numbered}
+use Rattle.vd_law.specs.Histories.{HistoryState}
 use Rattle.vd_device.specs.declared.ticket.Kind.TheVariants.{Read as ReadKind}
 use Rattle.vd_device.specs.declared.settled.Settled.{Settled}
 use Rattle.vd_device.specs.declared.settled.Settled.TheVariants as settled
@@ -18,7 +18,7 @@ use Rattle.vd_passes.specs.declared.pass.Pass.{Pass}
 use Rattle.vd_passes.specs.declared.pass.Phase.TheVariants.{Looking}
 use Rattle.vd_passes.specs.declared.pass.Fault.{Fault}
 use Rattle.vd_passes.specs.Places.{place_of}
-use Rattle.vd_passes.specs.Passes.{has_region, fetches_of, HasTicket, StandsAs, after_piece, spent}
+use Rattle.vd_passes.specs.Passes.{has_region, fetches_of, HasInFlight, IsAsHistorySays, after_piece, after_spending}
 use Rattle.vd_passes.specs.Standings.{standing}
 use Rattle.vd_passes.specs.Steps.{IsAt, IsWaiting, IsWaitingForBase, EndsRead, LookSettled, BaseLookSettled}
 use Rattle.vd_passes.proofs.Lists.{some-inj, fetches-taken}
@@ -28,9 +28,9 @@ use Rattle.vd_passes.proofs.Needing.{is_before_event, room-failed, room-seen}
 use Rattle.vd_passes.proofs.Holding.{regions_ended, look_settled-regions, base_look_settled-regions}
 use Rattle.vd_passes.proofs.Settling.{in-flight}
 use Rattle.vd_passes.proofs.LookSteps.{look_settled-coherent, look_settled-faithful, base_look_settled-coherent, base_look_settled-faithful}
-use Rattle.vd_core.specs.Adding.{CanAdd, Extends}
-use Rattle.vd_core.specs.Outcomes.{outcome_of, read_numbers_of, read_sectors_of, released}
-use Rattle.vd_core.specs.Kept.{IsKept, IsLogged, IsFaithfullyKept, IsRoomy}
+use Rattle.vd_core.specs.Adding.{CanAdd, AddsEntries}
+use Rattle.vd_core.specs.Outcomes.{outcome_of, read_numbers_of, read_sectors_of, regions_after_end}
+use Rattle.vd_core.specs.Kept.{IsSoundCore, LogAgrees, IsFaithfullyKept, RoomIsReserved}
 use Rattle.vd_core.proofs.Rooming.{room-used, room-late}
 use Rattle.vd_core.proofs.Keeping.Devices.{backed}
 use Rattle.vd_core.proofs.Keeping.Looking.{has-room-to-see}
@@ -42,18 +42,18 @@ pub not-some : {X : Type 0} (o : Option X) → o ≡ None → IsSome o → ⊥
 not-some None is some = cc
 not-some (Some x) is some = cc
 
-module _ {shape : Shape} {state : State} {regions : List (Option Region)} {passes : List Pass} {history : Numbered} {spare : Room}
+module _ {shape : Shape} {state : State} {regions : List (Option Region)} {passes : List Pass} {history : HistoryState} {spare : Room}
     {S B : Type 0} {g : store.Ghosts S} {h : base.Ghosts B} {s : S} {b : B}
-    (kept : IsKept g h shape state regions passes history spare s b) (i : ℕ) where
+    (kept : IsSoundCore g h shape state regions passes history spare s b) (i : ℕ) where
   -- The read that is in flight can be settled.
   module _ (p : Pass) (there : slice_get passes i ≡ Some p) (looking : p.phase ≡ Looking) (out : List Sector) (long : p.count ≡ length out) where
     has : has_region p.phase ≡ true
     has = region-of _ Looking refl looking
 
-    stands : StandsAs shape state.fresh.bits (place_of shape state.table.chunks) (standing history.log.entries i) p
+    stands : IsAsHistorySays shape state.fresh.bits (place_of shape state.table.chunks) (standing history.log.entries i) p
     stands = kept.coherent.each i p there
 
-    look : HasTicket Looking shape state.fresh.bits p
+    look : HasInFlight Looking shape state.fresh.bits p
     look = look-ticket stands looking
 
     inside : p.done + p.piece ≤ length out
@@ -65,7 +65,7 @@ module _ {shape : Shape} {state : State} {regions : List (Option Region)} {passe
     can-see : CanAdd p.piece history (g.events s)
     can-see = has-room-to-see kept i p there has (ap is_before_event looking) (stands.read looking)
 
-    waiting-store : IsSome p.ticket → (w : IsWaiting ReadKind shape (g.flies s) p) × (w.ticket.count ≡ p.piece) × (p.done + p.piece ≤ length out) × CanAdd p.piece history (g.events s)
+    waiting-store : IsSome p.ticket → (w : IsWaiting ReadKind shape (g.flight s) p) × (w.ticket.count ≡ p.piece) × (p.done + p.piece ≤ length out) × CanAdd p.piece history (g.events s)
     waiting-store some = elim look.1 [
       | inl store ↦ (
         record {
@@ -84,7 +84,7 @@ module _ {shape : Shape} {state : State} {regions : List (Option Region)} {passe
       | inr based ↦ absurd (not-some p.ticket based.none some)
     ]
 
-    waiting-base : p.ticket ≡ None → (w : IsWaitingForBase shape (h.flies b) p) × (w.ticket.count ≤ p.piece) × (p.done + p.piece ≤ length out) × CanAdd p.piece history (g.events s)
+    waiting-base : p.ticket ≡ None → (w : IsWaitingForBase shape (h.flight b) p) × (w.ticket.count ≤ p.piece) × (p.done + p.piece ≤ length out) × CanAdd p.piece history (g.events s)
     waiting-base none = elim look.1 [
       | inl store ↦ absurd (let h = store.has in cc)
       | inr based ↦ (
@@ -105,36 +105,36 @@ module _ {shape : Shape} {state : State} {regions : List (Option Region)} {passe
     ]
 
   pub waiting-for-look : (out : List Sector) → IsAt passes i (λ p. (p.phase ≡ Looking) × IsSome p.ticket × (p.count ≡ length out))
-      → IsAt passes i (λ p. (w : IsWaiting ReadKind shape (g.flies s) p) × (w.ticket.count ≡ p.piece) × (p.done + p.piece ≤ length out) × CanAdd p.piece history (g.events s))
+      → IsAt passes i (λ p. (w : IsWaiting ReadKind shape (g.flight s) p) × (w.ticket.count ≡ p.piece) × (p.done + p.piece ≤ length out) × CanAdd p.piece history (g.events s))
   waiting-for-look out at = (at.0, at.1, waiting-store at.0 at.1 at.2.0 out at.2.2 at.2.1)
 
   pub waiting-for-base-look : (out : List Sector) → IsAt passes i (λ p. (p.phase ≡ Looking) × (p.ticket ≡ None) × (p.count ≡ length out))
-      → IsAt passes i (λ p. (w : IsWaitingForBase shape (h.flies b) p) × (w.ticket.count ≤ p.piece) × (p.done + p.piece ≤ length out) × CanAdd p.piece history (g.events s))
+      → IsAt passes i (λ p. (w : IsWaitingForBase shape (h.flight b) p) × (w.ticket.count ≤ p.piece) × (p.done + p.piece ≤ length out) × CanAdd p.piece history (g.events s))
   waiting-for-base-look out at = (at.0, at.1, waiting-base at.0 at.1 at.2.0 out at.2.2 at.2.1)
 
   module _ (at : IsAt passes i (λ p. p.phase ≡ Looking)) where
     -- The room after the end of the read.
-    ended-roomy : {until : ℕ} {passes' : List Pass} {history' : Numbered} (out out' : List Sector) (answer : Settled) (p : Pass) (why : Fault) (content : List Sector) → slice_get passes i ≡ Some p
-        → EndsRead answer p why content i passes passes' history.log.entries history'.log.entries out out' → Extends (read_numbers_of answer until) (read_sectors_of answer p.piece) history history' → (g.events s) ≤ until
-        → IsRoomy shape.block passes' history' spare until
+    ended-roomy : {until : ℕ} {passes' : List Pass} {history' : HistoryState} (out out' : List Sector) (answer : Settled) (p : Pass) (why : Fault) (content : List Sector) → slice_get passes i ≡ Some p
+        → EndsRead answer p why content i passes passes' history.log.entries history'.log.entries out out' → AddsEntries (read_numbers_of answer until) (read_sectors_of answer p.piece) history history' → (g.events s) ≤ until
+        → RoomIsReserved shape.block passes' history' spare until
     ended-roomy {until} {passes'} {history'} out out' settled.Done p why content there sees extends rise =
         let looking : p.phase ≡ Looking = ap (λ (x : Pass). x.phase) (some-inj (sym there ∙ at.1)) ∙ at.2 in let stood = kept.coherent.each i p there in
         let used = room-seen (stood.piece (region-of _ Looking refl looking)) (kept.roomy.reserved i p there) (ap is_before_event looking) (stood.read looking) in
-        room-used kept.roomy i until there (sees.after ∙ ap (λ (x : Pass). slice_set passes i (spent 1 x.piece (after_piece x))) (some-inj (sym sees.there ∙ there))) extends used.0 used.1 refl (omega arith)
+        room-used kept.roomy i until there (sees.after ∙ ap (λ (x : Pass). slice_set passes i (after_spending 1 x.piece (after_piece x))) (some-inj (sym sees.there ∙ there))) extends used.0 used.1 refl (omega arith)
     ended-roomy {until} {passes'} {history'} out out' (settled.NotYet same) p why content there late extends rise = room-late kept.roomy until late.0 extends rise
     ended-roomy {until} {passes'} {history'} out out' (settled.Failed number) p why content there failed extends rise =
         let before : is_before_event p.phase ≡ true = ap (λ (x : Pass). is_before_event x.phase) (some-inj (sym there ∙ at.1)) ∙ ap is_before_event at.2 in
         room-used kept.roomy i until there failed.0 extends (room-failed (kept.roomy.reserved i p there) before why) (record { events_used = omega arith; sectors_used = omega arith }) refl (let l = kept.roomy.later in omega arith)
 
-    extended : (answer : Settled) (until : ℕ) {history' : Numbered} (p : Pass) → slice_get passes i ≡ Some p → IsAt passes i (λ p. Extends (read_numbers_of answer until) (read_sectors_of answer p.piece) history history')
-        → Extends (read_numbers_of answer until) (read_sectors_of answer p.piece) history history'
-    extended answer until {history'} p there extends = subst (λ (x : Pass). Extends (read_numbers_of answer until) (read_sectors_of answer x.piece) history history') (some-inj (sym extends.1 ∙ there)) extends.2
+    extended : (answer : Settled) (until : ℕ) {history' : HistoryState} (p : Pass) → slice_get passes i ≡ Some p → IsAt passes i (λ p. AddsEntries (read_numbers_of answer until) (read_sectors_of answer p.piece) history history')
+        → AddsEntries (read_numbers_of answer until) (read_sectors_of answer p.piece) history history'
+    extended answer until {history'} p there extends = subst (λ (x : Pass). AddsEntries (read_numbers_of answer until) (read_sectors_of answer x.piece) history history') (some-inj (sym extends.1 ∙ there)) extends.2
 
     -- It came from the store.
-    module _ {answer : Settled} {passes' : List Pass} {history' : Numbered} {s' : S} {out out' : List Sector}
-        (step : LookSettled answer i passes passes' history.log.entries history'.log.entries (g.flies s) (g.flies s') (g.tells s) (g.tells s') (g.disk s) (g.disk s') (g.last s) (g.last s') out out') where
-      pub settle_look-kept : {regions' : List (Option Region)} → IsAt passes i (λ p. Extends (read_numbers_of answer (g.events s')) (read_sectors_of answer p.piece) history history')
-          → KeepsStore g s s' → regions' ≡ released (outcome_of answer) i regions → IsKept g h shape state regions' passes' history' spare s' b
+    module _ {answer : Settled} {passes' : List Pass} {history' : HistoryState} {s' : S} {out out' : List Sector}
+        (step : LookSettled answer i passes passes' history.log.entries history'.log.entries (g.flight s) (g.flight s') (g.tells s) (g.tells s') (g.disk s) (g.disk s') (g.last s) (g.last s') out out') where
+      pub settle_look-kept : {regions' : List (Option Region)} → IsAt passes i (λ p. AddsEntries (read_numbers_of answer (g.events s')) (read_sectors_of answer p.piece) history history')
+          → KeepsStore g s s' → regions' ≡ regions_after_end (outcome_of answer) i regions → IsSoundCore g h shape state regions' passes' history' spare s' b
       settle_look-kept {regions'} extends stays after = record {
         coherent = rw (stays.counts.sectors, stays.counts.depth) (look_settled-coherent kept.coherent at step);
         held = after ∙ released-ended answer i regions ∙ ap (regions_ended answer i) kept.held ∙ sym (look_settled-regions step);
@@ -142,17 +142,17 @@ module _ {shape : Shape} {state : State} {regions : List (Option Region)} {passe
         storage = rw stays.counts.sectors kept.storage;
       }
 
-      pub settle_look-told : history'.opened ≡ history.opened → (g.tells s → IsLogged passes history (g.disk s)) → (g.tells s → h.tells b → IsFaithfullyKept g h shape state passes history s b)
+      pub settle_look-told : history'.opened ≡ history.opened → (g.tells s → LogAgrees passes history (g.disk s)) → (g.tells s → h.tells b → IsFaithfullyKept g h shape state passes history s b)
           → g.tells s' → h.tells b → IsFaithfullyKept g h shape state passes' history' s' b
       settle_look-told opened logged was store tell = let before = step.told_before store in
           told-on (was before tell) (logged before) (settle-goes-on (step.told store)) opened (λ start faithful. look_settled-faithful kept.coherent at step (λ told. faithful) store)
 
     -- It came from the base.
-    module _ {answer : Settled} {passes' : List Pass} {history' : Numbered} {b' : B} {out out' : List Sector}
-        (step : BaseLookSettled answer shape i passes passes' history.log.entries history'.log.entries (h.flies b) (h.flies b') (h.tells b') (h.content b') out out')
+    module _ {answer : Settled} {passes' : List Pass} {history' : HistoryState} {b' : B} {out out' : List Sector}
+        (step : BaseLookSettled answer shape i passes passes' history.log.entries history'.log.entries (h.flight b) (h.flight b') (h.tells b') (h.content b') out out')
         (stays : KeepsBase h b b') where
-      pub settle_base_look-kept : {regions' : List (Option Region)} → IsAt passes i (λ p. Extends (read_numbers_of answer (g.events s)) (read_sectors_of answer p.piece) history history')
-          → regions' ≡ released (outcome_of answer) i regions → IsKept g h shape state regions' passes' history' spare s b'
+      pub settle_base_look-kept : {regions' : List (Option Region)} → IsAt passes i (λ p. AddsEntries (read_numbers_of answer (g.events s)) (read_sectors_of answer p.piece) history history')
+          → regions' ≡ regions_after_end (outcome_of answer) i regions → IsSoundCore g h shape state regions' passes' history' spare s b'
       settle_base_look-kept {regions'} extends after = record {
         coherent = rw (stays.counts.sectors, stays.counts.depth) (base_look_settled-coherent kept.coherent at step);
         held = after ∙ released-ended answer i regions ∙ ap (regions_ended answer i) kept.held ∙ sym (base_look_settled-regions step);

@@ -7,7 +7,7 @@ use Rattle.vd_bits.specs.Blocks.{Blocks}
 use Rattle.vd_replay.specs.declared.state.State.{State}
 use Rattle.vd_law.specs.declared.entry.Room.{Room}
 use Rattle.vd_law.specs.Entries.{Entry}
-use Rattle.vd_law.specs.Histories.{Numbered}
+use Rattle.vd_law.specs.Histories.{HistoryState}
 use Rattle.vd_device.specs.declared.ticket.Kind.TheVariants.{Write as WriteKind}
 use Rattle.vd_device.specs.declared.settled.Settled.{Settled}
 use Rattle.vd_device.specs.declared.settled.Settled.TheVariants as settled
@@ -23,22 +23,22 @@ use Rattle.vd_passes.proofs.Needing.{pieces-left, room-written, room-broke}
 use Rattle.vd_passes.proofs.Regions.{region-of, issuing-write}
 use Rattle.vd_passes.proofs.Settling.{waiting-write, write_settled-coherent, write_settled-faithful}
 use Rattle.vd_passes.proofs.Holding.{regions_ended, write_settled-regions}
-use Rattle.vd_core.specs.Adding.{CanAdd, Extends}
-use Rattle.vd_core.specs.Outcomes.{outcome_of, numbers_of, released}
-use Rattle.vd_core.specs.Kept.{IsRoomy, IsKept, IsLogged, IsFaithfullyKept}
+use Rattle.vd_core.specs.Adding.{CanAdd, AddsEntries}
+use Rattle.vd_core.specs.Outcomes.{outcome_of, numbers_of, regions_after_end}
+use Rattle.vd_core.specs.Kept.{RoomIsReserved, IsSoundCore, LogAgrees, IsFaithfullyKept}
 use Rattle.vd_core.proofs.Rooming.{can-add, room-used, room-late}
 use Rattle.vd_core.proofs.Starting.{settle-goes-on}
 use Rattle.vd_core.proofs.Keeping.Telling.{told-on}
 
 -- what is released is what a settle with which a piece ends leaves
-pub released-ended : (answer : Settled) (i : ℕ) (regions : List (Option Region)) → released (outcome_of answer) i regions ≡ regions_ended answer i regions
+pub released-ended : (answer : Settled) (i : ℕ) (regions : List (Option Region)) → regions_after_end (outcome_of answer) i regions ≡ regions_ended answer i regions
 released-ended settled.Done i regions = refl
 released-ended (settled.NotYet same) i regions = refl
 released-ended (settled.Failed number) i regions = refl
 
-module _ {shape : Shape} {state : State} {regions : List (Option Region)} {passes : List Pass} {history : Numbered} {spare : Room} {S B : Type 0} {g : store.Ghosts S} {h : base.Ghosts B} {s : S} {b : B}
-    (kept : IsKept g h shape state regions passes history spare s b) (i : ℕ) (at : IsAt passes i (λ p. p.phase ≡ Issuing)) where
-  pub waiting-issue : IsAt passes i (λ p. IsWaiting WriteKind shape (g.flies s) p × (p.block < length state.fresh.bits))
+module _ {shape : Shape} {state : State} {regions : List (Option Region)} {passes : List Pass} {history : HistoryState} {spare : Room} {S B : Type 0} {g : store.Ghosts S} {h : base.Ghosts B} {s : S} {b : B}
+    (kept : IsSoundCore g h shape state regions passes history spare s b) (i : ℕ) (at : IsAt passes i (λ p. p.phase ≡ Issuing)) where
+  pub waiting-issue : IsAt passes i (λ p. IsWaiting WriteKind shape (g.flight s) p × (p.block < length state.fresh.bits))
   waiting-issue = let w = waiting-write kept.coherent i at in (w.0, w.1, (w.2, let d = w.2.piece.in_disk in let s = kept.coherent.size in omega (arith, d, s)))
 
   pub settled-block : (p : Pass) → slice_get passes i ≡ Some p → p.block < length state.fresh.bits
@@ -53,12 +53,12 @@ module _ {shape : Shape} {state : State} {regions : List (Option Region)} {passe
       can-add kept.roomy i p at.1 0 (omega (arith, left, room, e, f)) (omega arith) (omega arith)
 
   issues : {fresh' : List Bool} {passes' : List Pass} {entries' : List Entry} {s' : S} {answer : Settled}
-      (step : WriteSettled answer i state.fresh.bits fresh' passes passes' history.log.entries entries' (g.flies s) (g.flies s') (g.tells s) (g.tells s') (g.disk s) (g.disk s') (g.last s) (g.last s')) → step.pass.phase ≡ Issuing
+      (step : WriteSettled answer i state.fresh.bits fresh' passes passes' history.log.entries entries' (g.flight s) (g.flight s') (g.tells s) (g.tells s') (g.disk s) (g.disk s') (g.last s) (g.last s')) → step.pass.phase ≡ Issuing
   issues {fresh'} {passes'} {entries'} {answer} step = ap (λ (x : Pass). x.phase) (some-inj (sym step.there ∙ at.1)) ∙ at.2
 
-  module _ {fresh' : List Bool} {passes' : List Pass} {history' : Numbered} {s' : S} where
-    settled-roomy : {until : ℕ} (answer : Settled) → WriteSettled answer i state.fresh.bits fresh' passes passes' history.log.entries history'.log.entries (g.flies s) (g.flies s') (g.tells s) (g.tells s') (g.disk s) (g.disk s') (g.last s) (g.last s')
-        → Extends (numbers_of answer until) 0 history history' → (g.events s) ≤ until → IsRoomy shape.block passes' history' spare until
+  module _ {fresh' : List Bool} {passes' : List Pass} {history' : HistoryState} {s' : S} where
+    settled-roomy : {until : ℕ} (answer : Settled) → WriteSettled answer i state.fresh.bits fresh' passes passes' history.log.entries history'.log.entries (g.flight s) (g.flight s') (g.tells s) (g.tells s') (g.disk s) (g.disk s') (g.last s) (g.last s')
+        → AddsEntries (numbers_of answer until) 0 history history' → (g.events s) ≤ until → RoomIsReserved shape.block passes' history' spare until
     settled-roomy {until} settled.Done step extends rise =
         let p = step.pass in let stands = kept.coherent.each i p step.there in let is = issues step in
         let used = room-written (stands.piece (region-of _ Issuing refl is)) (kept.roomy.reserved i p step.there) is (issuing-write stands is) in
@@ -69,10 +69,10 @@ module _ {shape : Shape} {state : State} {regions : List (Option Region)} {passe
         let used = room-broke (stands.piece (region-of _ Issuing refl is)) (kept.roomy.reserved i p step.there) is (issuing-write stands is) (fault.Store step.ticket.number) in
         room-used kept.roomy i until step.there step.effect.1 extends used.0 used.1 refl (omega arith)
 
-  module _ {fresh' : Blocks} {passes' : List Pass} {history' : Numbered} {s' : S} where
-    pub settle_issue-kept : {answer : Settled} {regions' : List (Option Region)} → WriteSettled answer i state.fresh.bits fresh'.bits passes passes' history.log.entries history'.log.entries (g.flies s) (g.flies s') (g.tells s) (g.tells s') (g.disk s) (g.disk s') (g.last s) (g.last s')
-        → Extends (numbers_of answer (g.events s')) 0 history history' → KeepsStore g s s' → regions' ≡ released (outcome_of answer) i regions
-        → IsKept g h shape (record state { fresh = fresh' }) regions' passes' history' spare s' b
+  module _ {fresh' : Blocks} {passes' : List Pass} {history' : HistoryState} {s' : S} where
+    pub settle_issue-kept : {answer : Settled} {regions' : List (Option Region)} → WriteSettled answer i state.fresh.bits fresh'.bits passes passes' history.log.entries history'.log.entries (g.flight s) (g.flight s') (g.tells s) (g.tells s') (g.disk s) (g.disk s') (g.last s) (g.last s')
+        → AddsEntries (numbers_of answer (g.events s')) 0 history history' → KeepsStore g s s' → regions' ≡ regions_after_end (outcome_of answer) i regions
+        → IsSoundCore g h shape (record state { fresh = fresh' }) regions' passes' history' spare s' b
     settle_issue-kept {answer} {regions'} step extends stays after =
         record {
           coherent = rw (stays.counts.sectors, stays.counts.depth) (write_settled-coherent kept.coherent at step);
@@ -81,8 +81,8 @@ module _ {shape : Shape} {state : State} {regions : List (Option Region)} {passe
           storage = rw stays.counts.sectors kept.storage;
         }
 
-    pub settle_issue-told : {answer : Settled} → WriteSettled answer i state.fresh.bits fresh'.bits passes passes' history.log.entries history'.log.entries (g.flies s) (g.flies s') (g.tells s) (g.tells s') (g.disk s) (g.disk s') (g.last s) (g.last s')
-        → history'.opened ≡ history.opened → (g.tells s → IsLogged passes history (g.disk s)) → (g.tells s → h.tells b → IsFaithfullyKept g h shape state passes history s b) → g.tells s' → h.tells b
+    pub settle_issue-told : {answer : Settled} → WriteSettled answer i state.fresh.bits fresh'.bits passes passes' history.log.entries history'.log.entries (g.flight s) (g.flight s') (g.tells s) (g.tells s') (g.disk s) (g.disk s') (g.last s) (g.last s')
+        → history'.opened ≡ history.opened → (g.tells s → LogAgrees passes history (g.disk s)) → (g.tells s → h.tells b → IsFaithfullyKept g h shape state passes history s b) → g.tells s' → h.tells b
         → IsFaithfullyKept g h shape (record state { fresh = fresh' }) passes' history' s' b
     settle_issue-told {answer} step opened logged was told base_told = let before = step.told_before told in
         told-on (was before base_told) (logged before) (settle-goes-on (step.told told)) opened (λ start faithful. write_settled-faithful kept.coherent at step (λ b. faithful) told)

@@ -14,16 +14,16 @@ use Rattle.vd_image.specs.Image.{HasNoLater}
 use Rattle.vd_image.specs.Layouts.{layout_of}
 use Rattle.vd_image.specs.Decoders.{format_of}
 use Rattle.vd_image.specs.CrashImages.{sectors_or}
-use Rattle.vd_image.specs.Made.{zero_sector as made_zero}
 use Rattle.vd_image.proofs.CrashImages.{at_inside}
 use Rattle.vd_image.proofs.Exact.{may_is_exact}
 use Rattle.vd_image.proofs.Layouts.{parts_inside}
-use Rattle.vd_reading.specs.Quiet.{AddsFlush}
+use Rattle.vd_device.specs.Quiet.{AddsFlush}
 use Rattle.vd_replay.specs.Images.{image_of}
 use Rattle.vd_safety.proofs.Clean.{WasClean as IsCleanSince, AreLeft, AreInside, clean-left}
 use Rattle.vd_core.specs.Start.{opening_at, WasClean, WasSafe, image_at}
 use Rattle.vd_core.proofs.Starting.{all-told, clean-held}
 use Rattle.vd_core.proofs.Securing.Opening.{flush-stands}
+use Rattle.vd_format.specs.Background.{zero_sector}
 
 pub clean-since : (old new : Disk) → IsClean old → AddsFlush old new → IsCleanSince old new
 clean-since old new clean adds = record {
@@ -44,7 +44,7 @@ was-safe h old disk opened valid room all honest settled clean adds size held in
   inside = subst (λ (l : List Entry). (i a : ℕ) (v : Sector) → Writes l i a v → a < length disk.start) (sym (all-told disk opened all)) inside;
   durable = λ a v within may_be.
       let left = subst (λ (l : List Entry). Contains (may disk.start l a) v) (all-told disk opened all) may_be in
-      clean-left old disk (clean-since old disk clean adds) held size inside a v ((may_is_exact disk.start (sectors_or made_zero disk.start) disk.log a v (at_inside made_zero disk.start a within)).0 left)
+      clean-left old disk (clean-since old disk clean adds) held size inside a v ((may_is_exact disk.start (sectors_or zero_sector disk.start) disk.log a v (at_inside zero_sector disk.start a within)).0 left)
       ∙ sym (same a (omega (arith, within, size)));
   no_later = λ k r within reads.
       let slot = (parts_inside h valid).slots k within in
@@ -52,4 +52,4 @@ was-safe h old disk opened valid room all honest settled clean adds size held in
 }
   where
     same : (a : ℕ) → a < length disk.held → image_at (opening_at opened disk) a ≡ image_of disk.held a
-    same a there = clean-held disk opened a made_zero all honest settled there
+    same a there = clean-held disk opened a zero_sector all honest settled there

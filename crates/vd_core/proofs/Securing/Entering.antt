@@ -5,12 +5,12 @@ use Rattle.vd_device.specs.declared.store.Store as store
 use Rattle.vd_device.specs.declared.base.Base as base
 use Rattle.vd_device.specs.Bases.{KeepsBase}
 use Rattle.vd_law.specs.declared.entry.Room.{Room}
-use Rattle.vd_law.specs.Histories.{Numbered}
+use Rattle.vd_law.specs.Histories.{HistoryState}
 use Rattle.vd_device.specs.declared.settled.Settled.{Settled}
 use Rattle.vd_regions.specs.declared.regions.Busy.{Busy}
 use Rattle.vd_regions.specs.declared.regions.Region.{Region}
 use Rattle.vd_replay.specs.declared.state.State.{State}
-use Rattle.vd_meta.specs.Keeping.{Keeping}
+use Rattle.vd_keeper.specs.Keeping.{KeeperState}
 use Rattle.vd_passes.specs.declared.shape.Shape.{Shape}
 use Rattle.vd_passes.specs.declared.pass.Pass.{Pass}
 use Rattle.vd_passes.specs.declared.pass.Phase.TheVariants.{Asked as HasAsked, Held, Fetching}
@@ -18,11 +18,11 @@ use Rattle.vd_passes.specs.Steps.{IsAt, FetchSettled}
 use Rattle.vd_safety.proofs.Others.{enter-secured, fetch-secured, fill-secured, settle_fetch-secured}
 use Rattle.vd_core.specs.Entering.{IsKeptOut, EntersBlock}
 use Rattle.vd_core.specs.Fetching.{FetchesIn}
-use Rattle.vd_core.specs.Kept.{IsKept, IsFaithfullyKept, IsRecorded, IsSafelyKept}
+use Rattle.vd_core.specs.Kept.{IsSoundCore, IsFaithfullyKept, MetadataAgrees, IsSafelyKept}
 use Rattle.vd_core.proofs.Securing.Carrying.{safely-here, around}
 
-module _ {shape : Shape} {state : State} {regions : List (Option Region)} {passes : List Pass} {history : Numbered} {spare : Room} {S B : Type 0} {g : store.Ghosts S} {h : base.Ghosts B} {s : S} {b : B} {flusher : Option ℕ} {k : Keeping}
-    (kept : IsKept g h shape state regions passes history spare s b) (recorded : IsRecorded shape state passes flusher k)
+module _ {shape : Shape} {state : State} {regions : List (Option Region)} {passes : List Pass} {history : HistoryState} {spare : Room} {S B : Type 0} {g : store.Ghosts S} {h : base.Ghosts B} {s : S} {b : B} {flusher : Option ℕ} {k : KeeperState}
+    (kept : IsSoundCore g h shape state regions passes history spare s b) (recorded : MetadataAgrees shape state passes flusher k)
     (told : g.tells s → h.tells b → IsFaithfullyKept g h shape state passes history s b)
     (was : g.tells s → h.tells b → IsSafelyKept g h state k flusher passes history s b) (i : ℕ) where
   -- A pass enters the block of its next piece, or is kept out.
@@ -36,7 +36,7 @@ module _ {shape : Shape} {state : State} {regions : List (Option Region)} {passe
 
   -- It reads its block from the base, or fills it with zeros.
   pub fetch-safely : {passes' : List Pass} {b' : B}
-      → IsAt passes i (λ p. p.phase ≡ Held) → FetchesIn shape i passes passes' (h.flies b) (h.flies b') → KeepsBase h b b'
+      → IsAt passes i (λ p. p.phase ≡ Held) → FetchesIn shape i passes passes' (h.flight b) (h.flight b') → KeepsBase h b b'
       → g.tells s → h.tells b' → IsSafelyKept g h state k flusher passes' history s b'
   fetch-safely at (inl f) stays now base_now =
       let before = stays.telling.told_before base_now in
@@ -47,7 +47,7 @@ module _ {shape : Shape} {state : State} {regions : List (Option Region)} {passe
 
   -- It settles that read.
   pub settle_fetch-safely : {answer : Settled} {passes' : List Pass} {b' : B}
-      → IsAt passes i (λ p. p.phase ≡ Fetching) → FetchSettled answer shape i passes passes' (h.flies b) (h.flies b') (h.tells b') (h.content b') → KeepsBase h b b'
+      → IsAt passes i (λ p. p.phase ≡ Fetching) → FetchSettled answer shape i passes passes' (h.flight b) (h.flight b') (h.tells b') (h.content b') → KeepsBase h b b'
       → g.tells s → h.tells b' → IsSafelyKept g h state k flusher passes' history s b'
   settle_fetch-safely at step stays now base_now =
       let before = stays.telling.told_before base_now in

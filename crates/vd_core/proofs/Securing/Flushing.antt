@@ -3,7 +3,7 @@ use Rattle.std.proofs.Common.{◌≡◌, ℕ, ◌+◌, ◌<◌, ◌≤◌, ◌�
 use Rattle.vd_device.specs.declared.base.Base as base
 use Rattle.vd_law.specs.declared.entry.Sector.{Sector}
 use Rattle.vd_law.specs.declared.entry.Room.{Room}
-use Rattle.vd_law.specs.Histories.{Numbered}
+use Rattle.vd_law.specs.Histories.{HistoryState}
 use Rattle.vd_device.specs.declared.store.Store as store
 use Rattle.vd_device.specs.declared.ticket.Ticket.{Ticket}
 use Rattle.vd_device.specs.declared.ticket.Kind.{Kind}
@@ -11,15 +11,15 @@ use Rattle.vd_device.specs.declared.ticket.Kind.TheVariants.{Read, Write, Flush}
 use Rattle.vd_device.specs.declared.settled.Settled.{Settled}
 use Rattle.vd_device.specs.declared.settled.Settled.TheVariants as settled
 use Rattle.vd_device.specs.Disks.{Disk}
-use Rattle.vd_device.specs.Calls.{asked_read, asked_flush}
+use Rattle.vd_device.specs.Calls.{ask_read_entry, ask_flush_entry}
 use Rattle.vd_image.specs.Log.{Writes}
 use Rattle.vd_regions.specs.declared.regions.Region.{Region}
 use Rattle.vd_replay.specs.declared.state.State.{State}
-use Rattle.vd_meta.specs.declared.stage.Stage.TheVariants.{Puts, Syncs, Seals}
-use Rattle.vd_meta.specs.declared.stage.Route.{Route}
-use Rattle.vd_meta.specs.declared.stage.Route.TheVariants.{Recycle}
-use Rattle.vd_meta.specs.Keeping.{Keeping}
-use Rattle.vd_meta.specs.Moves.{adopting}
+use Rattle.vd_keeper.specs.declared.stage.Stage.TheVariants.{Puts, Syncs, Seals}
+use Rattle.vd_keeper.specs.declared.stage.Route.{Route}
+use Rattle.vd_keeper.specs.declared.stage.Route.TheVariants.{Recycle}
+use Rattle.vd_keeper.specs.Keeping.{KeeperState}
+use Rattle.vd_keeper.specs.Moves.{after_adopt}
 use Rattle.vd_passes.specs.declared.shape.Shape.{Shape}
 use Rattle.vd_passes.specs.declared.pass.Pass.{Pass}
 use Rattle.vd_passes.specs.declared.pass.Phase.TheVariants.{Idle}
@@ -34,20 +34,20 @@ use Rattle.vd_safety.proofs.Seals.{seal-secured}
 use Rattle.vd_safety.proofs.Adopts.{adopt-secured}
 use Rattle.vd_safety.proofs.Supplied.{flushing-of, flush-asked}
 use Rattle.vd_core.specs.Flushing.{flusher_after}
-use Rattle.vd_core.specs.Kept.{IsKept, IsFaithfullyKept, IsLogged, IsRecorded, IsSafelyKept}
+use Rattle.vd_core.specs.Kept.{IsSoundCore, IsFaithfullyKept, LogAgrees, MetadataAgrees, IsSafelyKept}
 use Rattle.vd_core.proofs.Securing.Carrying.{safely-on, safely-here, around}
 use Rattle.vd_core.proofs.Securing.Issuing.{range-inside, none-written, settled-inside}
 
 -- what a call of a flush writes lies below the storage
 meta-inside : (kind : Kind) (t : Ticket) (content : List Sector) (low sectors : ℕ) → (kind ≡ Flush) ⊎ ((kind ≡ Write) × (t.first + length content ≤ low)) → low ≤ sectors → (j a : ℕ) (v : Sector) → Writes (meta_entry kind t content ∷ []) j a v → a < sectors
-meta-inside Read t content low sectors is fits j a v w = absurd (none-written (asked_read t) (λ b u covers. covers) j a v w)
-meta-inside Flush t content low sectors is fits j a v w = absurd (none-written (asked_flush t) (λ b u covers. covers) j a v w)
+meta-inside Read t content low sectors is fits j a v w = absurd (none-written (ask_read_entry t) (λ b u covers. covers) j a v w)
+meta-inside Flush t content low sectors is fits j a v w = absurd (none-written (ask_flush_entry t) (λ b u covers. covers) j a v w)
 meta-inside Write t content low sectors (inl flush) fits j a v w = absurd cc
 meta-inside Write t content low sectors (inr write) fits j a v w = range-inside t content sectors (let within = write.1 in omega (arith, within, fits)) j a v w
 
 -- so does all of a submitted call
-submit-inside : {content : List Sector} {shape : Shape} {i : ℕ} {passes passes' : List Pass} {flies flies' : List Ticket → Type 0} {tells tells' : Type 0} {disk disk' : Disk} {last last' sectors : ℕ} → shape.storage_at ≤ sectors
-    → (step : SubmitsMeta content shape i passes passes' flies flies' tells tells' disk disk' last last') → (j a : ℕ) (v : Sector) → Writes (meta_entry step.ticket.kind step.ticket content ∷ []) j a v → a < sectors
+submit-inside : {content : List Sector} {shape : Shape} {i : ℕ} {passes passes' : List Pass} {flight flight' : List Ticket → Type 0} {tells tells' : Type 0} {disk disk' : Disk} {last last' sectors : ℕ} → shape.storage_at ≤ sectors
+    → (step : SubmitsMeta content shape i passes passes' flight flight' tells tells' disk disk' last last') → (j a : ℕ) (v : Sector) → Writes (meta_entry step.ticket.kind step.ticket content ∷ []) j a v → a < sectors
 submit-inside {content} {shape} {sectors = sectors} low step = meta-inside step.ticket.kind step.ticket content shape.storage_at sectors
     (elim step.is_meta [ inl flush ↦ inl flush | inr write ↦ inr (write.0, (let within = write.1 in let count = step.count write.0 in omega (arith, within, count))) ]) low
 
@@ -56,26 +56,26 @@ same-after settled.Done flusher = refl
 same-after (settled.NotYet same) flusher = refl
 same-after (settled.Failed number) flusher = refl
 
-module _ {shape : Shape} {state : State} {regions : List (Option Region)} {passes : List Pass} {history : Numbered} {spare : Room} {S B : Type 0} {g : store.Ghosts S} {h : base.Ghosts B} {s : S} {b : B} {flusher : Option ℕ} {k : Keeping}
-    (kept : IsKept g h shape state regions passes history spare s b) (recorded : IsRecorded shape state passes flusher k)
-    (told : g.tells s → h.tells b → IsFaithfullyKept g h shape state passes history s b) (logged : g.tells s → IsLogged passes history (g.disk s))
+module _ {shape : Shape} {state : State} {regions : List (Option Region)} {passes : List Pass} {history : HistoryState} {spare : Room} {S B : Type 0} {g : store.Ghosts S} {h : base.Ghosts B} {s : S} {b : B} {flusher : Option ℕ} {k : KeeperState}
+    (kept : IsSoundCore g h shape state regions passes history spare s b) (recorded : MetadataAgrees shape state passes flusher k)
+    (told : g.tells s → h.tells b → IsFaithfullyKept g h shape state passes history s b) (logged : g.tells s → LogAgrees passes history (g.disk s))
     (was : g.tells s → h.tells b → IsSafelyKept g h state k flusher passes history s b) (i : ℕ) where
   -- A flush isn't begun, at the last generation.
   pub worn-safely : {route : Route} {passes' : List Pass} → flusher ≡ None → IsWornOut route i k passes passes' → g.tells s → h.tells b → IsSafelyKept g h state k flusher passes' history s b
   worn-safely none step now base_now = safely-here (was now base_now) refl refl (λ start held is secured. worn-secured step none secured)
 
   -- It is over.
-  pub seal-safely : {k' : Keeping} {passes' : List Pass} → k.stage ≡ Seals → SealsFlush i k k' passes passes' → g.tells s → h.tells b → IsSafelyKept g h state k' None passes' history s b
+  pub seal-safely : {k' : KeeperState} {passes' : List Pass} → k.stage ≡ Seals → SealsFlush i k k' passes passes' → g.tells s → h.tells b → IsSafelyKept g h state k' None passes' history s b
   seal-safely stage step now base_now =
       safely-here (was now base_now) refl refl (λ start held is secured. seal-secured (flushing-of (around kept recorded (told now base_now) start held is) secured) step stage secured)
 
 -- its calls
-module _ {shape : Shape} {state : State} {regions : List (Option Region)} {passes : List Pass} {history : Numbered} {spare : Room} {S B : Type 0} {g : store.Ghosts S} {h : base.Ghosts B} {s : S} {b : B} {flusher : Option ℕ} {k : Keeping}
-    (kept : IsKept g h shape state regions passes history spare s b) (recorded : IsRecorded shape state passes flusher k)
-    (told : g.tells s → h.tells b → IsFaithfullyKept g h shape state passes history s b) (logged : g.tells s → IsLogged passes history (g.disk s))
+module _ {shape : Shape} {state : State} {regions : List (Option Region)} {passes : List Pass} {history : HistoryState} {spare : Room} {S B : Type 0} {g : store.Ghosts S} {h : base.Ghosts B} {s : S} {b : B} {flusher : Option ℕ} {k : KeeperState}
+    (kept : IsSoundCore g h shape state regions passes history spare s b) (recorded : MetadataAgrees shape state passes flusher k)
+    (told : g.tells s → h.tells b → IsFaithfullyKept g h shape state passes history s b) (logged : g.tells s → LogAgrees passes history (g.disk s))
     (was : g.tells s → h.tells b → IsSafelyKept g h state k flusher passes history s b) (i : ℕ) {passes' : List Pass} {s' : S} where
   -- A flush is begun.
-  pub begin-safely : {route : Route} {k' : Keeping} → flusher ≡ None → ((t : ℕ) → route ≡ Recycle t → t ≡ k.header.tracked) → BeginsFlush g route shape i (meta_state k passes) (meta_state k' passes') s s'
+  pub begin-safely : {route : Route} {k' : KeeperState} → flusher ≡ None → ((t : ℕ) → route ≡ Recycle t → t ≡ k.header.tracked) → BeginsFlush g route shape i (meta_state k passes) (meta_state k' passes') s s'
       → g.sectors s' ≡ g.sectors s → g.tells s' → h.tells b → IsSafelyKept g h state k' (Some i) passes' history s' b
   begin-safely none tracked step same now base_now =
       let before = step.sends.told_before now in
@@ -85,7 +85,7 @@ module _ {shape : Shape} {state : State} {regions : List (Option Region)} {passe
       (λ p there asked flush. flush-asked history.log.entries i p (kept.coherent.each i p there) asked flush) now secured)
 
   -- The next record, sector of the map or header is put.
-  pub put-safely : {k' : Keeping} → k.stage ≡ Puts → PutsNext g state.table shape i (meta_state k passes) (meta_state k' passes') s s' → g.sectors s' ≡ g.sectors s
+  pub put-safely : {k' : KeeperState} → k.stage ≡ Puts → PutsNext g state.table shape i (meta_state k passes) (meta_state k' passes') s s' → g.sectors s' ≡ g.sectors s
       → g.tells s' → h.tells b → IsSafelyKept g h state k' flusher passes' history s' b
   put-safely stage step same now base_now =
       let before = step.sends.told_before now in
@@ -101,7 +101,7 @@ module _ {shape : Shape} {state : State} {regions : List (Option Region)} {passe
       (λ start held is secured. sync-secured (flushing-of (around kept recorded (told before base_now) start held is) secured) step stage now secured)
 
   -- A call of it is settled.
-  pub settle_meta-safely : {answer : Settled} {k' : Keeping} → SettlesMeta g answer i (meta_state k passes) (meta_state k' passes') s s' → g.sectors s' ≡ g.sectors s
+  pub settle_meta-safely : {answer : Settled} {k' : KeeperState} → SettlesMeta g answer i (meta_state k passes) (meta_state k' passes') s s' → g.sectors s' ≡ g.sectors s
       → g.tells s' → h.tells b → IsSafelyKept g h state k' (flusher_after answer flusher) passes' history s' b
   settle_meta-safely {answer} {k'} step same now base_now =
       let before = step.settles.told_before now in
@@ -109,15 +109,15 @@ module _ {shape : Shape} {state : State} {regions : List (Option Region)} {passe
       (safely-on (was before base_now) (logged before) (_, (step.settles.told now).grows) (settled-inside answer step.settles.ticket _ (g.sectors s)) same refl
       (λ start held is secured. settle_meta-secured (flushing-of (around kept recorded (told before base_now) start held is) secured) step now secured))
 
-module _ {shape : Shape} {state : State} {passes : List Pass} {history : Numbered} {S B : Type 0} {g : store.Ghosts S} {h : base.Ghosts B} {s : S} {b : B} {flusher : Option ℕ} {k : Keeping}
-    (recorded : IsRecorded shape state passes flusher k) (was : g.tells s → h.tells b → IsSafelyKept g h state k flusher passes history s b) where
+module _ {shape : Shape} {state : State} {passes : List Pass} {history : HistoryState} {S B : Type 0} {g : store.Ghosts S} {h : base.Ghosts B} {s : S} {b : B} {flusher : Option ℕ} {k : KeeperState}
+    (recorded : MetadataAgrees shape state passes flusher k) (was : g.tells s → h.tells b → IsSafelyKept g h state k flusher passes history s b) where
   -- where all passes are idle no flush is under way
   idle-flusher : ((i : ℕ) (p : Pass) → slice_get passes i ≡ Some p → p.phase ≡ Idle) → (f : Option ℕ) → flusher ≡ f → flusher ≡ None
   idle-flusher idle None none = none
   idle-flusher idle (Some i) mine = absurd (let w = recorded.attended.working i mine in let flushing = (recorded.attended.flushing i w.0 w.1).1 mine in let e = sym (idle i w.0 w.1) ∙ flushing in cc)
 
   -- All local blocks are owed that not every image has.
-  pub adopt-safely : {k' : Keeping} → ((i : ℕ) (p : Pass) → slice_get passes i ≡ Some p → p.phase ≡ Idle) → k' ≡ adopting state.fresh.bits k → g.tells s → h.tells b → IsSafelyKept g h state k' flusher passes history s b
+  pub adopt-safely : {k' : KeeperState} → ((i : ℕ) (p : Pass) → slice_get passes i ≡ Some p → p.phase ≡ Idle) → k' ≡ after_adopt state.fresh.bits k → g.tells s → h.tells b → IsSafelyKept g h state k' flusher passes history s b
   adopt-safely {k'} idle after now base_now =
-      subst (λ (x : Keeping). IsSafelyKept g h state x flusher passes history s b) (sym after)
+      subst (λ (x : KeeperState). IsSafelyKept g h state x flusher passes history s b) (sym after)
       (safely-here (was now base_now) refl refl (λ start held is secured. adopt-secured (idle-flusher idle flusher refl) secured))

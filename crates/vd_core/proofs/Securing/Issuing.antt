@@ -8,19 +8,19 @@ use Rattle.vd_bits.specs.Blocks.{Blocks}
 use Rattle.vd_law.specs.declared.entry.Sector.{Sector}
 use Rattle.vd_law.specs.declared.entry.Room.{Room}
 use Rattle.vd_law.specs.Entries.{Entry}
-use Rattle.vd_law.specs.Histories.{Numbered}
+use Rattle.vd_law.specs.Histories.{HistoryState}
 use Rattle.vd_device.specs.declared.ticket.Ticket.{Ticket}
 use Rattle.vd_device.specs.declared.ticket.Kind.{Kind}
 use Rattle.vd_device.specs.declared.ticket.Kind.TheVariants.{Read, Write, Flush}
 use Rattle.vd_device.specs.declared.settled.Settled.{Settled}
 use Rattle.vd_device.specs.declared.settled.Settled.TheVariants as settled
 use Rattle.vd_device.specs.Disks.{Disk, IsRunning}
-use Rattle.vd_device.specs.Calls.{issued, done_entry, failed_entry, settle_entries}
+use Rattle.vd_device.specs.Calls.{issue_entry, done_entry, failed_entry, settle_entries}
 use Rattle.vd_image.specs.Log.{Covers, Writes}
 use Rattle.vd_image.proofs.Logs.{at_below}
 use Rattle.vd_regions.specs.declared.regions.Region.{Region}
 use Rattle.vd_replay.specs.declared.state.State.{State}
-use Rattle.vd_meta.specs.Keeping.{Keeping}
+use Rattle.vd_keeper.specs.Keeping.{KeeperState}
 use Rattle.vd_passes.specs.declared.shape.Shape.{Shape}
 use Rattle.vd_passes.specs.declared.pass.Pass.{Pass}
 use Rattle.vd_passes.specs.declared.pass.Phase.TheVariants.{Issuing}
@@ -30,20 +30,20 @@ use Rattle.vd_passes.proofs.Lists.{some-inj}
 use Rattle.vd_passes.proofs.Ready.{can-write-asked}
 use Rattle.vd_safety.proofs.Ending.{IsOwedAfter, IsNumberedAfter, settle_issue-secured}
 use Rattle.vd_safety.proofs.Issuing.{issue-secured, part-long}
-use Rattle.vd_core.specs.Adding.{Extends}
-use Rattle.vd_core.specs.Issuing.{IsWritable, owed_after}
+use Rattle.vd_core.specs.Adding.{AddsEntries}
+use Rattle.vd_core.specs.Issuing.{IsWritable, keeper_after_write}
 use Rattle.vd_core.specs.Outcomes.{numbers_of}
-use Rattle.vd_core.specs.Kept.{IsKept, IsFaithfullyKept, IsLogged, IsRecorded, IsSafelyKept}
+use Rattle.vd_core.specs.Kept.{IsSoundCore, IsFaithfullyKept, LogAgrees, MetadataAgrees, IsSafelyKept}
 use Rattle.vd_core.proofs.Keeping.Issuing.{writing-at}
 use Rattle.vd_core.proofs.Securing.Carrying.{safely-on, around}
 
 -- one write to this range
-pub range-inside : (ticket : Ticket) (content : List Sector) (sectors : ℕ) → ticket.first + length content ≤ sectors → (j a : ℕ) (v : Sector) → Writes (issued ticket content ∷ []) j a v → a < sectors
+pub range-inside : (ticket : Ticket) (content : List Sector) (sectors : ℕ) → ticket.first + length content ≤ sectors → (j a : ℕ) (v : Sector) → Writes (issue_entry ticket content ∷ []) j a v → a < sectors
 range-inside ticket content sectors fits zero a v w = by w.event w.stands w.covers
   where
-    by : (e : Entry) → Some (issued ticket content) ≡ Some e → Covers e a v → a < sectors
+    by : (e : Entry) → Some (issue_entry ticket content) ≡ Some e → Covers e a v → a < sectors
     by e same covers =
-        let here : Covers (issued ticket content) a v = subst (λ (x : Entry). Covers x a v) (sym (some-inj same)) covers in
+        let here : Covers (issue_entry ticket content) a v = subst (λ (x : Entry). Covers x a v) (sym (some-inj same)) covers in
         let below = at_below content here.0 v here.2 in omega (arith, fits, below, here.1)
 range-inside ticket content sectors fits (suc j) a v w = absurd (let at = w.stands in cc)
 
@@ -68,39 +68,39 @@ settled-inside settled.Done t out sectors j a v w = absurd (none-written (done_e
 settled-inside (settled.NotYet same) t out sectors j a v w = absurd (let at = w.stands in cc)
 settled-inside (settled.Failed number) t out sectors j a v w = absurd (none-written (failed_entry t.kind t) (failed-covers t.kind t) j a v w)
 
-owed-as : (answer : Settled) (block : ℕ) (k k' : Keeping) → k' ≡ owed_after answer block k → IsOwedAfter answer block k k'
+owed-as : (answer : Settled) (block : ℕ) (k k' : KeeperState) → k' ≡ keeper_after_write answer block k → IsOwedAfter answer block k k'
 owed-as settled.Done block k k' is = is
 owed-as (settled.NotYet same) block k k' is = is
 owed-as (settled.Failed number) block k k' is = is
 
 -- a history with one more number isn't the same
-pub none-added : (history history' : Numbered) (n : ℕ) → history' ≡ history → history'.numbers ≡ history.numbers ++ n ∷ [] → ⊥
-none-added history history' n same more = let long = ap length more in let as_long = ap (λ (x : Numbered). length x.numbers) same in let count = length-append history.numbers (n ∷ []) in omega (arith, long, as_long, count)
+pub none-added : (history history' : HistoryState) (n : ℕ) → history' ≡ history → history'.numbers ≡ history.numbers ++ n ∷ [] → ⊥
+none-added history history' n same more = let long = ap length more in let as_long = ap (λ (x : HistoryState). length x.numbers) same in let count = length-append history.numbers (n ∷ []) in omega (arith, long, as_long, count)
 
 -- the number of an entry that was added is the length of the store's log
-pub number-now : (history history' : Numbered) (events : ℕ) (disk : Disk) → history'.numbers ≡ history.numbers ++ events ∷ [] → (history' ≡ history) ⊎ IsRunning events disk → history'.numbers ≡ history.numbers ++ length disk.log ∷ []
+pub number-now : (history history' : HistoryState) (events : ℕ) (disk : Disk) → history'.numbers ≡ history.numbers ++ events ∷ [] → (history' ≡ history) ⊎ IsRunning events disk → history'.numbers ≡ history.numbers ++ length disk.log ∷ []
 number-now history history' events disk is (inl same) = absurd (none-added history history' events same is)
 number-now history history' events disk is (inr runs) = is ∙ ap (λ (n : ℕ). history.numbers ++ n ∷ []) runs
 
-numbered-as : (answer : Settled) (history history' : Numbered) (events : ℕ) (disk : Disk) → history'.numbers ≡ history.numbers ++ numbers_of answer events → (history' ≡ history) ⊎ IsRunning events disk
+numbered-as : (answer : Settled) (history history' : HistoryState) (events : ℕ) (disk : Disk) → history'.numbers ≡ history.numbers ++ numbers_of answer events → (history' ≡ history) ⊎ IsRunning events disk
     → IsNumberedAfter answer (length disk.log) history.numbers history'.numbers
 numbered-as settled.Done history history' events disk is runs = number-now history history' events disk is runs
 numbered-as (settled.NotYet same) history history' events disk is runs = is
 numbered-as (settled.Failed number) history history' events disk is runs = number-now history history' events disk is runs
 
-module _ {shape : Shape} {state : State} {regions : List (Option Region)} {passes : List Pass} {history : Numbered} {spare : Room} {S B : Type 0} {g : store.Ghosts S} {h : base.Ghosts B} {s : S} {b : B} {flusher : Option ℕ} {k : Keeping}
-    (kept : IsKept g h shape state regions passes history spare s b) (recorded : IsRecorded shape state passes flusher k)
-    (told : g.tells s → h.tells b → IsFaithfullyKept g h shape state passes history s b) (logged : g.tells s → IsLogged passes history (g.disk s))
+module _ {shape : Shape} {state : State} {regions : List (Option Region)} {passes : List Pass} {history : HistoryState} {spare : Room} {S B : Type 0} {g : store.Ghosts S} {h : base.Ghosts B} {s : S} {b : B} {flusher : Option ℕ} {k : KeeperState}
+    (kept : IsSoundCore g h shape state regions passes history spare s b) (recorded : MetadataAgrees shape state passes flusher k)
+    (told : g.tells s → h.tells b → IsFaithfullyKept g h shape state passes history s b) (logged : g.tells s → LogAgrees passes history (g.disk s))
     (was : g.tells s → h.tells b → IsSafelyKept g h state k flusher passes history s b) (i : ℕ) where
   -- the piece, or the block, lies in the store
   issued-inside : {content : List Sector} {passes' : List Pass} {history' : List Entry} {s' : S}
       → IsAt passes i (IsWritable shape state.fresh.bits) → HasAskedWrite history.log.entries i content
-      → (step : Issues shape state.fresh.bits content i passes passes' history.log.entries history' (g.flies s) (g.flies s') (g.tells s) (g.tells s') (g.disk s) (g.disk s') (g.last s) (g.last s')) → step.ticket.first + length step.stored ≤ (g.sectors s)
+      → (step : Issues shape state.fresh.bits content i passes passes' history.log.entries history' (g.flight s) (g.flight s') (g.tells s) (g.tells s') (g.disk s) (g.disk s') (g.last s) (g.last s')) → step.ticket.first + length step.stored ≤ (g.sectors s)
   issued-inside {content} at asked step =
       let p = step.pass in
       let can = can-write-asked kept.coherent i content asked (writing-at passes i at) in
       let same : can.0 ≡ p = some-inj (sym can.1 ∙ step.there) in
-      let ready : CanWrite shape (g.sectors s) (g.depth s) (g.flies s) p = subst (λ (q : Pass). CanWrite shape (g.sectors s) (g.depth s) (g.flies s) q) same can.2.0 in
+      let ready : CanWrite shape (g.sectors s) (g.depth s) (g.flight s) p = subst (λ (q : Pass). CanWrite shape (g.sectors s) (g.depth s) (g.flight s) q) same can.2.0 in
       let long : length content ≡ p.count = subst (λ (q : Pass). length content ≡ q.count) same can.2.1 in
       let piece = ready.piece in
       let from = piece.from in let to = piece.to in let room = ready.room in let few = piece.no_more in
@@ -115,9 +115,9 @@ module _ {shape : Shape} {state : State} {regions : List (Option Region)} {passe
       ]
 
   -- A piece is issued.
-  pub issue-safely : {content : List Sector} {passes' : List Pass} {history' : Numbered} {s' : S}
+  pub issue-safely : {content : List Sector} {passes' : List Pass} {history' : HistoryState} {s' : S}
       → IsAt passes i (IsWritable shape state.fresh.bits) → HasAskedWrite history.log.entries i content
-      → Issues shape state.fresh.bits content i passes passes' history.log.entries history'.log.entries (g.flies s) (g.flies s') (g.tells s) (g.tells s') (g.disk s) (g.disk s') (g.last s) (g.last s') → IsAt passes i (λ p. Extends (g.events s ∷ []) p.piece history history')
+      → Issues shape state.fresh.bits content i passes passes' history.log.entries history'.log.entries (g.flight s) (g.flight s') (g.tells s) (g.tells s') (g.disk s) (g.disk s') (g.last s) (g.last s') → IsAt passes i (λ p. AddsEntries (g.events s ∷ []) p.piece history history')
       → (g.tells s → IsRunning (g.events s) (g.disk s)) → KeepsStore g s s' → g.tells s' → h.tells b → IsSafelyKept g h state k flusher passes' history' s' b
   issue-safely {content} {passes'} {history'} at asked step extends runs stays now base_now =
       let before = step.told_before now in
@@ -126,9 +126,9 @@ module _ {shape : Shape} {state : State} {regions : List (Option Region)} {passe
       (extends.2.numbers ∙ ap (λ (n : ℕ). history.numbers ++ n ∷ []) (runs before)) now secured)
 
   -- Its end is settled.
-  pub settle_issue-safely : {answer : Settled} {fresh' : Blocks} {k' : Keeping} {passes' : List Pass} {history' : Numbered} {s' : S}
-      → IsAt passes i (λ p. p.phase ≡ Issuing) → WriteSettled answer i state.fresh.bits fresh'.bits passes passes' history.log.entries history'.log.entries (g.flies s) (g.flies s') (g.tells s) (g.tells s') (g.disk s) (g.disk s') (g.last s) (g.last s')
-      → Extends (numbers_of answer (g.events s')) 0 history history' → IsAt passes i (λ p. k' ≡ owed_after answer p.block k) → (g.tells s' → (history' ≡ history) ⊎ IsRunning (g.events s') (g.disk s')) → KeepsStore g s s'
+  pub settle_issue-safely : {answer : Settled} {fresh' : Blocks} {k' : KeeperState} {passes' : List Pass} {history' : HistoryState} {s' : S}
+      → IsAt passes i (λ p. p.phase ≡ Issuing) → WriteSettled answer i state.fresh.bits fresh'.bits passes passes' history.log.entries history'.log.entries (g.flight s) (g.flight s') (g.tells s) (g.tells s') (g.disk s) (g.disk s') (g.last s) (g.last s')
+      → AddsEntries (numbers_of answer (g.events s')) 0 history history' → IsAt passes i (λ p. k' ≡ keeper_after_write answer p.block k) → (g.tells s' → (history' ≡ history) ⊎ IsRunning (g.events s') (g.disk s')) → KeepsStore g s s'
       → g.tells s' → h.tells b → IsSafelyKept g h (record state { fresh = fresh' }) k' flusher passes' history' s' b
   settle_issue-safely {answer} {fresh'} {k'} {passes'} {history'} {s'} at step extends owed runs stays now base_now =
       let before = step.told_before now in

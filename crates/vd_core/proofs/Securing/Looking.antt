@@ -6,49 +6,49 @@ use Rattle.vd_device.specs.Stores.{KeepsStore}
 use Rattle.vd_device.specs.Bases.{KeepsBase}
 use Rattle.vd_law.specs.declared.entry.Sector.{Sector}
 use Rattle.vd_law.specs.declared.entry.Room.{Room}
-use Rattle.vd_law.specs.Histories.{Numbered}
+use Rattle.vd_law.specs.Histories.{HistoryState}
 use Rattle.vd_device.specs.declared.settled.Settled.{Settled}
 use Rattle.vd_device.specs.declared.settled.Settled.TheVariants as settled
 use Rattle.vd_device.specs.Disks.{Disk, IsRunning}
-use Rattle.vd_device.specs.Calls.{asked_read}
+use Rattle.vd_device.specs.Calls.{ask_read_entry}
 use Rattle.vd_regions.specs.declared.regions.Region.{Region}
 use Rattle.vd_replay.specs.declared.state.State.{State}
-use Rattle.vd_meta.specs.Keeping.{Keeping}
+use Rattle.vd_keeper.specs.Keeping.{KeeperState}
 use Rattle.vd_passes.specs.declared.shape.Shape.{Shape}
 use Rattle.vd_passes.specs.declared.pass.Pass.{Pass}
 use Rattle.vd_passes.specs.declared.pass.Phase.TheVariants.{Held, Looking}
 use Rattle.vd_passes.specs.Steps.{IsAt, Looks, LooksAtBase, SeesZeros, LookSettled, BaseLookSettled}
 use Rattle.vd_safety.proofs.Looking.{IsReadNumberedAfter, look-secured, settle_look-secured, settle_base_look-secured, see_zeros-secured}
 use Rattle.vd_safety.proofs.Others.{base_look-secured}
-use Rattle.vd_core.specs.Adding.{Extends}
+use Rattle.vd_core.specs.Adding.{AddsEntries}
 use Rattle.vd_core.specs.Outcomes.{read_numbers_of}
-use Rattle.vd_core.specs.Kept.{IsKept, IsFaithfullyKept, IsLogged, IsRecorded, IsSafelyKept}
+use Rattle.vd_core.specs.Kept.{IsSoundCore, IsFaithfullyKept, LogAgrees, MetadataAgrees, IsSafelyKept}
 use Rattle.vd_core.proofs.Securing.Carrying.{safely-on, safely-here, around}
 use Rattle.vd_core.proofs.Securing.Issuing.{none-written, settled-inside, number-now}
 
-read-numbered-as : (answer : Settled) (history history' : Numbered) (events : ℕ) (disk : Disk) → history'.numbers ≡ history.numbers ++ read_numbers_of answer events → (history' ≡ history) ⊎ IsRunning events disk
+read-numbered-as : (answer : Settled) (history history' : HistoryState) (events : ℕ) (disk : Disk) → history'.numbers ≡ history.numbers ++ read_numbers_of answer events → (history' ≡ history) ⊎ IsRunning events disk
     → IsReadNumberedAfter answer (length disk.log) history.numbers history'.numbers
 read-numbered-as settled.Done history history' events disk is runs = number-now history history' events disk is runs
 read-numbered-as (settled.NotYet same) history history' events disk is runs = is
 read-numbered-as (settled.Failed number) history history' events disk is runs = is
 
-module _ {shape : Shape} {state : State} {regions : List (Option Region)} {passes : List Pass} {history : Numbered} {spare : Room} {S B : Type 0} {g : store.Ghosts S} {h : base.Ghosts B} {s : S} {b : B} {flusher : Option ℕ} {k : Keeping}
-    (kept : IsKept g h shape state regions passes history spare s b) (recorded : IsRecorded shape state passes flusher k)
-    (told : g.tells s → h.tells b → IsFaithfullyKept g h shape state passes history s b) (logged : g.tells s → IsLogged passes history (g.disk s))
+module _ {shape : Shape} {state : State} {regions : List (Option Region)} {passes : List Pass} {history : HistoryState} {spare : Room} {S B : Type 0} {g : store.Ghosts S} {h : base.Ghosts B} {s : S} {b : B} {flusher : Option ℕ} {k : KeeperState}
+    (kept : IsSoundCore g h shape state regions passes history spare s b) (recorded : MetadataAgrees shape state passes flusher k)
+    (told : g.tells s → h.tells b → IsFaithfullyKept g h shape state passes history s b) (logged : g.tells s → LogAgrees passes history (g.disk s))
     (was : g.tells s → h.tells b → IsSafelyKept g h state k flusher passes history s b) (i : ℕ) where
   -- A pass looks in the store.
   pub look-safely : {passes' : List Pass} {s' : S}
-      → IsAt passes i (λ p. p.phase ≡ Held) → Looks shape i passes passes' (g.flies s) (g.flies s') (g.tells s) (g.tells s') (g.disk s) (g.disk s') (g.last s) (g.last s') → KeepsStore g s s'
+      → IsAt passes i (λ p. p.phase ≡ Held) → Looks shape i passes passes' (g.flight s) (g.flight s') (g.tells s) (g.tells s') (g.disk s) (g.disk s') (g.last s) (g.last s') → KeepsStore g s s'
       → g.tells s' → h.tells b → IsSafelyKept g h state k flusher passes' history s' b
   look-safely {passes'} at step stays now base_now =
       let before = step.told_before now in
-      safely-on (was before base_now) (logged before) (_, (step.told now).0) (λ j a v w. absurd (none-written (asked_read step.ticket) (λ b u covers. covers) j a v w)) stays.counts.sectors refl
+      safely-on (was before base_now) (logged before) (_, (step.told now).0) (λ j a v w. absurd (none-written (ask_read_entry step.ticket) (λ b u covers. covers) j a v w)) stays.counts.sectors refl
       (λ start held is secured. look-secured (around kept recorded (told before base_now) start held is) at step now secured)
 
   -- It settles that look.
-  pub settle_look-safely : {answer : Settled} {passes' : List Pass} {history' : Numbered} {out out' : List Sector} {s' : S} {count : ℕ}
-      → IsAt passes i (λ p. p.phase ≡ Looking) → LookSettled answer i passes passes' history.log.entries history'.log.entries (g.flies s) (g.flies s') (g.tells s) (g.tells s') (g.disk s) (g.disk s') (g.last s) (g.last s') out out'
-      → Extends (read_numbers_of answer (g.events s')) count history history' → (g.tells s' → (history' ≡ history) ⊎ IsRunning (g.events s') (g.disk s')) → KeepsStore g s s'
+  pub settle_look-safely : {answer : Settled} {passes' : List Pass} {history' : HistoryState} {out out' : List Sector} {s' : S} {count : ℕ}
+      → IsAt passes i (λ p. p.phase ≡ Looking) → LookSettled answer i passes passes' history.log.entries history'.log.entries (g.flight s) (g.flight s') (g.tells s) (g.tells s') (g.disk s) (g.disk s') (g.last s) (g.last s') out out'
+      → AddsEntries (read_numbers_of answer (g.events s')) count history history' → (g.tells s' → (history' ≡ history) ⊎ IsRunning (g.events s') (g.disk s')) → KeepsStore g s s'
       → g.tells s' → h.tells b → IsSafelyKept g h state k flusher passes' history' s' b
   settle_look-safely {answer} {passes'} {history'} {s' = s'} at step extends runs stays now base_now =
       let before = step.told_before now in
@@ -58,7 +58,7 @@ module _ {shape : Shape} {state : State} {regions : List (Option Region)} {passe
 
   -- It looks in the base.
   pub base_look-safely : {passes' : List Pass} {b' : B}
-      → IsAt passes i (λ p. p.phase ≡ Held) → LooksAtBase shape i passes passes' (h.flies b) (h.flies b') → KeepsBase h b b'
+      → IsAt passes i (λ p. p.phase ≡ Held) → LooksAtBase shape i passes passes' (h.flight b) (h.flight b') → KeepsBase h b b'
       → g.tells s → h.tells b' → IsSafelyKept g h state k flusher passes' history s b'
   base_look-safely {passes'} at step stays now base_now =
       let before = stays.telling.told_before base_now in
@@ -66,9 +66,9 @@ module _ {shape : Shape} {state : State} {regions : List (Option Region)} {passe
       (λ start held is secured. base_look-secured (around kept recorded (told now before) start held is) secured at step)
 
   -- It settles that look.
-  pub settle_base_look-safely : {answer : Settled} {passes' : List Pass} {history' : Numbered} {out out' : List Sector} {count : ℕ} {b' : B}
-      → IsAt passes i (λ p. p.phase ≡ Looking) → BaseLookSettled answer shape i passes passes' history.log.entries history'.log.entries (h.flies b) (h.flies b') (h.tells b') (h.content b') out out'
-      → Extends (read_numbers_of answer (g.events s)) count history history' → (g.tells s → (history' ≡ history) ⊎ IsRunning (g.events s) (g.disk s)) → KeepsBase h b b'
+  pub settle_base_look-safely : {answer : Settled} {passes' : List Pass} {history' : HistoryState} {out out' : List Sector} {count : ℕ} {b' : B}
+      → IsAt passes i (λ p. p.phase ≡ Looking) → BaseLookSettled answer shape i passes passes' history.log.entries history'.log.entries (h.flight b) (h.flight b') (h.tells b') (h.content b') out out'
+      → AddsEntries (read_numbers_of answer (g.events s)) count history history' → (g.tells s → (history' ≡ history) ⊎ IsRunning (g.events s) (g.disk s)) → KeepsBase h b b'
       → g.tells s → h.tells b' → IsSafelyKept g h state k flusher passes' history' s b'
   settle_base_look-safely {answer} {passes'} {history'} at step extends runs stays now base_now =
       let before = stays.telling.told_before base_now in
@@ -76,8 +76,8 @@ module _ {shape : Shape} {state : State} {regions : List (Option Region)} {passe
       (λ start held is secured. settle_base_look-secured answer history' (around kept recorded (told now before) start held is) at step (read-numbered-as answer history history' (g.events s) (g.disk s) extends.numbers (runs now)) secured)
 
   -- It sees zeros.
-  pub zeros-safely : {passes' : List Pass} {history' : Numbered} {out out' : List Sector} {count : ℕ} → IsAt passes i (λ p. p.phase ≡ Held) → SeesZeros shape i passes passes' history.log.entries history'.log.entries out out'
-      → Extends (g.events s ∷ []) count history history' → (g.tells s → IsRunning (g.events s) (g.disk s)) → g.tells s → h.tells b → IsSafelyKept g h state k flusher passes' history' s b
+  pub zeros-safely : {passes' : List Pass} {history' : HistoryState} {out out' : List Sector} {count : ℕ} → IsAt passes i (λ p. p.phase ≡ Held) → SeesZeros shape i passes passes' history.log.entries history'.log.entries out out'
+      → AddsEntries (g.events s ∷ []) count history history' → (g.tells s → IsRunning (g.events s) (g.disk s)) → g.tells s → h.tells b → IsSafelyKept g h state k flusher passes' history' s b
   zeros-safely {passes'} {history'} at step extends runs now base_now =
       safely-here (was now base_now) extends.opened refl
       (λ start held is secured. see_zeros-secured (around kept recorded (told now base_now) start held is) secured history' at step (number-now history history' (g.events s) (g.disk s) extends.numbers (inr (runs now))))

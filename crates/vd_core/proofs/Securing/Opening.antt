@@ -6,7 +6,7 @@ use Rattle.vd_law.specs.declared.entry.Sector.{Sector}
 use Rattle.vd_law.specs.declared.entry.Room.{Room}
 use Rattle.vd_law.specs.Entries.{Entry}
 use Rattle.vd_law.specs.Contents.{may}
-use Rattle.vd_law.specs.Histories.{Numbered}
+use Rattle.vd_law.specs.Histories.{HistoryState}
 use Rattle.vd_device.specs.declared.store.Store as store
 use Rattle.vd_device.specs.declared.base.Base as base
 use Rattle.vd_device.specs.Stores.{IsTold}
@@ -17,29 +17,28 @@ use Rattle.vd_image.specs.Log.{Flush, Ask, At, Writes, Flushes, May}
 use Rattle.vd_image.specs.Image.{HasNoLater, DiskHas}
 use Rattle.vd_image.specs.Layouts.{layout_of}
 use Rattle.vd_image.specs.Decoders.{format_of}
-use Rattle.vd_image.specs.CrashImages.{sectors_or, base_at}
-use Rattle.vd_image.specs.Made.{zero_sector as made_zero}
+use Rattle.vd_image.specs.CrashImages.{sectors_or}
 use Rattle.vd_image.proofs.CrashImages.{at_inside, past_end}
 use Rattle.vd_image.proofs.Exact.{may_is_exact}
 use Rattle.vd_image.proofs.Layouts.{parts_inside}
 use Rattle.vd_image.proofs.Logs.{writes_below}
 use Rattle.vd_regions.specs.declared.regions.Region.{Region}
-use Rattle.vd_reading.specs.Background.{zero_sector}
-use Rattle.vd_reading.specs.Quiet.{AddsFlush}
+use Rattle.vd_device.specs.Quiet.{AddsFlush}
 use Rattle.vd_replay.specs.declared.state.State.{State}
 use Rattle.vd_replay.specs.Images.{image_of}
-use Rattle.vd_replay.specs.States.{IsState, IsWhole, Says}
+use Rattle.vd_replay.specs.States.{IsState, IsWholeState, StateSays}
 use Rattle.vd_replay.proofs.ListLaws.{get_some}
-use Rattle.vd_meta.specs.Keeping.{Keeping}
+use Rattle.vd_keeper.specs.Keeping.{KeeperState}
 use Rattle.vd_passes.specs.declared.shape.Shape.{Shape}
 use Rattle.vd_passes.specs.declared.pass.Pass.{Pass}
-use Rattle.vd_safety.specs.Mirrors.{opening_for, IsSecured}
+use Rattle.vd_safety.specs.Mirrors.{opening_for, HasSafeMirror}
 use Rattle.vd_safety.proofs.Opening.{IsStart as IsMadeFrom, opened-secured}
 use Rattle.vd_core.specs.Start.{opening_at, IsStart, WasSafe, image_at}
-use Rattle.vd_core.specs.Opening.{AreNew, shape_of, empty_history, new_keeping}
-use Rattle.vd_core.specs.Kept.{IsKept, IsFaithfullyKept, IsAccounted, IsLogged, IsRecorded, IsSafelyKept, IsSafelyStopped}
+use Rattle.vd_core.specs.Opening.{AreNew, disk_shape, empty_history, new_keeping}
+use Rattle.vd_core.specs.Kept.{IsSoundCore, IsFaithfullyKept, IsAccounted, LogAgrees, MetadataAgrees, IsSafelyKept, IsSafelyStopped}
 use Rattle.vd_core.proofs.Starting.{all-told, clean-held}
 use Rattle.vd_core.proofs.StartingDisk.{disk-over}
+use Rattle.vd_format.specs.Background.{base_at, zero_sector}
 
 at-later : {A : Type 0} (xs ys : List A) (j : ℕ) (x : A) → At ys j x → At (xs ++ ys) (length xs + j) x
 at-later [] ys j x at = let same : 0 + j ≡ j = omega arith in ap (slice_get ys) same ∙ at
@@ -56,7 +55,7 @@ flush-stands old disk adds = record {
   later = omega arith;
 }
 
-module _ (s : State) (whole : IsWhole s) (version : s.header.version ≡ 2) (disk : Disk) (opened : ℕ) (all : opened ≡ length disk.log) (honest : IsHonest disk) (says : Says disk.held s)
+module _ (s : State) (whole : IsWholeState s) (version : s.header.version ≡ 2) (disk : Disk) (opened : ℕ) (all : opened ≡ length disk.log) (honest : IsHonest disk) (says : StateSays disk.held s)
     (base start : List Sector) (is : IsStart (opening_at opened disk) base s.header start) (safe : WasSafe (opening_at opened disk) s.header) (size : length disk.held ≡ length disk.start) where
   abbrev h : Header
   h = s.header
@@ -65,7 +64,7 @@ module _ (s : State) (whole : IsWhole s) (version : s.header.version ≡ 2) (dis
   state = says.current version
 
   same : (a : ℕ) → a < length disk.held → image_at (opening_at opened disk) a ≡ image_of disk.held a
-  same a inside = clean-held disk opened a made_zero all honest is.clean inside
+  same a inside = clean-held disk opened a zero_sector all honest is.clean inside
 
   no-later : HasNoLater (format_of h) (layout_of h) (image_of disk.held) h.generation
   no-later k r within reads =
@@ -77,23 +76,22 @@ module _ (s : State) (whole : IsWhole s) (version : s.header.version ≡ 2) (dis
       (let within = slice_get_within start x v at in let long = is.size in omega arith)
 
   -- nothing but what is held is left by a crash
-  left : (a : ℕ) (v : Sector) → May (sectors_or made_zero disk.start) disk.log a v → v ≡ image_of disk.held a
+  left : (a : ℕ) (v : Sector) → May (sectors_or zero_sector disk.start) disk.log a v → v ≡ image_of disk.held a
   left a v may_be = elim (cases_lt a (length disk.start)) [
     | inl within ↦
         let log = all-told disk opened all in
         let x = get_some disk.start a within in
-        let listed : Contains (may disk.start disk.log a) v = (may_is_exact disk.start (sectors_or made_zero disk.start) disk.log a v (at_inside made_zero disk.start a within)).1 may_be in
+        let listed : Contains (may disk.start disk.log a) v = (may_is_exact disk.start (sectors_or zero_sector disk.start) disk.log a v (at_inside zero_sector disk.start a within)).1 may_be in
         safe.durable a v within (subst (λ (l : List Entry). Contains (may disk.start l a) v) (sym log) listed) ∙ same a (omega (arith, within, size))
     | inr past ↦ beyond past may_be
   ]
     where
-      beyond : length disk.start ≤ a → May (sectors_or made_zero disk.start) disk.log a v → v ≡ image_of disk.held a
-      beyond past (inl untouched) = untouched.value ∙ past_end made_zero disk.start a past ∙ sym (past_end made_zero disk.held a (omega (arith, past, size)))
+      beyond : length disk.start ≤ a → May (sectors_or zero_sector disk.start) disk.log a v → v ≡ image_of disk.held a
+      beyond past (inl untouched) = untouched.value ∙ past_end zero_sector disk.start a past ∙ sym (past_end zero_sector disk.held a (omega (arith, past, size)))
       beyond past (inr written) =
           let inside = safe.inside written.at a v (subst (λ (l : List Entry). Writes l written.at a v) (sym (all-told disk opened all)) written.writes) in absurd (omega (arith, past, inside))
 
   made-from : (old : Disk) → AddsFlush old disk → IsMadeFrom s disk.start disk.held base start disk.log
-  unfolding zero_sector
   made-from old adds = record {
     whole = whole;
     state = state;
@@ -106,15 +104,15 @@ module _ (s : State) (whole : IsWhole s) (version : s.header.version ≡ 2) (dis
   }
 
 -- nothing was written since it was made
-pub opened-safely : {S B : Type 0} (g : store.Ghosts S) (h : base.Ghosts B) (x : S) (y : B) (s : State) → IsWhole s → s.header.version ≡ 2 → {passes : List Pass} {count block events : ℕ} (room : Room) → AreNew count block passes
-    → events ≡ length (g.disk x).log → IsHonest (g.disk x) → Says (g.disk x).held s → length (g.disk x).start ≡ g.sectors x → length (g.disk x).held ≡ g.sectors x → (old : Disk) × AddsFlush old (g.disk x)
+pub opened-safely : {S B : Type 0} (g : store.Ghosts S) (h : base.Ghosts B) (x : S) (y : B) (s : State) → IsWholeState s → s.header.version ≡ 2 → {passes : List Pass} {count block events : ℕ} (room : Room) → AreNew count block passes
+    → events ≡ length (g.disk x).log → IsHonest (g.disk x) → StateSays (g.disk x).held s → length (g.disk x).start ≡ g.sectors x → length (g.disk x).held ≡ g.sectors x → (old : Disk) × AddsFlush old (g.disk x)
     → IsSafelyKept g h s (new_keeping s) None passes (empty_history room events) x y
 opened-safely g h x y s whole version {passes} {count} {block} {events} room new all honest says long held_long flushed = let disk = g.disk x in record {
   size = long;
   inside = λ i a v since w. absurd (let below = writes_below disk.log i a v w in omega (arith, since, below, all));
   secured = λ start is safe. (
     image_of disk.held,
-    subst (λ (n : ℕ). IsSecured (opening_for s.header s.map disk.start (image_of disk.held) (h.content y) start n) s.table s.fresh.bits (new_keeping s) None passes (empty_history room events) disk.log) (sym all)
+    subst (λ (n : ℕ). HasSafeMirror (opening_for s.header s.map disk.start (image_of disk.held) (h.content y) start n) s.table s.fresh.bits (new_keeping s) None passes (empty_history room events) disk.log) (sym all)
         (opened-secured s disk.start disk.held (h.content y) start disk.log passes (empty_history room events) (made-from s whole version disk events all honest says (h.content y) start is safe (held_long ∙ sym long) flushed.0 flushed.1)
         (λ i p there. (new.each i p there).phase) refl refl),
   );
@@ -122,21 +120,21 @@ opened-safely g h x y s whole version {passes} {count} {block} {events} room new
 
 -- What the type keeps of a core with these parts, in which nothing was asked.
 module _ {S B : Type 0} (g : store.Ghosts S) (h : base.Ghosts B) (x : S) (y : B) (s : State) (passes : List Pass) (count : ℕ) (room : Room) (store_faults base_faults : ℕ) where
-  abbrev pub AllKept : Shape → Keeping → List (Option Region) → Numbered → Room → Type 0
-  AllKept shape k regions history spare = IsKept g h shape s regions passes history spare x y
+  abbrev pub AllKept : Shape → KeeperState → List (Option Region) → HistoryState → Room → Type 0
+  AllKept shape k regions history spare = IsSoundCore g h shape s regions passes history spare x y
       × (g.tells x → h.tells y → IsFaithfullyKept g h shape s passes history x y)
       × IsAccounted g h shape s passes history store_faults base_faults x y
-      × (g.tells x → IsLogged passes history (g.disk x))
-      × IsRecorded shape s passes None k
+      × (g.tells x → LogAgrees passes history (g.disk x))
+      × MetadataAgrees shape s passes None k
       × (g.tells x → h.tells y → IsSafelyKept g h s k None passes history x y)
       × (g.records x → h.tells y → g.tells x ⊎ IsSafelyStopped g h s.header history x y)
       × IsTold g x
 
-  pub opened-parts : {shape : Shape} {k : Keeping} {regions : List (Option Region)} {history : Numbered} {spare : Room} → shape ≡ shape_of s.header (h.sectors y) → k ≡ new_keeping s → regions ≡ replicate count None
-      → history ≡ empty_history room (g.events x) → spare ≡ room → AllKept (shape_of s.header (h.sectors y)) (new_keeping s) (replicate count None) (empty_history room (g.events x)) room → AllKept shape k regions history spare
-  opened-parts {shape} {k} {regions} {history} {spare} shape_is keeper held empty spare_is parts = let made = shape_of s.header (h.sectors y) in
+  pub opened-parts : {shape : Shape} {k : KeeperState} {regions : List (Option Region)} {history : HistoryState} {spare : Room} → shape ≡ disk_shape s.header (h.sectors y) → k ≡ new_keeping s → regions ≡ replicate count None
+      → history ≡ empty_history room (g.events x) → spare ≡ room → AllKept (disk_shape s.header (h.sectors y)) (new_keeping s) (replicate count None) (empty_history room (g.events x)) room → AllKept shape k regions history spare
+  opened-parts {shape} {k} {regions} {history} {spare} shape_is keeper held empty spare_is parts = let made = disk_shape s.header (h.sectors y) in
       subst (λ (z : Shape). AllKept z k regions history spare) (sym shape_is)
-      (subst (λ (z : Keeping). AllKept made z regions history spare) (sym keeper)
+      (subst (λ (z : KeeperState). AllKept made z regions history spare) (sym keeper)
       (subst (λ (z : List (Option Region)). AllKept made (new_keeping s) z history spare) (sym held)
-      (subst (λ (z : Numbered). AllKept made (new_keeping s) (replicate count None) z spare) (sym empty)
+      (subst (λ (z : HistoryState). AllKept made (new_keeping s) (replicate count None) z spare) (sym empty)
       (subst (λ (z : Room). AllKept made (new_keeping s) (replicate count None) (empty_history room (g.events x)) z) (sym spare_is) parts))))

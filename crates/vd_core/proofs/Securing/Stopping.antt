@@ -11,21 +11,19 @@ use Rattle.vd_law.specs.declared.entry.Answer.{Answer}
 use Rattle.vd_law.specs.declared.entry.Room.{Room}
 use Rattle.vd_law.specs.Contents.{may}
 use Rattle.vd_law.specs.Entries.{Asked, Entry}
-use Rattle.vd_law.specs.Histories.{Numbered, IsRising, last_number, up_to, entries_up_to}
+use Rattle.vd_law.specs.Histories.{HistoryState, IsRising, last_number, count_up_to, entries_up_to}
 use Rattle.vd_law.proofs.Numbers.{rising-push, last_number-push}
 use Rattle.vd_device.specs.declared.settled.Settled.{Settled}
 use Rattle.vd_device.specs.declared.settled.Settled.TheVariants.{Done, NotYet, Failed}
 use Rattle.vd_device.specs.declared.ticket.Ticket.{Ticket}
-use Rattle.vd_device.specs.Disks.{Disk, HasStood, TellsOrStood}
+use Rattle.vd_device.specs.Disks.{Disk, StoppedSince, TellsOrStoppedSince}
 use Rattle.vd_format.specs.declared.header.Header.{Header}
 use Rattle.vd_image.specs.Layouts.{layout_of}
 use Rattle.vd_image.specs.Decoders.{format_of}
-use Rattle.vd_image.specs.CrashImages.{base_at}
 use Rattle.vd_image.proofs.Logs.{length_push}
-use Rattle.vd_crash.specs.CrashSafe.{IsCrashSafe}
-use Rattle.vd_reading.specs.Background.{zero_sector}
-use Rattle.vd_table.specs.Tables.{Given}
-use Rattle.vd_meta.specs.Keeping.{Keeping}
+use Rattle.vd_crash.specs.facts.CrashSafe.{IsCrashSafe}
+use Rattle.vd_table.specs.Tables.{TableState}
+use Rattle.vd_keeper.specs.Keeping.{KeeperState}
 use Rattle.vd_passes.specs.declared.shape.Shape.{Shape}
 use Rattle.vd_passes.specs.declared.pass.Pass.{Pass}
 use Rattle.vd_passes.specs.declared.pass.Fault.{Fault}
@@ -33,24 +31,25 @@ use Rattle.vd_passes.specs.declared.pass.Fault.TheVariants as fault
 use Rattle.vd_passes.specs.Steps.{Issues, EndsWrite, WriteSettled, EndsRead, LookSettled, BaseLookSettled}
 use Rattle.vd_safety.specs.Mirrors.{opening_for}
 use Rattle.vd_safety.proofs.Words.{IsHarmless, secured-rising, stopped-crash-safe}
-use Rattle.vd_core.specs.Adding.{Extends}
-use Rattle.vd_core.specs.Asking.{asking, AskEnds}
+use Rattle.vd_core.specs.Adding.{AddsEntries}
+use Rattle.vd_core.specs.Asking.{ask_state, AskEnds}
 use Rattle.vd_core.specs.Outcomes.{numbers_of, read_numbers_of}
 use Rattle.vd_core.specs.Opening.{empty_history}
-use Rattle.vd_core.specs.Start.{Opening, opening_at, IsStart, WasSafe}
-use Rattle.vd_core.specs.Kept.{IsRoomy, IsSafelyKept, IsStillSafe, IsSafelyStopped}
+use Rattle.vd_core.specs.Start.{ToldAtOpening, opening_at, IsStart, WasSafe}
+use Rattle.vd_core.specs.Kept.{RoomIsReserved, IsSafelyKept, IsStillSafe, IsSafelyStopped}
 use Rattle.vd_core.proofs.Starting.{opening-stood}
 use Rattle.vd_core.proofs.Securing.Words.{safely-words}
+use Rattle.vd_format.specs.Background.{zero_sector, base_at}
 
 -- the numbers are not above the events that there are after a call
-pub later-still : {block : ℕ} {passes : List Pass} {history : Numbered} {spare : Room} {S : Type 0} {g : store.Ghosts S} {s s' : S} → IsRoomy block passes history spare (g.events s) → KeepsStore g s s' → last_number history.opened history.numbers ≤ g.events s'
+pub later-still : {block : ℕ} {passes : List Pass} {history : HistoryState} {spare : Room} {S : Type 0} {g : store.Ghosts S} {s s' : S} → RoomIsReserved block passes history spare (g.events s) → KeepsStore g s s' → last_number history.opened history.numbers ≤ g.events s'
 later-still roomy keeps = let later = roomy.later in let rise = keeps.telling.events in omega (arith, later, rise)
 
 -- ---- the history grows
 
 module _ {h : Header} {base start : List Sector} {disk : Disk} where
   -- by one harmless entry
-  pub one-more : {history history' : Numbered} {e : Entry} {n : ℕ} → IsHarmless disk.log e n → history'.log.entries ≡ history.log.entries ++ e ∷ [] → history'.numbers ≡ history.numbers ++ n ∷ [] → history'.opened ≡ history.opened
+  pub one-more : {history history' : HistoryState} {e : Entry} {n : ℕ} → IsHarmless disk.log e n → history'.log.entries ≡ history.log.entries ++ e ∷ [] → history'.numbers ≡ history.numbers ++ n ∷ [] → history'.opened ≡ history.opened
       → last_number history.opened history.numbers ≤ n → IsStillSafe h base start disk history → IsStillSafe h base start disk history'
   one-more {history} {history'} {e} {n} harmless entries numbers opened later was = record {
     each = let a = ap length numbers in let b = ap length entries in let c = length_push history.numbers n in let d = length_push history.log.entries e in let w = was.each in omega (arith, a, b, c, d, w);
@@ -59,24 +58,24 @@ module _ {h : Header} {base start : List Sector} {disk : Disk} where
   }
 
   -- by one entry that is numbered above the log's length
-  pub late-one : {history history' : Numbered} {n sectors : ℕ} (e : Entry) → Extends (n ∷ []) sectors history history' → history'.log.entries ≡ history.log.entries ++ e ∷ [] → last_number history.opened history.numbers ≤ n
+  pub late-one : {history history' : HistoryState} {n sectors : ℕ} (e : Entry) → AddsEntries (n ∷ []) sectors history history' → history'.log.entries ≡ history.log.entries ++ e ∷ [] → last_number history.opened history.numbers ≤ n
       → length disk.log < n → IsStillSafe h base start disk history → IsStillSafe h base start disk history'
   late-one e extends entries later late was = one-more (inl late) entries extends.numbers extends.opened later was
 
   -- by two such entries
-  pub late-two : {history history' : Numbered} {n sectors : ℕ} (a b : Entry) → Extends (n ∷ n ∷ []) sectors history history' → history'.log.entries ≡ history.log.entries ++ a ∷ b ∷ [] → last_number history.opened history.numbers ≤ n
+  pub late-two : {history history' : HistoryState} {n sectors : ℕ} (a b : Entry) → AddsEntries (n ∷ n ∷ []) sectors history history' → history'.log.entries ≡ history.log.entries ++ a ∷ b ∷ [] → last_number history.opened history.numbers ≤ n
       → length disk.log < n → IsStillSafe h base start disk history → IsStillSafe h base start disk history'
   late-two {history} {history'} {n} a b extends entries later late was =
-      let mid : Numbered = record { log = record { entries = history.log.entries ++ a ∷ []; left = history.log.left; room = history.log.room }; numbers = history.numbers ++ n ∷ []; opened = history.opened } in
+      let mid : HistoryState = record { log = record { entries = history.log.entries ++ a ∷ []; left = history.log.left; room = history.log.room }; numbers = history.numbers ++ n ∷ []; opened = history.opened } in
       let last = last_number-push history.opened history.numbers n in
       one-more {history = mid} (inl late) (entries ∙ sym (append_assoc history.log.entries (a ∷ []) (b ∷ []))) (extends.numbers ∙ sym (append_assoc history.numbers (n ∷ []) (n ∷ []))) extends.opened (omega (arith, last))
       (one-more {history = history} {history' = mid} (inl late) refl refl refl later was)
 
   -- by none
-  pub none-more : {history history' : Numbered} {sectors : ℕ} → Extends [] sectors history history' → history'.log.entries ≡ history.log.entries → IsStillSafe h base start disk history → IsStillSafe h base start disk history'
+  pub none-more : {history history' : HistoryState} {sectors : ℕ} → AddsEntries [] sectors history history' → history'.log.entries ≡ history.log.entries → IsStillSafe h base start disk history → IsStillSafe h base start disk history'
   none-more {history} {history'} extends entries was =
       let numbers : history'.numbers ≡ history.numbers = extends.numbers ∙ append-nil history.numbers in
-      let moments : (k : ℕ) → entries_up_to k history' ≡ entries_up_to k history = λ k. ap (λ (ns : List ℕ). take (up_to k ns) history'.log.entries) numbers ∙ ap (take (up_to k history.numbers)) entries in
+      let moments : (k : ℕ) → entries_up_to k history' ≡ entries_up_to k history = λ k. ap (λ (ns : List ℕ). take (count_up_to k ns) history'.log.entries) numbers ∙ ap (take (count_up_to k history.numbers)) entries in
       let opened = extends.opened in
       record {
         each = ap length numbers ∙ was.each ∙ sym (ap length entries);
@@ -88,43 +87,43 @@ module _ {h : Header} {base start : List Sector} {disk : Disk} where
       }
 
   -- as a write's piece is issued
-  pub issue-still : {fresh : List Bool} {content : List Sector} {i last last' n sectors : ℕ} {passes passes' : List Pass} {history history' : Numbered} {flies flies' : List Ticket → Type 0} {tells tells' : Type 0} {old new : Disk} {shape : Shape}
-      → Issues shape fresh content i passes passes' history.log.entries history'.log.entries flies flies' tells tells' old new last last' → Extends (n ∷ []) sectors history history' → last_number history.opened history.numbers ≤ n
+  pub issue-still : {fresh : List Bool} {content : List Sector} {i last last' n sectors : ℕ} {passes passes' : List Pass} {history history' : HistoryState} {flight flight' : List Ticket → Type 0} {tells tells' : Type 0} {old new : Disk} {shape : Shape}
+      → Issues shape fresh content i passes passes' history.log.entries history'.log.entries flight flight' tells tells' old new last last' → AddsEntries (n ∷ []) sectors history history' → last_number history.opened history.numbers ≤ n
       → IsStillSafe h base start disk history → IsStillSafe h base start disk history'
   issue-still step extends later was = one-more (inr (λ id is. cc)) step.event extends.numbers extends.opened later was
 
   -- as the write ends
-  write-ends : (answer : Settled) (pass : Pass) (ticket : Ticket) (i : ℕ) (fresh fresh' : List Bool) (passes passes' : List Pass) {n sectors : ℕ} {history history' : Numbered} → EndsWrite answer pass ticket i fresh fresh' passes passes' history.log.entries history'.log.entries
-      → Extends (numbers_of answer n) sectors history history' → last_number history.opened history.numbers ≤ n → length disk.log < n → IsStillSafe h base start disk history → IsStillSafe h base start disk history'
+  write-ends : (answer : Settled) (pass : Pass) (ticket : Ticket) (i : ℕ) (fresh fresh' : List Bool) (passes passes' : List Pass) {n sectors : ℕ} {history history' : HistoryState} → EndsWrite answer pass ticket i fresh fresh' passes passes' history.log.entries history'.log.entries
+      → AddsEntries (numbers_of answer n) sectors history history' → last_number history.opened history.numbers ≤ n → length disk.log < n → IsStillSafe h base start disk history → IsStillSafe h base start disk history'
   write-ends Done pass ticket i fresh fresh' passes passes' ends extends later late was = late-one _ extends ends.2 later late was
   write-ends (NotYet same) pass ticket i fresh fresh' passes passes' ends extends later late was = none-more extends ends.2 was
   write-ends (Failed number) pass ticket i fresh fresh' passes passes' ends extends later late was = late-one _ extends ends.2 later late was
 
-  pub write-still : {answer : Settled} {i n last last' sectors : ℕ} {fresh fresh' : List Bool} {passes passes' : List Pass} {history history' : Numbered} {flies flies' : List Ticket → Type 0} {tells tells' : Type 0} {old new : Disk}
-      → WriteSettled answer i fresh fresh' passes passes' history.log.entries history'.log.entries flies flies' tells tells' old new last last' → Extends (numbers_of answer n) sectors history history' → last_number history.opened history.numbers ≤ n → length disk.log < n
+  pub write-still : {answer : Settled} {i n last last' sectors : ℕ} {fresh fresh' : List Bool} {passes passes' : List Pass} {history history' : HistoryState} {flight flight' : List Ticket → Type 0} {tells tells' : Type 0} {old new : Disk}
+      → WriteSettled answer i fresh fresh' passes passes' history.log.entries history'.log.entries flight flight' tells tells' old new last last' → AddsEntries (numbers_of answer n) sectors history history' → last_number history.opened history.numbers ≤ n → length disk.log < n
       → IsStillSafe h base start disk history → IsStillSafe h base start disk history'
   write-still {answer} {i} {fresh = fresh} {fresh'} {passes} {passes'} step = write-ends answer step.pass step.ticket i fresh fresh' passes passes' step.effect
 
   -- as a read ends
-  read-ends : (answer : Settled) (pass : Pass) (why : Fault) (content : List Sector) (i : ℕ) (passes passes' : List Pass) (out out' : List Sector) {n sectors : ℕ} {history history' : Numbered} → EndsRead answer pass why content i passes passes' history.log.entries history'.log.entries out out'
-      → Extends (read_numbers_of answer n) sectors history history' → last_number history.opened history.numbers ≤ n → length disk.log < n → IsStillSafe h base start disk history → IsStillSafe h base start disk history'
+  read-ends : (answer : Settled) (pass : Pass) (why : Fault) (content : List Sector) (i : ℕ) (passes passes' : List Pass) (out out' : List Sector) {n sectors : ℕ} {history history' : HistoryState} → EndsRead answer pass why content i passes passes' history.log.entries history'.log.entries out out'
+      → AddsEntries (read_numbers_of answer n) sectors history history' → last_number history.opened history.numbers ≤ n → length disk.log < n → IsStillSafe h base start disk history → IsStillSafe h base start disk history'
   read-ends Done pass why content i passes passes' out out' ends extends later late was = late-one _ extends ends.event later late was
   read-ends (NotYet same) pass why content i passes passes' out out' ends extends later late was = none-more extends ends.1 was
   read-ends (Failed number) pass why content i passes passes' out out' ends extends later late was = none-more extends ends.1 was
 
-  pub look-still : {answer : Settled} {i n last last' sectors : ℕ} {passes passes' : List Pass} {history history' : Numbered} {flies flies' : List Ticket → Type 0} {tells tells' : Type 0} {old new : Disk} {out out' : List Sector}
-      → LookSettled answer i passes passes' history.log.entries history'.log.entries flies flies' tells tells' old new last last' out out' → Extends (read_numbers_of answer n) sectors history history' → last_number history.opened history.numbers ≤ n → length disk.log < n
+  pub look-still : {answer : Settled} {i n last last' sectors : ℕ} {passes passes' : List Pass} {history history' : HistoryState} {flight flight' : List Ticket → Type 0} {tells tells' : Type 0} {old new : Disk} {out out' : List Sector}
+      → LookSettled answer i passes passes' history.log.entries history'.log.entries flight flight' tells tells' old new last last' out out' → AddsEntries (read_numbers_of answer n) sectors history history' → last_number history.opened history.numbers ≤ n → length disk.log < n
       → IsStillSafe h base start disk history → IsStillSafe h base start disk history'
   look-still {answer} {i} {passes = passes} {passes'} {out = out} {out'} step = read-ends answer step.pass (fault.Store step.ticket.number) step.content i passes passes' out out' step.effect
 
-  pub base_look-still : {answer : Settled} {shape : Shape} {i n sectors : ℕ} {passes passes' : List Pass} {history history' : Numbered} {flies flies' : List Ticket → Type 0} {tells : Type 0} {content out out' : List Sector}
-      → BaseLookSettled answer shape i passes passes' history.log.entries history'.log.entries flies flies' tells content out out' → Extends (read_numbers_of answer n) sectors history history' → last_number history.opened history.numbers ≤ n → length disk.log < n
+  pub base_look-still : {answer : Settled} {shape : Shape} {i n sectors : ℕ} {passes passes' : List Pass} {history history' : HistoryState} {flight flight' : List Ticket → Type 0} {tells : Type 0} {content out out' : List Sector}
+      → BaseLookSettled answer shape i passes passes' history.log.entries history'.log.entries flight flight' tells content out out' → AddsEntries (read_numbers_of answer n) sectors history history' → last_number history.opened history.numbers ≤ n → length disk.log < n
       → IsStillSafe h base start disk history → IsStillSafe h base start disk history'
   base_look-still {answer} {i = i} {passes = passes} {passes'} {out = out} {out'} step =
       read-ends answer step.pass (fault.Base step.ticket.number) (step.content ++ replicate (step.pass.piece - step.ticket.count) zero_sector) i passes passes' out out' step.effect
 
   -- as a request is asked, or answered at once
-  pub ask-still : {result : Option Answer} {request : Asked} {shape : Shape} {i events : ℕ} {table table' : Given} {passes passes' : List Pass} {history history' : Numbered} {spare spare' : Room} → AskEnds result request events i (asking shape table passes history spare) (asking shape table' passes' history' spare')
+  pub ask-still : {result : Option Answer} {request : Asked} {shape : Shape} {i events : ℕ} {table table' : TableState} {passes passes' : List Pass} {history history' : HistoryState} {spare spare' : Room} → AskEnds result request events i (ask_state shape table passes history spare) (ask_state shape table' passes' history' spare')
       → last_number history.opened history.numbers ≤ events → length disk.log < events → IsStillSafe h base start disk history → IsStillSafe h base start disk history'
   ask-still (inl none) later late was = subst (IsStillSafe h base start disk) (sym none.2.history_same) was
   ask-still (inr (inl full)) later late was = late-two _ _ full.3.extends full.3.asks.event later late was
@@ -151,7 +150,7 @@ module _ {header : Header} {S B : Type 0} {g : store.Ghosts S} {h : base.Ghosts 
   ]
 
   -- nothing of the store and the base has changed
-  pub stopped-same : {history history' : Numbered} → (g.records s → h.tells b → g.tells s ⊎ IsSafelyStopped g h header history s b) → history'.opened ≡ history.opened
+  pub stopped-same : {history history' : HistoryState} → (g.records s → h.tells b → g.tells s ⊎ IsSafelyStopped g h header history s b) → history'.opened ≡ history.opened
       → (length (g.disk s).log < g.events s → (start : List Sector) → IsStillSafe header (h.content b) start (g.disk s) history → IsStillSafe header (h.content b) start (g.disk s) history')
       → g.records s → h.tells b → g.tells s ⊎ IsSafelyStopped g h header history' s b
   stopped-same {history} {history'} was opened next recorded base_told = elim (was recorded base_told) [
@@ -164,7 +163,7 @@ module _ {header : Header} {S B : Type 0} {g : store.Ghosts S} {h : base.Ghosts 
   ]
 
   -- the base has had a call
-  pub stopped-here : {history : Numbered} {b' : B} → (g.records s → h.tells b → g.tells s ⊎ IsSafelyStopped g h header history s b) → KeepsBase h b b' → g.records s → h.tells b' → g.tells s ⊎ IsSafelyStopped g h header history s b'
+  pub stopped-here : {history : HistoryState} {b' : B} → (g.records s → h.tells b → g.tells s ⊎ IsSafelyStopped g h header history s b) → KeepsBase h b b' → g.records s → h.tells b' → g.tells s ⊎ IsSafelyStopped g h header history s b'
   stopped-here {history} {b'} was keeps recorded base_told = let content = keeps.telling.content base_told in elim (was recorded (keeps.telling.told_before base_told)) [
     | inl told ↦ inl told
     | inr before ↦ inr (record {
@@ -174,7 +173,7 @@ module _ {header : Header} {S B : Type 0} {g : store.Ghosts S} {h : base.Ghosts 
     })
   ]
 
-module _ {state : State} {k : Keeping} {flusher : Option ℕ} {passes : List Pass} {history : Numbered} {S B : Type 0} {sg : store.Ghosts S} {bg : base.Ghosts B} {the_store : S} {the_base : B}
+module _ {state : State} {k : KeeperState} {flusher : Option ℕ} {passes : List Pass} {history : HistoryState} {S B : Type 0} {sg : store.Ghosts S} {bg : base.Ghosts B} {the_store : S} {the_base : B}
     (safely : sg.tells the_store → bg.tells the_base → IsSafelyKept sg bg state k flusher passes history the_store the_base) (was : sg.records the_store → bg.tells the_base → (sg.tells the_store) ⊎ IsSafelyStopped sg bg state.header history the_store the_base) where
   -- whether it tells or has stopped, the history is crash safe by the log as it stands
   pub still-safe : sg.records the_store → bg.tells the_base → (start : List Sector) → IsStart (opening_at history.opened (sg.disk the_store)) (bg.content the_base) state.header start → WasSafe (opening_at history.opened (sg.disk the_store)) state.header → IsStillSafe state.header (bg.content the_base) start (sg.disk the_store) history
@@ -191,7 +190,7 @@ module _ {state : State} {k : Keeping} {flusher : Option ℕ} {passes : List Pas
   ]
 
   -- The store has had a call. If it has stopped, in it or before, its log stands as it stood.
-  pub stopped-on : {history' : Numbered} {the_store' : S} → (sg.records the_store' → (sg.records the_store)) → (sg.records the_store' → TellsOrStood (sg.tells the_store') (sg.events the_store') (sg.disk the_store) (sg.disk the_store')) → history'.opened ≡ history.opened
+  pub stopped-on : {history' : HistoryState} {the_store' : S} → (sg.records the_store' → (sg.records the_store)) → (sg.records the_store' → TellsOrStoppedSince (sg.tells the_store') (sg.events the_store') (sg.disk the_store) (sg.disk the_store')) → history'.opened ≡ history.opened
       → (length (sg.disk the_store).log < (sg.events the_store') → (start : List Sector) → IsStillSafe state.header (bg.content the_base) start (sg.disk the_store) history → IsStillSafe state.header (bg.content the_base) start (sg.disk the_store) history')
       → sg.records the_store' → bg.tells the_base → (sg.tells the_store') ⊎ IsSafelyStopped sg bg state.header history' the_store' the_base
   stopped-on {history'} {the_store'} recorded_before stands opened next recorded base_told = elim (stands recorded) [
@@ -201,12 +200,12 @@ module _ {state : State} {k : Keeping} {flusher : Option ℕ} {passes : List Pas
       safe = λ start is safe.
           let same = ap (λ (n : ℕ). opening_at n (sg.disk the_store')) opened ∙ opening-stood history.opened (sg.events the_store') (sg.disk the_store) (sg.disk the_store') stood in
           let late : length (sg.disk the_store).log < (sg.events the_store') = (let long = ap length stood.log in omega (arith, long, stood.stopped)) in
-          let before = still-safe (recorded_before recorded) base_told start (subst (λ (o : Opening). IsStart o (bg.content the_base) state.header start) same is) (subst (λ (o : Opening). WasSafe o state.header) same safe) in
+          let before = still-safe (recorded_before recorded) base_told start (subst (λ (o : ToldAtOpening). IsStart o (bg.content the_base) state.header start) same is) (subst (λ (o : ToldAtOpening). WasSafe o state.header) same safe) in
           as_before stood (next late start before);
     })
   ]
     where
-      as_before : {start : List Sector} → HasStood (sg.events the_store') (sg.disk the_store) (sg.disk the_store') → IsStillSafe state.header (bg.content the_base) start (sg.disk the_store) history' → IsStillSafe state.header (bg.content the_base) start (sg.disk the_store') history'
+      as_before : {start : List Sector} → StoppedSince (sg.events the_store') (sg.disk the_store) (sg.disk the_store') → IsStillSafe state.header (bg.content the_base) start (sg.disk the_store) history' → IsStillSafe state.header (bg.content the_base) start (sg.disk the_store') history'
       as_before {start} stood still = record {
         each = still.each;
         rising = still.rising;

@@ -7,7 +7,7 @@ use Rattle.vd_device.specs.declared.base.Base as base
 use Rattle.vd_law.specs.declared.entry.Sector.{Sector}
 use Rattle.vd_law.specs.declared.entry.Room.{Room}
 use Rattle.vd_law.specs.Entries.{Entry}
-use Rattle.vd_law.specs.Histories.{Numbered}
+use Rattle.vd_law.specs.Histories.{HistoryState}
 use Rattle.vd_format.specs.declared.header.Header.{Header}
 use Rattle.vd_format.specs.Layouts.{need_of}
 use Rattle.vd_regions.specs.declared.regions.Region.{Region}
@@ -17,19 +17,18 @@ use Rattle.vd_image.specs.Log.{Writes}
 use Rattle.vd_image.specs.Layouts.{layout_of}
 use Rattle.vd_image.specs.Decoders.{format_of}
 use Rattle.vd_image.specs.Image.{Geometry}
-use Rattle.vd_image.specs.CrashImages.{base_at, IsCrashImage}
+use Rattle.vd_image.specs.CrashImages.{IsCrashImage}
 use Rattle.vd_image.proofs.Logs.{writes_below}
-use Rattle.vd_crash.specs.CrashSafe.{IsCrashSafe}
-use Rattle.vd_reading.specs.Background.{zero_sector}
-use Rattle.vd_meta.specs.Keeping.{Keeping}
+use Rattle.vd_crash.specs.facts.CrashSafe.{IsCrashSafe}
+use Rattle.vd_keeper.specs.Keeping.{KeeperState}
 use Rattle.vd_passes.specs.declared.pass.Pass.{Pass}
-use Rattle.vd_safety.proofs.Opening.{zeros-same}
 use Rattle.vd_safety.specs.Held.{IsOpenAgain}
 use Rattle.vd_safety.proofs.Held.{held-sound}
 use Rattle.vd_safety.proofs.Words.{secured-safe}
 use Rattle.vd_core.specs.Start.{opening_at, IsStart, WasSafe}
-use Rattle.vd_core.specs.Kept.{IsKept, IsRecorded, IsSafelyKept}
+use Rattle.vd_core.specs.Kept.{IsSoundCore, MetadataAgrees, IsSafelyKept}
 use Rattle.vd_core.proofs.Securing.Carrying.{at-before}
+use Rattle.vd_format.specs.Background.{zero_sector, base_at}
 
 -- what is written early in a log is written in its first part
 written-early : (log : List Entry) (n i a : ℕ) (v : Sector) → i < n → Writes log i a v → Writes (take n log) i a v
@@ -42,7 +41,7 @@ written-early log n i a v early w =
       covers = w.covers;
     }
 
-module _ {state : State} {k : Keeping} {flusher : Option ℕ} {passes : List Pass} {history : Numbered} {S B : Type 0} {sg : store.Ghosts S} {bg : base.Ghosts B} {the_store : S} {the_base : B}
+module _ {state : State} {k : KeeperState} {flusher : Option ℕ} {passes : List Pass} {history : HistoryState} {S B : Type 0} {sg : store.Ghosts S} {bg : base.Ghosts B} {the_store : S} {the_base : B}
     (was : IsSafelyKept sg bg state k flusher passes history the_store the_base) (start : List Sector) (is : IsStart (opening_at history.opened (sg.disk the_store)) (bg.content the_base) state.header start) (safe : WasSafe (opening_at history.opened (sg.disk the_store)) state.header) where
   pub all-inside : (i a : ℕ) (v : Sector) → Writes (sg.disk the_store).log i a v → a < length (sg.disk the_store).start
   all-inside i a v w = elim (cases_lt i history.opened) [
@@ -53,15 +52,14 @@ module _ {state : State} {k : Keeping} {flusher : Option ℕ} {passes : List Pas
   pub safely-words : IsCrashSafe (format_of state.header) (layout_of state.header) (base_at zero_sector (bg.content the_base)) zero_sector (sg.disk the_store).start (sg.disk the_store).log start history
   safely-words =
       let secured = was.secured start is safe in
-      subst (λ (z : Sector). IsCrashSafe (format_of state.header) (layout_of state.header) (base_at z (bg.content the_base)) z (sg.disk the_store).start (sg.disk the_store).log start history) zeros-same
-      (secured-safe state.header state.map (sg.disk the_store).start secured.0 (bg.content the_base) start history.opened state.table state.fresh.bits k flusher passes history (sg.disk the_store).log secured.1 refl is.size all-inside)
+      secured-safe state.header state.map (sg.disk the_store).start secured.0 (bg.content the_base) start history.opened state.table state.fresh.bits k flusher passes history (sg.disk the_store).log secured.1 refl is.size all-inside
 
 -- a header with these numbers
 abbrev bare : Geometry → Header
 bare g = record { version = g.version; block = g.block; chunk = g.chunk; storage = g.storage; slots = g.slots; size = g.size; tracked = 0; generation = 0 }
 
-module _ {shape : Shape} {state : State} {regions : List (Option Region)} {passes : List Pass} {history : Numbered} {spare : Room} {S B : Type 0} {sg : store.Ghosts S} {bg : base.Ghosts B} {the_store : S} {the_base : B} {flusher : Option ℕ} {k : Keeping}
-    (kept : IsKept sg bg shape state regions passes history spare the_store the_base) (recorded : IsRecorded shape state passes flusher k)
+module _ {shape : Shape} {state : State} {regions : List (Option Region)} {passes : List Pass} {history : HistoryState} {spare : Room} {S B : Type 0} {sg : store.Ghosts S} {bg : base.Ghosts B} {the_store : S} {the_base : B} {flusher : Option ℕ} {k : KeeperState}
+    (kept : IsSoundCore sg bg shape state regions passes history spare the_store the_base) (recorded : MetadataAgrees shape state passes flusher k)
     (was : IsSafelyKept sg bg state k flusher passes history the_store the_base) (start : List Sector) (is : IsStart (opening_at history.opened (sg.disk the_store)) (bg.content the_base) state.header start) (safe : WasSafe (opening_at history.opened (sg.disk the_store)) state.header) where
   -- the image has its room in the store
   room : need_of state.header ≤ (sg.sectors the_store)

@@ -2,8 +2,8 @@ use Rattle.std.proofs.Common.{[], true, refl, ◌∙◌, ap, slice_set}
 use Rattle.vd_bits.specs.Blocks.{Blocks}
 use Rattle.vd_device.specs.declared.settled.Settled.TheVariants.{Done, NotYet, Failed}
 use Rattle.vd_passes.specs.declared.pass.Pass.{Pass}
-use Rattle.vd_passes.specs.Passes.{spent, after_piece}
-use Rattle.vd_meta.specs.Moves.{owing}
+use Rattle.vd_passes.specs.Passes.{after_spending, after_piece}
+use Rattle.vd_keeper.specs.Moves.{after_owe}
 use Rattle.vd_core.proofs.Picked.{read-there}
 use Rattle.vd_core.proofs.Ended.{set-there, put-back, write-failed, tells-nothing-read, extends-none, broke-entry, done-entry, nothing-long}
 use Rattle.vd_passes.proofs.Stopping.{takes-stood}
@@ -78,7 +78,7 @@ returns-in-Done-clause-settled g c =
         settles = ([], c.settle.new.out, done.settles);
         effect = (
           ap (λ (b : Blocks). b.bits) c.set.ensures ∙ ap (λ (x : Pass). slice_set c.args.fresh.now.bits x.block true) taken.rest,
-          ap (λ (x : Pass). slice_set c.args.passes.now.items c.args.pass x) (c.spend.ensures ∙ ap (spent 1 0) (c.end_piece.ensures ∙ ap after_piece taken.rest)),
+          ap (λ (x : Pass). slice_set c.args.passes.now.items c.args.pass x) (c.spend.ensures ∙ ap (after_spending 1 0) (c.end_piece.ensures ∙ ap after_piece taken.rest)),
           done-entry c.call_id-id.result c.args.pass q c.args.history.now.log.entries c.add.new.history.log.entries c.call_id-id.ensures.pass c.call_id-id.ensures.call c.add.ensures.entry,
         );
         told_before = done.takes.keeps.told_before;
@@ -86,7 +86,7 @@ returns-in-Done-clause-settled g c =
       },
       c.add.ensures.extends,
       done.cause,
-      (q, there, c.owe.ensures ∙ ap (λ (x : Pass). owing x.block c.args.keeper.now) taken.rest),
+      (q, there, c.owe.ensures ∙ ap (λ (x : Pass). after_owe x.block c.args.keeper.now) taken.rest),
     )
 
 pub returns-in-Done-clause-stopped : goal.returns-in-Done-clause-stopped

@@ -1,11 +1,11 @@
 use Rattle.std.proofs.Common.{◌≡◌, ◌+◌, ◌≤◌, ◌∙◌, ap, subst, List, length, replicate, slice_set}
 use Rattle.vd_law.specs.declared.entry.Sector.{Sector}
-use Rattle.vd_reading.specs.Background.{zero_sector}
 use Rattle.vd_passes.specs.declared.pass.Pass.{Pass}
 use Rattle.vd_passes.specs.Steps.{Sees}
 use Rattle.vd_core.proofs.Picked.{read-there, picked}
 use Rattle.vd_core.proofs.Seen.{with_part, part-long, sees-part, extends-part}
 use Rattle.vd_core.proofs.looking.see_zeros.Goals as goal
+use Rattle.vd_format.specs.Background.{zero_sector}
 
 pub returns : goal.returns
 returns g c =

@@ -1,10 +1,10 @@
 use Rattle.std.proofs.Common.{◌∙◌, sym, arith}
-use Rattle.vd_device.proofs.Flights.{put_flies, put_taken}
+use Rattle.vd_device.proofs.Flights.{put_flight, put_taken}
 use Rattle.vd_device.proofs.Keeping.{base-keeps-on}
 use Rattle.vd_device.proofs.now.read_base.Goals as goal
 
 pub wait-requires-clause-mine : goal.wait-requires-clause-mine
-wait-requires-clause-mine g c = put_flies _ _ _ _ c.requires.free.1 c.submit_read-ticket.ensures.flight
+wait-requires-clause-mine g c = put_flight _ _ _ _ c.requires.free.1 c.submit_read-ticket.ensures.flight
 
 pub returns-in-Done-clause-calls : goal.returns-in-Done-clause-calls
 returns-in-Done-clause-calls g c =

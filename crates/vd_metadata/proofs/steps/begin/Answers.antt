@@ -1,6 +1,6 @@
 use Rattle.std.proofs.Common.{◌∙◌, sym, ap, inl, refl, slice_set}
 use Rattle.std.proofs.lemmas.Bool.{not-true}
-use Rattle.vd_meta.specs.Moves.{is_worn}
+use Rattle.vd_keeper.specs.Moves.{is_worn_out}
 use Rattle.vd_passes.specs.declared.pass.Pass.{Pass}
 use Rattle.vd_metadata.proofs.Members.{read-there, picked}
 use Rattle.vd_metadata.proofs.Submitting.{numbered, flush-no-write, flush-told, flush-submits}
@@ -30,7 +30,7 @@ returns-clause-begun g c began shape =
       submits = flush-submits g.S.Store t c.args.store.now c.submit_flush-ticket.new.self got.kind (record { next = got.next; rises = got.rises; flight = got.flight; counts = got.counts; takes = got.takes });
       kind = got.kind;
       asked = ap (λ (x : Pass). x.phase) (sym same) ∙ at.2.0;
-      not_worn = not-true (is_worn c.args.route c.args.keeper.now) (sym known.worn);
+      not_worn = not-true (is_worn_out c.args.route c.args.keeper.now) (sym known.worn);
       after = known.begun refl;
     }
 

@@ -3,7 +3,7 @@ use Rattle.std.proofs.lemmas.Option.{slice_get_within}
 use Rattle.vd_format.specs.declared.header.Header.{Header}
 use Rattle.vd_format.specs.Layouts.{storage_start}
 use Rattle.vd_passes.specs.declared.pass.Pass.{Pass}
-use Rattle.vd_metadata.specs.Flushing.{put_at}
+use Rattle.vd_metadata.specs.Flushing.{place_of_put}
 use Rattle.vd_metadata.proofs.Members.{read-there, picked}
 use Rattle.vd_metadata.proofs.Places.{put-inside}
 use Rattle.vd_metadata.proofs.Submitting.{numbered, write-told, write-submits}
@@ -11,15 +11,15 @@ use Rattle.vd_metadata.proofs.steps.put.Given.{Over}
 use Rattle.vd_metadata.proofs.steps.put.Goals as goal
 use Rattle.vd_metadata.proofs.steps.put.Goals.{After-put-put, After-placed-at}
 
-below : (g : Over) (c : After-put-put g) → put_at c.args.keeper.now.header c.put-put.result < storage_start c.args.keeper.now.header
+below : (g : Over) (c : After-put-put g) → place_of_put c.args.keeper.now.header c.put-put.result < storage_start c.args.keeper.now.header
 below g c = put-inside c.args.table.now c.args.keeper.now c.put-put.new.self c.put-put.result c.header-header.ensures.kept c.requires.stage c.requires.due c.put-put.ensures.next
 
-place : (g : Over) (c : After-placed-at g) → c.placed-at.result.0 ≡ put_at c.args.keeper.now.header c.put-put.result
-place g c = c.placed-at.ensures.at ∙ ap (λ (h : Header). put_at h c.put-put.result) c.header-header.ensures.header
+place : (g : Over) (c : After-placed-at g) → c.placed-at.result.0 ≡ place_of_put c.args.keeper.now.header c.put-put.result
+place g c = c.placed-at.ensures.at ∙ ap (λ (h : Header). place_of_put h c.put-put.result) c.header-header.ensures.header
 
 pub placed-at-requires-clause-inside : goal.placed-at-requires-clause-inside
 placed-at-requires-clause-inside g c =
-    subst (λ (h : Header). put_at h c.put-put.result < storage_start h) (sym c.header-header.ensures.header) (below g (goal.at.placed-at-requires-clause-inside g c).After-put-put)
+    subst (λ (h : Header). place_of_put h c.put-put.result < storage_start h) (sym c.header-header.ensures.header) (below g (goal.at.placed-at-requires-clause-inside g c).After-put-put)
 
 pub submit_write-ticket-requires-clause-range : goal.submit_write-ticket-requires-clause-range
 submit_write-ticket-requires-clause-range g c =

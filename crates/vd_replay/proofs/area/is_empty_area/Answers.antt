@@ -2,8 +2,8 @@ use Rattle.std.proofs.Common.{ℕ, ◌≡◌, ap, ◌∙◌, arith, length, take
 use Rattle.std.proofs.lemmas.Result.{err_from_is_err_and}
 use Rattle.vd_format.specs.Layouts.{sectors_of}
 use Rattle.vd_replay.specs.Fresh.{are_empty}
-use Rattle.vd_reading.specs.Quiet.{sectors_from}
-use Rattle.vd_reading.proofs.QuietLaws.{reads_nothing, reads_twice, ready_again, fault_of_longer}
+use Rattle.vd_device.specs.Quiet.{sectors_from}
+use Rattle.vd_device.proofs.QuietLaws.{reads_nothing, reads_twice, ready_again, fault_of_longer}
 use Rattle.vd_replay.proofs.AreaLaws.{more_read, nothing_read}
 use Rattle.vd_replay.proofs.area.is_empty_area.Goals as goal
 

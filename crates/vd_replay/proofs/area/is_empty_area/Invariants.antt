@@ -1,5 +1,5 @@
 use Rattle.std.proofs.Common.{◌-◌, ◌≤◌}
-use Rattle.vd_reading.specs.Quiet.{OnlyReads}
+use Rattle.vd_device.specs.Quiet.{OnlyReads}
 use Rattle.vd_replay.specs.Looking.{IsEmptyPiece}
 use Rattle.vd_replay.proofs.area.is_empty_area.Given as goal
 

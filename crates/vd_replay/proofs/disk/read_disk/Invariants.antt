@@ -1,5 +1,5 @@
 use Rattle.std.proofs.Common.{◌-◌, ◌≤◌, ◌≡◌, length}
-use Rattle.vd_reading.specs.Quiet.{OnlyReads, OnlyReadsBase}
+use Rattle.vd_device.specs.Quiet.{OnlyReads, OnlyReadsBase}
 use Rattle.vd_replay.specs.Disks.{AreShown, HasLocal, HasOfBase}
 use Rattle.vd_replay.proofs.disk.read_disk.Given as goal
 

@@ -9,4 +9,4 @@ returns-in-Ok-read_background-clause-read g c told also =
 
 pub returns-in-Zeros-clause-read : goal.returns-in-Zeros-clause-read
 returns-in-Zeros-clause-read g c told also =
-    read_zeros (g.S.Store.disk c.args.store.now).held (g.B.Base.content c.args.base.now) c.args.tracked c.args.first (length c.args.out.now) c.args.source c.clear.new.out c.in-Zeros.is c.clear.ensures
+    read_zeros (g.S.Store.disk c.args.store.now).held (g.B.Base.content c.args.base.now) c.args.tracked c.args.first (length c.args.out.now) c.args.source c.clear.new.sectors c.in-Zeros.is c.clear.ensures

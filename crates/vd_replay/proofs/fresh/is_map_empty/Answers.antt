@@ -1,4 +1,4 @@
-use Rattle.vd_reading.proofs.QuietLaws.{reads_twice}
+use Rattle.vd_device.proofs.QuietLaws.{reads_twice}
 use Rattle.vd_replay.proofs.fresh.is_map_empty.Goals as goal
 
 pub returns-in_err-bits-clause-quiet : goal.returns-in_err-bits-clause-quiet

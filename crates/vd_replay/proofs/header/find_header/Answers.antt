@@ -1,6 +1,6 @@
 use Rattle.std.proofs.Common.{◌≡◌, ◌<◌, length, Ok, refl, ap, sym, ◌∙◌, arith}
 use Rattle.vd_format.specs.Headers.{header_of}
-use Rattle.vd_reading.proofs.QuietLaws.{reads_twice, ready_again, flush_first}
+use Rattle.vd_device.proofs.QuietLaws.{reads_twice, ready_again, flush_first}
 use Rattle.vd_replay.specs.Images.{image_of}
 use Rattle.vd_replay.proofs.FindingLaws.{no_sectors, first_sector, bad_header, found_header, not_found_header, valid_header, on_good}
 use Rattle.vd_replay.proofs.header.find_header.Given.{Over}

@@ -1,8 +1,8 @@
 use Rattle.std.proofs.Common.{ℕ, ◌+◌, ◌≡◌, List, length, take, ap, sym, ◌∙◌, subst, arith, length-take-le}
 use Rattle.std.specs.Prelude.{IfOk}
 use Rattle.vd_law.specs.declared.entry.Sector.{Sector}
-use Rattle.vd_reading.specs.Quiet.{sectors_from}
-use Rattle.vd_reading.proofs.QuietLaws.{reads_twice}
+use Rattle.vd_device.specs.Quiet.{sectors_from}
+use Rattle.vd_device.proofs.QuietLaws.{reads_twice}
 use Rattle.vd_replay.specs.Pages.{area_at}
 use Rattle.vd_replay.specs.Journal.{AreTaken, Replayed}
 use Rattle.vd_replay.proofs.PageLaws.{piece_at}

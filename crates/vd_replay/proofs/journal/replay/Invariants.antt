@@ -1,6 +1,6 @@
 use Rattle.std.proofs.Common.{◌-◌, ◌≤◌, ◌≡◌, length}
 use Rattle.std.specs.Prelude.{IfOk}
-use Rattle.vd_reading.specs.Quiet.{OnlyReads}
+use Rattle.vd_device.specs.Quiet.{OnlyReads}
 use Rattle.vd_replay.specs.Pages.{area_at}
 use Rattle.vd_replay.specs.Journal.{AreTaken, Replayed}
 use Rattle.vd_replay.proofs.journal.replay.Given as goal

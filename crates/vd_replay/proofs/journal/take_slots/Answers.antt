@@ -3,11 +3,11 @@ use Rattle.std.specs.Prelude.{slice_index_or}
 use Rattle.std.proofs.lemmas.List.{get_or_default}
 use Rattle.std.proofs.lemmas.Result.{err_from_is_err_and}
 use Rattle.vd_law.specs.declared.entry.Sector.{Sector}
-use Rattle.vd_image.specs.Made.{zero_sector}
 use Rattle.vd_replay.specs.Pages.{AreAt}
 use Rattle.vd_replay.specs.Journal.{AreReplayed}
 use Rattle.vd_replay.proofs.JournalLaws.{outside_further}
 use Rattle.vd_replay.proofs.journal.take_slots.Goals as goal
+use Rattle.vd_format.specs.Background.{zero_sector}
 
 at_slot : (slot index n : ℕ) (at : ℕ → Sector) (sectors : List Sector) (d : Sector) → n ≡ slot + index → index < length sectors → AreAt at slot sectors → at n ≡ slice_index_or sectors index d
 at_slot slot index n at sectors d is within each = ap at is ∙ each index within ∙ get_or_default sectors index zero_sector d within

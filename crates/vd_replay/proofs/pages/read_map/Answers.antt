@@ -1,8 +1,8 @@
 use Rattle.std.proofs.Common.{ℕ, ◌+◌, ◌≡◌, List, length, take, ap, sym, ◌∙◌, subst, arith, length-take-le}
 use Rattle.std.specs.Prelude.{OnOk}
 use Rattle.vd_law.specs.declared.entry.Sector.{Sector}
-use Rattle.vd_reading.specs.Quiet.{sectors_from}
-use Rattle.vd_reading.proofs.QuietLaws.{reads_twice}
+use Rattle.vd_device.specs.Quiet.{sectors_from}
+use Rattle.vd_device.proofs.QuietLaws.{reads_twice}
 use Rattle.vd_replay.specs.Pages.{area_at, chunks_in, AreEntries, Judged}
 use Rattle.vd_replay.proofs.PageLaws.{piece_at}
 use Rattle.vd_replay.proofs.pages.read_map.Goals as goal

@@ -1,6 +1,6 @@
 use Rattle.std.proofs.Common.{◌-◌, ◌≤◌, ◌≡◌, length}
 use Rattle.std.specs.Prelude.{OnOk}
-use Rattle.vd_reading.specs.Quiet.{OnlyReads}
+use Rattle.vd_device.specs.Quiet.{OnlyReads}
 use Rattle.vd_replay.specs.Pages.{area_at, chunks_in, Judged, AreEntries}
 use Rattle.vd_replay.proofs.pages.read_map.Given as goal
 

@@ -3,10 +3,10 @@ use Rattle.std.specs.Prelude.{min, slice_index_or}
 use Rattle.std.proofs.lemmas.List.{get_or_default}
 use Rattle.std.proofs.lemmas.Result.{err_from_is_err_and}
 use Rattle.vd_law.specs.declared.entry.Sector.{Sector}
-use Rattle.vd_image.specs.Made.{zero_sector}
 use Rattle.vd_replay.specs.Pages.{AreAt, AreRead, AreEntries}
 use Rattle.vd_replay.proofs.PageLaws.{judged_further}
 use Rattle.vd_replay.proofs.pages.take_pages.Goals as goal
+use Rattle.vd_format.specs.Background.{zero_sector}
 
 at_page : (page index : ℕ) (at : ℕ → Sector) (sectors : List Sector) (first : ℕ) (d : Sector) → first ≡ 32 * (page + index) → index < length sectors → AreAt at page sectors
     → at (first / 32) ≡ slice_index_or sectors index d

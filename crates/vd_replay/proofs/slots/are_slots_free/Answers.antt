@@ -1,8 +1,8 @@
 use Rattle.std.proofs.Common.{ℕ, ◌≡◌, ap, ◌∙◌, arith, length, take, length-take-le}
 use Rattle.std.proofs.lemmas.Result.{err_from_is_err_and}
 use Rattle.vd_replay.specs.Fresh.{none_counts}
-use Rattle.vd_reading.specs.Quiet.{sectors_from}
-use Rattle.vd_reading.proofs.QuietLaws.{reads_nothing, reads_twice, ready_again, fault_of_longer}
+use Rattle.vd_device.specs.Quiet.{sectors_from}
+use Rattle.vd_device.proofs.QuietLaws.{reads_nothing, reads_twice, ready_again, fault_of_longer}
 use Rattle.vd_replay.proofs.SlotLaws.{more_free, none_read}
 use Rattle.vd_replay.proofs.slots.are_slots_free.Goals as goal
 

@@ -1,5 +1,5 @@
 use Rattle.std.proofs.Common.{◌-◌, ◌≤◌}
-use Rattle.vd_reading.specs.Quiet.{OnlyReads}
+use Rattle.vd_device.specs.Quiet.{OnlyReads}
 use Rattle.vd_replay.specs.Looking.{IsFreePiece}
 use Rattle.vd_replay.proofs.slots.are_slots_free.Given as goal
 

@@ -1,5 +1,5 @@
 use Rattle.std.proofs.lemmas.Result.{err_from_is_err_and}
-use Rattle.vd_reading.proofs.QuietLaws.{reads_twice, flush_before, fault_of_longer}
+use Rattle.vd_device.proofs.QuietLaws.{reads_twice, flush_before, fault_of_longer}
 use Rattle.vd_replay.proofs.FindingLaws.{reading_fault}
 use Rattle.vd_replay.proofs.state.recover.Goals as goal
 

@@ -16,7 +16,7 @@ loop-at-preserved g c =
       told_before = λ told. c.loop-at.invariant.told_before (c.put_reply.ensures.told_before told);
       wrote = λ told. guest-going c.args.guest es c.loop-at.at _ (omega arith)
           (c.loop-at.invariant.wrote (c.put_reply.ensures.told_before told)) (c.in_ok-put_reply.ensures.writes told);
-      calm = omega arith;
+      no_fewer_faults = omega arith;
       range = omega arith;
       seen = rw (c.asked_after-asked.ensures.next (entry_at es c.loop-at.at) there)
           (seen-next c.args.guest es c.loop-at.asked c.loop-at.at (entry_at es c.loop-at.at) c.loop-at.invariant.range (omega arith) there c.loop-at.invariant.seen);

@@ -12,5 +12,5 @@ loop-at-preserved g c = record {
   told_before = λ told. c.loop-at.invariant.told_before (c.put_seen_at.ensures.told_before told);
   wrote = λ told. shown-going c.args.guest c.args.log.now.entries c.args.from c.loop-at.at _ (omega arith) (omega arith)
       (c.loop-at.invariant.wrote (c.put_seen_at.ensures.told_before told)) (c.in_ok-put_seen_at.ensures.writes told);
-  calm = omega arith;
+  no_fewer_faults = omega arith;
 }

@@ -11,5 +11,8 @@ returns-in-Make-clause-make c none = let making = c.in-Make.ensures in let asks 
 pub returns-in-Show : goal.returns-in-Show
 returns-in-Show c = record { some = tt; none = c.in-Show.ensures.2; make = tt }
 
+pub returns-in-Run : goal.returns-in-Run
+returns-in-Run c = record { some = tt; none = c.in-Run.ensures.1; make = tt }
+
 pub returns-in-Nothing : goal.returns-in-Nothing
 returns-in-Nothing c = record { some = tt; none = c.in-Nothing.ensures.1; make = tt }

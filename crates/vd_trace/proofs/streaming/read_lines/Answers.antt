@@ -1,7 +1,7 @@
 use Rattle.std.proofs.Common.{arith, ◌≡◌, ◌<◌, ◌++◌, [], ◌∷◌, List, ℕ, length, subst, sym, ◌∙◌}
 use Rattle.std.proofs.lemmas.Result.{err_from_is_err_and, MatchResult-weaker}
 use Rattle.std.specs.Str.Lines.{lines}
-use Rattle.vd_trace.specs.Keeping.{IsRead}
+use Rattle.vd_trace.specs.Keeping.{HasReadLines}
 use Rattle.vd_trace.specs.Streaming.{EndsBy}
 use Rattle.vd_trace.proofs.Readings.{stops-ends, all-read, last-left, no-source}
 use Rattle.vd_trace.proofs.streaming.read_lines.Goals as goal
@@ -40,7 +40,7 @@ returns-clause-reads g c = λ told.
     let some : 0 < length c.step.new.window = omega (arith, c.len.ensures.value, c.if-len-eq0.false) in
     let whole : all ≡ stands.done ++ c.bytes.result.now ∷ [] =
     rw c.bytes.ensures (last-left all (g.I.Source.tells c.step.new.source) c.step.new.window (g.I.Source.rest c.step.new.source) c.step.new.draft stands told (ended.1 told) ended.0 some) in
-    MatchResult-weaker c.take.result (c.take.ensures.reads stands.done stands.read) (λ u read. subst (λ (done : List (List ℕ)). IsRead done c.take.new.draft) (sym whole) read)
+    MatchResult-weaker c.take.result (c.take.ensures.reads stands.done stands.read) (λ u read. subst (λ (done : List (List ℕ)). HasReadLines done c.take.new.draft) (sym whole) read)
     (λ e stops. subst (λ (n : ℕ). EndsBy n all (g.I.Source.tells c.step.new.source) e) (c.in_ok-step.ensures.guests ∙ c.pieces.invariant.guests)
     (stops-ends c.step.new.draft.guests all stands.done c.bytes.result.now [] (g.I.Source.tells c.step.new.source) e (λ now. whole) stops))
 

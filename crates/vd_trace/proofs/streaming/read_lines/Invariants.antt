@@ -8,7 +8,7 @@ invariant-pieces g l = record {
   stands : StandsAt (lines (g.I.Source.rest l.initial.source)) (g.I.Source.tells l.source) (l.window ++ g.I.Source.rest l.source) l.draft;
   guests : l.draft.guests ≡ l.initial.draft.guests;
   told_before : g.I.Source.tells l.source → g.I.Source.tells l.initial.source;
-  calm : g.I.Source.faults l.initial.source ≤ g.I.Source.faults l.source;
+  no_fewer_faults : g.I.Source.faults l.initial.source ≤ g.I.Source.faults l.source;
 }
 
 abbrev pub decreases-pieces : goal.decreases-pieces

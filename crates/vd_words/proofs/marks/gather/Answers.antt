@@ -1,7 +1,7 @@
 use Rattle.std.proofs.Common.{rules, arith, ◌≡◌, [], ap, ◌∙◌, Some}
 use Rattle.std.proofs.lemmas.List.Elements.{All-pop}
 use Rattle.vd_words.specs.Rule.{view, both}
-use Rattle.vd_words.specs.Counts.{times, past, times_seen}
+use Rattle.vd_words.specs.Counts.{times, count_past, times_seen}
 use Rattle.vd_words.specs.Values.{ScanValue}
 use Rattle.vd_words.proofs.Keeps.{joins}
 use Rattle.vd_words.proofs.Gathering.{parts_taken, marked_taken, drawn_taken, looked_taken, ended_taken}
@@ -40,7 +40,7 @@ loop-scan-preserved c =
       ended = λ limit all.
           let had = inv.ended limit all in
           let t = ended_taken v w items rest c.in-Some.scan is last limit c.into_seat.ensures.ended had.0 in
-          let n = ap (λ u. past limit u.drawn) now in
+          let n = ap (λ u. count_past limit u.drawn) now in
           let before = had.1 in
           let step = t.1 in
           (t.0, omega arith);

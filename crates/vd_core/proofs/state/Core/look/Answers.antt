@@ -2,11 +2,11 @@ use Rattle.std.proofs.Common.{◌≡◌, ◌+◌, ◌<◌, sym, refl, ap, [], �
 use Rattle.vd_passes.specs.declared.pass.Pass.{Pass}
 use Rattle.vd_passes.specs.declared.pass.Phase.TheVariants.{Held}
 use Rattle.vd_passes.specs.Causes.{OfStore, OfBase}
-use Rattle.vd_passes.specs.Laying.{below}
+use Rattle.vd_passes.specs.Laying.{count_below}
 use Rattle.vd_passes.proofs.Regions.{region-of}
 use Rattle.vd_passes.proofs.BlamingSteps.{looks-base_numbered, base_looks-store_numbered, sees-numbered}
 use Rattle.vd_device.proofs.Keeping.{keeps-same, base-keeps-same}
-use Rattle.vd_core.specs.Adding.{Extends}
+use Rattle.vd_core.specs.Adding.{AddsEntries}
 use Rattle.vd_core.specs.Looking.{IsReader}
 use Rattle.vd_core.proofs.Picked.{read-there, at-same}
 use Rattle.vd_core.proofs.Views.{same-history, same-store, same-base}
@@ -44,14 +44,14 @@ pub look_in_base-requires : goal.look_in_base-requires
 look_in_base-requires g c =
     let at = rw (sym c.self.view_is) at c.requires.phase in let q = c.index-p.result.now in let passes = c.self.inside.passes.items in
     let there = read-there passes c.args.pass at.0 q at.1 c.index-p.ensures in
-    let some : 0 < below c.self.inside.shape.limit (q.first + q.done) q.piece = (let more = c.if-count-gt0.true in let count = c.below-count.ensures in omega (arith, more, count)) in
+    let some : 0 < count_below c.self.inside.shape.limit (q.first + q.done) q.piece = (let more = c.if-count-gt0.true in let count = c.below-count.ensures in omega (arith, more, count)) in
     rw (sym c.self.view_is) (record { phase = (q, there, (at-same passes c.args.pass at.0 q IsReader at.1 there at.2.0, c.if-get.ensures, some)) })
 
 pub look_at_zeros-requires : goal.look_at_zeros-requires
 look_at_zeros-requires g c =
     let at = rw (sym c.self.view_is) at c.requires.phase in let q = c.index-p.result.now in let passes = c.self.inside.passes.items in
     let there = read-there passes c.args.pass at.0 q at.1 c.index-p.ensures in
-    let none : below c.self.inside.shape.limit (q.first + q.done) q.piece ≡ 0 = (let more = c.if-count-gt0.false in let count = c.below-count.ensures in omega (arith, more, count)) in
+    let none : count_below c.self.inside.shape.limit (q.first + q.done) q.piece ≡ 0 = (let more = c.if-count-gt0.false in let count = c.below-count.ensures in omega (arith, more, count)) in
     let long = at-same passes c.args.pass at.0 q (λ (p : Pass). p.count ≡ length c.args.out.now) at.1 there at.2.1 in
     rw (sym c.self.view_is) (record { phase = (q, there, (at-same passes c.args.pass at.0 q IsReader at.1 there at.2.0, c.if-get.ensures, none, long)) })
 
@@ -67,10 +67,10 @@ pub returns-then-count-gt0-clause-looks : goal.returns-then-count-gt0-clause-loo
 returns-then-count-gt0-clause-looks g c =
     let at = rw (sym c.self.view_is) at c.requires.phase in let q = c.index-p.result.now in let passes = c.self.inside.passes.items in
     let there = read-there passes c.args.pass at.0 q at.1 c.index-p.ensures in
-    let some : 0 < below c.self.inside.shape.limit (q.first + q.done) q.piece = (let more = c.if-count-gt0.true in let count = c.below-count.ensures in omega (arith, more, count)) in
+    let some : 0 < count_below c.self.inside.shape.limit (q.first + q.done) q.piece = (let more = c.if-count-gt0.true in let count = c.below-count.ensures in omega (arith, more, count)) in
     let step = rw (sym c.self.view_is) at c.look_in_base.ensures.looks in
     let absent = at-same passes c.args.pass q step.pass (λ (p : Pass). slice_get c.self.inside.state.fresh.bits p.block ≡ Some false) there step.there c.if-get.ensures in
-    let has = at-same passes c.args.pass q step.pass (λ (p : Pass). 0 < below c.self.inside.shape.limit (p.first + p.done) p.piece) there step.there some in
+    let has = at-same passes c.args.pass q step.pass (λ (p : Pass). 0 < count_below c.self.inside.shape.limit (p.first + p.done) p.piece) there step.there some in
     rw (sym c.self.view_is) (inr (inl (step, absent, has, same-history (rw (sym c.self.view_is) at c.look_in_base.ensures.others), refl)))
 
 pub returns-else-count-gt0-clause-looks : goal.returns-else-count-gt0-clause-looks
@@ -79,7 +79,7 @@ returns-else-count-gt0-clause-looks g c =
     let there = read-there passes c.args.pass at.0 q at.1 c.index-p.ensures in
     let step = rw (sym c.self.view_is) at c.look_at_zeros.ensures.sees in let extends = rw (sym c.self.view_is) at c.look_at_zeros.ensures.extends in
     let absent = at-same passes c.args.pass q step.pass (λ (p : Pass). slice_get c.self.inside.state.fresh.bits p.block ≡ Some false) there step.there c.if-get.ensures in
-    let told = at-same passes c.args.pass extends.0 step.pass (λ (p : Pass). Extends (g.S.Store.events c.self.inside.store ∷ []) p.piece c.self.inside.history c.look_at_zeros.new.self.history) extends.1 step.there extends.2 in
+    let told = at-same passes c.args.pass extends.0 step.pass (λ (p : Pass). AddsEntries (g.S.Store.events c.self.inside.store ∷ []) p.piece c.self.inside.history c.look_at_zeros.new.self.history) extends.1 step.there extends.2 in
     rw (sym c.self.view_is) (inr (inr (step, absent, told)))
 
 pub returns-then-get-clause-base_number : goal.returns-then-get-clause-base_number

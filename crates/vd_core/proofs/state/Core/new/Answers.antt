@@ -1,7 +1,7 @@
 use Rattle.std.proofs.Common.{◌∙◌, ℕ, ◌<◌, ◌≤◌, ◌≡◌, ◌^◌, sym, ap, subst, arith}
 use Rattle.vd_passes.specs.declared.shape.Shape.{Shape}
 use Rattle.vd_replay.proofs.Starting.{whole-given}
-use Rattle.vd_core.specs.Opening.{AreNew, shape_of, empty_history}
+use Rattle.vd_core.specs.Opening.{AreNew, disk_shape, empty_history}
 use Rattle.vd_core.proofs.Keeping.Accounting.{opened-accounted}
 use Rattle.vd_core.proofs.Local.{new-local}
 use Rattle.vd_core.proofs.Keeping.Opening.{opened-kept}
@@ -24,7 +24,7 @@ invariant_of-result g c =
     let still = λ (recorded : g.S.Store.records x). subst (λ (n : ℕ). TellsOrStopped (g.S.Store.tells x) n (g.S.Store.disk x)) c.events.ensures.value (c.events.ensures.stopped recorded) in
     let all = λ (told : g.S.Store.tells x). sym c.events.ensures.value ∙ c.events.ensures.running told in
     opened-parts g.S.Store g.B.Base x y s c.in-Ok-new_passes.passes.items c.args.passes c.args.room c.faults-store_faults.result c.faults-base_faults.result
-    (c.shape_of-shape.ensures ∙ ap (λ (n : ℕ). shape_of s.header n) c.sectors-2.ensures.value) parts.keeper parts.regions (parts.history ∙ ap (λ (n : ℕ). empty_history c.args.room n) c.events.ensures.value) c.room_of-spare.ensures.room (
+    (c.shape_of-shape.ensures ∙ ap (λ (n : ℕ). disk_shape s.header n) c.sectors-2.ensures.value) parts.keeper parts.regions (parts.history ∙ ap (λ (n : ℕ). empty_history c.args.room n) c.events.ensures.value) c.room_of-spare.ensures.room (
       opened-kept g.S.Store g.B.Base x y s whole c.in-Ok-new_passes.passes.items c.args.passes c.args.room
           c.requires.fits (bounded-by _ _ c.sectors.ensures.value c.sectors.type_inv) (deep-by _ _ c.depth.ensures.value c.depth.ensures.enough) (deep-by _ _ c.depth-2.ensures.value c.depth-2.ensures.enough)
           c.requires.idle c.requires.base_idle c.requires.most new c.room_of-spare.ensures.bounded,

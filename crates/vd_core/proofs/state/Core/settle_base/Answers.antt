@@ -1,7 +1,7 @@
 use Rattle.std.proofs.Common.{sym, ap, ◌∙◌}
 use Rattle.vd_passes.proofs.TracingSteps.{base_look_settled-followed}
 use Rattle.vd_metadata.specs.declared.outcome.Outcome.{Outcome}
-use Rattle.vd_core.specs.Outcomes.{released}
+use Rattle.vd_core.specs.Outcomes.{regions_after_end}
 use Rattle.vd_core.proofs.Keeping.Accounting.{settle_base_look-accounted}
 use Rattle.vd_core.proofs.Keeping.Devices.{region-within}
 use Rattle.vd_core.proofs.Keeping.Seeing.{waiting-for-base-look, settle_base_look-kept, settle_base_look-told}
@@ -24,7 +24,7 @@ release-requires g c =
 pub invariant_of-self : goal.invariant_of-self
 invariant_of-self g c =
     let at = rw (sym c.self.view_is) at c.requires.phase in let done = c.settle_base_look-outcome.ensures in
-    let after = c.release.ensures.regions ∙ ap (λ (o : Outcome). released o c.args.pass c.self.inside.regions) done.settled.1 in (
+    let after = c.release.ensures.regions ∙ ap (λ (o : Outcome). regions_after_end o c.args.pass c.self.inside.regions) done.settled.1 in (
       settle_base_look-kept c.self.invariant.0 c.args.pass (at.0, at.1, at.2.0) done.settled.2 done.keeps done.settled.3 after,
       settle_base_look-told c.self.invariant.0 c.args.pass (at.0, at.1, at.2.0) done.settled.2 done.keeps done.settled.3.2.opened c.self.invariant.1,
       settle_base_look-accounted c.self.invariant.0.coherent c.self.invariant.2 c.args.pass (g.B.Base.late c.self.inside.base) (g.B.Base.late c.settle_base_look-outcome.new.base) done.settled.2 done.number done.settled.4,

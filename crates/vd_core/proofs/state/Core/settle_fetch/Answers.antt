@@ -1,7 +1,7 @@
 use Rattle.std.proofs.Common.{sym, refl, ap, ◌∙◌}
 use Rattle.vd_passes.proofs.TracingSteps.{fetch_settled-followed}
 use Rattle.vd_metadata.specs.declared.outcome.Outcome.{Outcome}
-use Rattle.vd_core.specs.Outcomes.{released_failed}
+use Rattle.vd_core.specs.Outcomes.{regions_after_failure}
 use Rattle.vd_core.proofs.Keeping.Accounting.{settle_fetch-accounted}
 use Rattle.vd_core.proofs.Keeping.Devices.{region-within}
 use Rattle.vd_core.proofs.Keeping.Fetching.{waiting-block, settle_fetch-kept, settle_fetch-told}
@@ -24,7 +24,7 @@ release_failed-requires g c =
 pub invariant_of-self : goal.invariant_of-self
 invariant_of-self g c =
     let at = rw (sym c.self.view_is) at c.requires.phase in let done = c.settle_block-outcome.ensures in
-    let released = c.release_failed.ensures.regions ∙ ap (λ (o : Outcome). released_failed o c.args.pass c.self.inside.regions) done.settled.1 in (
+    let released = c.release_failed.ensures.regions ∙ ap (λ (o : Outcome). regions_after_failure o c.args.pass c.self.inside.regions) done.settled.1 in (
       settle_fetch-kept c.self.invariant.0 c.args.pass at done.settled.2 done.keeps c.release_failed.new.regions released,
       settle_fetch-told c.self.invariant.0 c.args.pass at done.settled.2 done.keeps c.self.invariant.1,
       settle_fetch-accounted c.self.invariant.2 c.args.pass (g.B.Base.late c.self.inside.base) (g.B.Base.late c.settle_block-outcome.new.base) done.settled.2 done.number done.settled.3,

@@ -1,7 +1,7 @@
 use Rattle.std.proofs.Common.{sym, ap, ◌∙◌}
 use Rattle.vd_passes.proofs.TracingSteps.{write_settled-followed}
 use Rattle.vd_metadata.specs.declared.outcome.Outcome.{Outcome}
-use Rattle.vd_core.specs.Outcomes.{released}
+use Rattle.vd_core.specs.Outcomes.{regions_after_end}
 use Rattle.vd_core.proofs.Keeping.Accounting.{settle_issue-accounted}
 use Rattle.vd_core.proofs.Keeping.Devices.{region-within}
 use Rattle.vd_core.proofs.Keeping.Settling.{waiting-issue, can-end, settled-block, settle_issue-kept, settle_issue-told}
@@ -30,7 +30,7 @@ release-requires g c =
 pub invariant_of-self : goal.invariant_of-self
 invariant_of-self g c =
     let at = rw (sym c.self.view_is) at c.requires.phase in let done = c.settle_write-outcome.ensures in let settled = done.settled in
-    let regions = c.release.ensures.regions ∙ ap (λ (o : Outcome). released o c.args.pass c.self.inside.regions) done.settled.1 in (
+    let regions = c.release.ensures.regions ∙ ap (λ (o : Outcome). regions_after_end o c.args.pass c.self.inside.regions) done.settled.1 in (
       settle_issue-kept c.self.invariant.0 c.args.pass at settled.2 settled.3 done.keeps regions,
       settle_issue-told c.self.invariant.0 c.args.pass at settled.2 settled.3.opened c.self.invariant.3 c.self.invariant.1,
       settle_issue-accounted c.self.invariant.0.coherent c.self.invariant.2 c.args.pass (g.S.Store.late c.self.inside.store) (g.S.Store.late c.settle_write-outcome.new.store) at settled.2 settled.4,

@@ -1,6 +1,6 @@
 use Rattle.std.proofs.Common.{not, sym, refl, ap, ◌∙◌}
 use Rattle.vd_device.specs.Calls.{settled_of}
-use Rattle.vd_mem.specs.BaseMemory.{BaseMemory, FliesBase}
+use Rattle.vd_mem.specs.BaseState.{MemBaseState, FliesBase}
 use Rattle.vd_mem.specs.BaseFields.{base_of}
 use Rattle.vd_mem.proofs.Bases.{base-takes, base-mine, base-reads, base-gives}
 use Rattle.vd_mem.proofs.Ending.{answer-settles}
@@ -14,10 +14,10 @@ pub give-requires-clause-room : goal.give-requires-clause-room
 give-requires-clause-room c =
     let mine = rw (sym c.self.view_is) at c.requires.mine in c.requires.room ∙ base-reads (base_of c.self.inside) c.args.ticket mine
 
-abbrev before : goal.After-answer → BaseMemory
+abbrev before : goal.After-answer → MemBaseState
 before c = base_of c.self.inside
 
-abbrev after : goal.After-answer → BaseMemory
+abbrev after : goal.After-answer → MemBaseState
 after c = record {
   content = c.self.inside.content.items;
   rules = c.end.new.self.rules;

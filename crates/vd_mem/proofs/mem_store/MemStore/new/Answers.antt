@@ -1,8 +1,8 @@
 use Rattle.std.proofs.Common.{length, ◌∙◌, ap}
 use Rattle.vd_mem.specs.StoreFields.{memory_of}
 use Rattle.vd_mem.proofs.Beginning.{sound-first}
-use Rattle.vd_mem.proofs.Tracing.{traced-nothing}
 use Rattle.vd_mem.proofs.mem_store.MemStore.new.Goals as goal
+use Rattle.vd_faults.proofs.Origins.{traced-nothing}
 
 pub invariant_of-result : goal.invariant_of-result
 invariant_of-result c =

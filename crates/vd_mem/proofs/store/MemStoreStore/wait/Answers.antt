@@ -4,12 +4,12 @@ use Rattle.vd_device.specs.declared.ticket.Kind.TheVariants.{Read}
 use Rattle.vd_device.specs.Calls.{settled_of, settle_entries, Gives}
 use Rattle.vd_device.specs.Disks.{HasStopped}
 use Rattle.vd_device.specs.Stores.{StoreTakes}
-use Rattle.vd_mem.specs.Tapes.{events_of}
-use Rattle.vd_mem.specs.Memory.{Memory, Runs, disk_of, ended_by, can_add, is_done, last_entry}
+use Rattle.vd_faults.specs.Tapes.{events_of}
+use Rattle.vd_mem.specs.StoreState.{MemStoreState, StillRuns, disk_of, ended_by, can_add, is_done, last_entry}
 use Rattle.vd_mem.specs.Flying.{Flies}
-use Rattle.vd_mem.specs.Sound.{IsSound}
+use Rattle.vd_mem.specs.Sound.{IsSoundMemStore}
 use Rattle.vd_mem.specs.Devices.{mem_store}
-use Rattle.vd_mem.specs.Traced.{IsTraced}
+use Rattle.vd_faults.specs.Traced.{IsTracedTape}
 use Rattle.vd_mem.specs.StoreFields.{memory_of}
 use Rattle.vd_mem.proofs.Taking.{takes}
 use Rattle.vd_mem.proofs.Ending.{end-placed, end-within, end-few, end-takes, end-took, end-full, end-grows, end-sound, answered, read_by, answer-settles, answer-caused, answer-gives, answer-entries, few-entries, answer-undone}
@@ -32,16 +32,16 @@ end-done-requires-clause-placed c =
     let mine = rw (sym c.self.view_is) at c.requires.mine in
     end-placed (memory_of c.self.inside) c.args.ticket c.fault-fault.result c.self.invariant.sound mine.0 mine.1 mine.2 mine.3
 
-abbrev before : goal.After-answer → Memory
+abbrev before : goal.After-answer → MemStoreState
 before c = memory_of c.self.inside
 
-abbrev after : goal.After-answer → Memory
+abbrev after : goal.After-answer → MemStoreState
 after c = memory c.self.inside.start.items c.end-done.new.held.items c.end-done.new.tape c.end.new.self
 
 abbrev can : goal.After-answer → Bool
 can c = can_add (before c) (last_entry c.fault-fault.result c.args.ticket c.self.inside.held.items)
 
-abbrev ended : goal.After-answer → Memory
+abbrev ended : goal.After-answer → MemStoreState
 ended c = ended_by c.fault-fault.result c.args.ticket (before c)
 
 is : (c : goal.After-answer) → after c ≡ ended_by c.fault-fault.result c.args.ticket (before c)
@@ -52,8 +52,8 @@ pub invariant_of-self : goal.invariant_of-self
 invariant_of-self c =
     let mine = rw (sym c.self.view_is) at c.requires.mine in
     record {
-      sound = subst IsSound (sym (is c)) (end-sound (before c) c.args.ticket c.fault-fault.result c.self.invariant.sound mine.0 mine.1 mine.2 mine.3 (subst (λ (m : Memory). length m.log.entries < 2 ^ 63) (is c) c.end-done.ensures.short));
-      traced = subst (IsTraced (length c.self.inside.start.items)) (sym c.end-done.ensures.tape)
+      sound = subst IsSoundMemStore (sym (is c)) (end-sound (before c) c.args.ticket c.fault-fault.result c.self.invariant.sound mine.0 mine.1 mine.2 mine.3 (subst (λ (m : MemStoreState). length m.log.entries < 2 ^ 63) (is c) c.end-done.ensures.short));
+      traced = subst (IsTracedTape (length c.self.inside.start.items)) (sym c.end-done.ensures.tape)
           (end-traced (before c) c.args.ticket c.fault-fault.result c.self.inside.held.items c.self.inside.tape mine.0 mine.1 mine.2 mine.3 refl refl c.self.invariant.traced);
       scratch = c.self.invariant.scratch;
     }
@@ -61,7 +61,7 @@ invariant_of-self c =
 pub returns-clause-settles : goal.returns-clause-settles
 returns-clause-settles c =
     rw (sym c.self.view_is) (answer-settles c.end-done.result (settled_of c.answer.result) c.spend.result c.args.ticket c.args.out.now c.end-done.new.out (Flies (before c)) (Flies (after c)) c.answer.ensures c.spend.ensures c.end-done.ensures.unread
-    (subst (λ (m : Memory). Takes c.args.ticket (Flies (before c)) (Flies m)) (sym (is c)) (end-takes (before c) c.args.ticket c.fault-fault.result c.self.invariant.sound)))
+    (subst (λ (m : MemStoreState). Takes c.args.ticket (Flies (before c)) (Flies m)) (sym (is c)) (end-takes (before c) c.args.ticket c.fault-fault.result c.self.invariant.sound)))
 
 pub returns-clause-cause : goal.returns-clause-cause
 returns-clause-cause c =
@@ -78,7 +78,7 @@ pub returns-clause-takes : goal.returns-clause-takes
 returns-clause-takes c =
     let mine = rw (sym c.self.view_is) at c.requires.mine in let answer = settled_of c.answer.result in
     let es = settle_entries answer c.args.ticket c.end-done.new.out in
-    rw (sym c.self.view_is) (subst (λ (m : Memory). StoreTakes mem_store es (before c) m) (sym (is c))
+    rw (sym c.self.view_is) (subst (λ (m : MemStoreState). StoreTakes mem_store es (before c) m) (sym (is c))
     (takes es (before c) (ended c) (few-entries answer c.args.ticket c.end-done.new.out) c.self.invariant.sound.short
     (end-took (before c) c.args.ticket c.fault-fault.result c.self.invariant.sound mine.0 mine.1 mine.2 mine.3 es
     (answer-entries c.fault-fault.result (can c) answer c.spend.result c.args.ticket c.self.inside.held.items c.end-done.new.out (is-answer c) (was-read c)))))
@@ -86,11 +86,11 @@ returns-clause-takes c =
 pub returns-clause-gives : goal.returns-clause-gives
 returns-clause-gives c runs =
     let mine = rw (sym c.self.view_is) at c.requires.mine in
-    let grows = end-grows (before c) c.args.ticket c.fault-fault.result c.self.invariant.sound mine.0 mine.1 mine.2 mine.3 (subst Runs (is c) runs) in
-    subst (λ (m : Memory). Gives (settled_of c.answer.result) c.args.ticket c.end-done.new.out m.held) (sym (is c))
+    let grows = end-grows (before c) c.args.ticket c.fault-fault.result c.self.invariant.sound mine.0 mine.1 mine.2 mine.3 (subst StillRuns (is c) runs) in
+    subst (λ (m : MemStoreState). Gives (settled_of c.answer.result) c.args.ticket c.end-done.new.out m.held) (sym (is c))
     (answer-gives c.fault-fault.result (can c) (settled_of c.answer.result) c.spend.result c.args.ticket (disk_of (before c)) (disk_of (ended c)) c.end-done.new.out (is-answer c) grows.0 grows.2 (was-read c))
 
 pub returns-clause-undone : goal.returns-clause-undone
 returns-clause-undone c stopped =
     answer-undone c.fault-fault.result (can c) (settled_of c.answer.result) c.spend.result (is-answer c)
-    (end-full (before c) c.args.ticket c.fault-fault.result c.self.invariant.sound (subst (λ (m : Memory). HasStopped (events_of m.log m.over) (disk_of m)) (is c) stopped))
+    (end-full (before c) c.args.ticket c.fault-fault.result c.self.invariant.sound (subst (λ (m : MemStoreState). HasStopped (events_of m.log m.over) (disk_of m)) (is c) stopped))

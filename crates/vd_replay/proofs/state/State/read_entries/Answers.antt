@@ -1,4 +1,4 @@
-use Rattle.vd_reading.proofs.QuietLaws.{reads_twice}
+use Rattle.vd_device.proofs.QuietLaws.{reads_twice}
 use Rattle.vd_replay.proofs.FillingLaws.{bad_entry_read, bad_record_read}
 use Rattle.vd_replay.proofs.state.State.read_entries.Goals as goal
 

@@ -1,5 +1,5 @@
 use Rattle.std.proofs.Common.{true, ap, ◌∙◌}
-use Rattle.vd_reading.proofs.QuietLaws.{reads_twice}
+use Rattle.vd_device.proofs.QuietLaws.{reads_twice}
 use Rattle.vd_replay.proofs.FillingLaws.{sized_again, same_geometry, found_again, says_found}
 use Rattle.vd_image.specs.Image.{Header, geometry_of}
 use Rattle.vd_replay.proofs.state.State.reload.Goals as goal

@@ -5,7 +5,7 @@ use Rattle.vd_law.specs.declared.entry.Sector.{Sector}
 use Rattle.vd_trace.specs.declared.kept.Item.{Item}
 use Rattle.vd_trace.specs.Traces.{script}
 use Rattle.vd_trace.specs.TraceFields.{script_in}
-use Rattle.vd_trace.specs.Keeping.{IsStored, sectors_in}
+use Rattle.vd_trace.specs.Keeping.{HasSectorAmong, sectors_in}
 use Rattle.vd_trace.proofs.Requests.{IsPlaced}
 use Rattle.vd_trace.proofs.Found.{guest-of, place-of, item-of, some-of, handed-out, request-ranged}
 use Rattle.vd_trace.proofs.trace.Trace.request.Goals as goal
@@ -37,10 +37,10 @@ index-requires-2 c = let inside = (placed c).inside in omega (arith, inside, c.s
 pub hand_out-requires-clause-stored : goal.hand_out-requires-clause-stored
 hand_out-requires-clause-stored c =
     let sectors = c.self.inside.sectors.items in
-    let kept : IsStored (length sectors) c.index-2.result.now.work = subst (λ (i : Item). IsStored (length sectors) i.work) (sym c.index-2.ensures)
-    (All-get_or (λ (i : Item). IsStored (length sectors) i.work) c.self.inside.items.items c.index-place.result.now c.index-2.result.now (item-of c.self.inside c.args.guest c.args.at c.self.invariant (some-of c.self.inside c.args.self.now c.args.guest c.args.at c.self.view_is c.requires.at)
+    let kept : HasSectorAmong (length sectors) c.index-2.result.now.work = subst (λ (i : Item). HasSectorAmong (length sectors) i.work) (sym c.index-2.ensures)
+    (All-get_or (λ (i : Item). HasSectorAmong (length sectors) i.work) c.self.inside.items.items c.index-place.result.now c.index-2.result.now (item-of c.self.inside c.args.guest c.args.at c.self.invariant (some-of c.self.inside c.args.self.now c.args.guest c.args.at c.self.view_is c.requires.at)
     c.index.result.now c.index.ensures c.index-place.result.now c.index-place.ensures).inside c.self.invariant.items.stored) in
-    subst (λ (s : List Sector). IsStored (length s) c.index-2.result.now.work) (sym c.as_slice.ensures.value) kept
+    subst (λ (s : List Sector). HasSectorAmong (length s) c.index-2.result.now.work) (sym c.as_slice.ensures.value) kept
 
 pub hand_out-requires-clause-room : goal.hand_out-requires-clause-room
 hand_out-requires-clause-room c =

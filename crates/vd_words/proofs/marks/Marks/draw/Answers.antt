@@ -1,5 +1,5 @@
 use Rattle.std.proofs.Common.{rules, arith, ◌≡◌, sym, ap, ◌∙◌, subst, false}
-use Rattle.vd_words.specs.Counts.{past}
+use Rattle.vd_words.specs.Counts.{count_past}
 use Rattle.vd_words.proofs.Keeps.{draws}
 use Rattle.vd_words.proofs.marks.Marks.draw.Goals as goal
 
@@ -16,5 +16,5 @@ fetch_add-number-requires c =
       search rules,
       omega arith,
       draws shared.key shared.table_id.slots c.scan.inside.seat.id c.scan.inside.seat.me (omega arith) (omega arith)
-          (subst (λ k. past k c.scan.inside.seat.me.0.drawn ≡ 0) same none_past),
+          (subst (λ k. count_past k c.scan.inside.seat.me.0.drawn ≡ 0) same none_past),
     )

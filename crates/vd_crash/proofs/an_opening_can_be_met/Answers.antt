@@ -1,5 +1,0 @@
-use Rattle.vd_crash.proofs.New.{opening_can_be_met}
-use Rattle.vd_crash.proofs.an_opening_can_be_met.Goals as goal
-
-pub returns : goal.returns
-returns c = opening_can_be_met

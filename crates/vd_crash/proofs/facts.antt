@@ -1,0 +1,15 @@
+pub mod Contents
+pub mod CrashSafe
+pub mod Drops
+pub mod Ends
+pub mod Growth
+pub mod Histories
+pub mod History
+pub mod HistoryGrowth
+pub mod Metadata
+pub mod Moments
+pub mod New
+pub mod Opened
+pub mod Recovered
+pub mod Steps
+pub mod Writes

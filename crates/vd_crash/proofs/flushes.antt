@@ -1,0 +1,13 @@
+pub mod Beginning
+pub mod Beside
+pub mod Evidence
+pub mod Flights
+pub mod Marks
+pub mod Moves
+pub mod Passes
+pub mod Puts
+pub mod Putting
+pub mod Sealing
+pub mod Stage
+pub mod Synced
+pub mod Wanted

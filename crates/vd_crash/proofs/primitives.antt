@@ -1,0 +1,11 @@
+pub mod Core
+pub mod DropSteps
+pub mod EndSteps
+pub mod FlushSteps
+pub mod IssueSteps
+pub mod Keeping
+pub mod MarkSteps
+pub mod PassSteps
+pub mod Primitives
+pub mod Retrack
+pub mod Using

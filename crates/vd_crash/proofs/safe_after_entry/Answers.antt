@@ -1,5 +1,0 @@
-use Rattle.vd_crash.proofs.Moments.{safe_entry, safe_late, safe_other}
-use Rattle.vd_crash.proofs.safe_after_entry.Goals as goal
-
-pub returns : goal.returns
-returns c = record { last = safe_entry; late = safe_late; other = safe_other }

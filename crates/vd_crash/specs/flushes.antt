@@ -1,0 +1,4 @@
+pub mod Flushing
+pub mod Moves
+pub mod Passes
+pub mod Stage

@@ -1,0 +1,3 @@
+pub mod FlushSteps
+pub mod ReadSteps
+pub mod Untouched

@@ -1,0 +1,6 @@
+pub mod Getting
+pub mod Choosing
+pub mod Origins
+pub mod Counting
+pub mod Laying
+pub mod Choice

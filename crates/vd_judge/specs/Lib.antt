@@ -1,0 +1,2 @@
+pub mod CallStates
+pub mod ContentStates

@@ -1,0 +1,3 @@
+pub mod StoredEntries
+pub mod LogFields
+pub mod HistoryFields

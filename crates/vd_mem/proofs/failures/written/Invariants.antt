@@ -1,7 +1,0 @@
-use Rattle.std.proofs.Common.{◌≡◌, ◌≤◌, length, take}
-use Rattle.vd_law.specs.Entries.{past}
-use Rattle.vd_law.specs.Contents.{written}
-use Rattle.vd_mem.proofs.failures.written.Given as goal
-
-abbrev pub invariant-loop-i : goal.invariant-loop-i
-invariant-loop-i l = (l.count ≤ l.i) × (l.count ≡ length (written (past (take l.i l.log.entries)) l.s))

@@ -1,7 +1,0 @@
-use Rattle.std.proofs.Common.{rules}
-use Rattle.std.proofs.lemmas.List.Edits.{map_over_more}
-use Rattle.vd_mem.specs.Rules.{counted}
-use Rattle.vd_mem.proofs.rules.Rules.count.Goals as goal
-
-pub loop-i-preserved : goal.loop-i-preserved
-loop-i-preserved c = search (rules, map_over_more (counted c.args.first c.args.count))

@@ -1,5 +1,0 @@
-use Rattle.vd_meta.proofs.Laws.{next-facts-grammar}
-use Rattle.vd_meta.proofs.keeper.Keeper.header.Goals as goal
-
-pub returns-clause-kept : goal.returns-clause-kept
-returns-clause-kept c = rw (← c.self.view_is) c.self.invariant.keeping

@@ -1,5 +1,0 @@
-use Rattle.vd_meta.proofs.Joining.{IsAdopting}
-use Rattle.vd_meta.proofs.owing.adopt.Given as goal
-
-abbrev pub invariant-loop-chunk : goal.invariant-loop-chunk
-invariant-loop-chunk l = IsAdopting l.fn.owed l.owed l.fresh.bits l.stale.bits l.chunk

@@ -1,9 +1,0 @@
-use Rattle.vd_bits.specs.Marks.{count_true}
-use Rattle.vd_meta.proofs.Moving.{IsJoining}
-use Rattle.vd_meta.proofs.sets.join.Given as goal
-
-abbrev pub invariant-loop-member : goal.invariant-loop-member
-invariant-loop-member l = IsJoining l.fn.from l.fn.into l.from l.into
-
-abbrev pub decreases-loop-member : goal.decreases-loop-member
-decreases-loop-member l = count_true l.from

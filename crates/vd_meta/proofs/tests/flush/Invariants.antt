@@ -1,5 +1,0 @@
-use Rattle.vd_meta.specs.Putting.{IsSameImage}
-use Rattle.vd_meta.proofs.tests.flush.Given as goal
-
-abbrev pub invariant-loop-turn : goal.invariant-loop-turn
-invariant-loop-turn l = IsSameImage l.fn.keeper.header l.keeper.header

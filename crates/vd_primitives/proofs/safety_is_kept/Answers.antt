@@ -1,5 +1,0 @@
-use Rattle.vd_primitives.proofs.Keeping.{opening_keeps_all, primitive_keeps, kept_is_safe}
-use Rattle.vd_primitives.proofs.safety_is_kept.Goals as goal
-
-pub returns : goal.returns
-returns c = record { opening = opening_keeps_all; primitive = primitive_keeps; safe = kept_is_safe }

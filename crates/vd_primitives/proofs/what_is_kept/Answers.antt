@@ -1,5 +1,0 @@
-use Rattle.vd_primitives.proofs.Using.{kept_background, kept_zeros, kept_unwritten, kept_local, kept_wanted, kept_same_tracked, kept_lower_tracked}
-use Rattle.vd_primitives.proofs.what_is_kept.Goals as goal
-
-pub returns : goal.returns
-returns c = record { background = kept_background; zeros = kept_zeros; unwritten = kept_unwritten; local = kept_local; wanted = kept_wanted; same_tracked = kept_same_tracked; lower_tracked = kept_lower_tracked }

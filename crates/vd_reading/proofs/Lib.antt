@@ -1,2 +1,0 @@
-pub mod QuietLaws
-pub mod BackgroundLaws

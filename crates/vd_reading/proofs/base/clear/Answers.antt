@@ -1,7 +1,0 @@
-use Rattle.std.proofs.Common.{ap, ◌∙◌, replicate, length}
-use Rattle.vd_law.specs.declared.entry.Sector.{Sector}
-use Rattle.vd_reading.proofs.BackgroundLaws.{filled_zero}
-use Rattle.vd_reading.proofs.base.clear.Goals as goal
-
-pub returns : goal.returns
-returns c = c.fill.ensures.after (λ y e. e) ∙ ap (λ (x : Sector). replicate (length c.args.out.now) x) (filled_zero c.filled.result c.filled.ensures)

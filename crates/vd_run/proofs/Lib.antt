@@ -1,0 +1,12 @@
+pub mod Guest
+pub mod LeavingLaws
+pub mod LocalLaws
+pub mod ReopeningLaws
+pub mod StartLaws
+pub mod SafeLaws
+pub mod LaterLaws
+pub mod RunningLaws
+pub mod ClosingLaws
+pub mod AgainLaws
+pub mod ServedLaws
+pub mod RunCauses

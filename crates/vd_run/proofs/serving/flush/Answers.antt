@@ -1,0 +1,49 @@
+use Rattle.std.proofs.Common.{sym, subst}
+use Rattle.vd_device.specs.declared.patient.Patient.{Patient}
+use Rattle.vd_device.specs.Bases.{KeepsBase}
+use Rattle.vd_device.proofs.Keeping.{keeps-on}
+use Rattle.vd_run.proofs.Guest.Passing.{rests-at}
+use Rattle.vd_run.proofs.Guest.Flushing.{not-answered, flush-asked, flush-goes, flush-fewer, flush-ended, flush-spends}
+use Rattle.vd_run.specs.Waiting.{patient_store, patient_base}
+use Rattle.vd_run.proofs.Guest.Leaving.{disk-then, ask-disk, ask-flusher, ask-store, ask-base, flush-disk}
+use Rattle.vd_run.proofs.serving.flush.Goals as goal
+
+pub ask-requires-clause-phase : goal.ask-requires-clause-phase
+ask-requires-clause-phase g c = rests-at c.args.pass c.requires.pass c.requires.can.resting
+
+pub unreachable-requires : goal.unreachable-requires
+unreachable-requires g c = not-answered c.in-Some.field-0 c.requires.can.room c.in-Some.ensures.ends
+
+pub loop-answer-init : goal.loop-answer-init
+loop-answer-init g c =
+    let others = c.ask.ensures.others in let asked = flush-asked c.in_default.ensures.ends c.requires.can.room (ask-flusher c.args.core.now c.ask.new.self others) c.requires.can.resting in record {
+      flushing = asked.0;
+      room = (asked.1, asked.2);
+      disk = ask-disk c.args.core.now c.ask.new.self c.ask.result c.ask.ensures.ends others;
+      keeps = ask-store c.args.core.now c.ask.new.self others (patient_store g.S.Store) c.ask.ensures.told;
+      base_keeps = ask-base c.args.core.now c.ask.new.self others (patient_base g.B.Base);
+    }
+
+pub loop-answer-smaller : goal.loop-answer-smaller
+loop-answer-smaller g c = flush-fewer c.in-Again.ensures.drives
+
+pub loop-answer-preserved : goal.loop-answer-preserved
+loop-answer-preserved g c =
+    let now = c.loop-answer.invariant in let next = c.next.ensures in let drives = c.in-Again.ensures.drives in record {
+      flushing = flush-goes drives now.flushing;
+      room = flush-spends drives now.room;
+      disk = disk-then now.disk (flush-disk c.loop-answer.core c.next.new.core next.disk next.counted);
+      keeps = keeps-on (patient_store g.S.Store) c.args.core.now.store c.loop-answer.core.store c.next.new.core.store now.keeps next.keeps;
+      base_keeps = subst (λ (b : Patient _). KeepsBase (patient_base g.B.Base) c.args.core.now.base b) (sym next.base) now.base_keeps;
+    }
+
+pub returns-in-Ended : goal.returns-in-Ended
+returns-in-Ended g c =
+    let now = c.loop-answer.invariant in let next = c.next.ensures in let drives = c.in-Ended.ensures.drives in let ended = flush-ended c.in-Ended.answer drives now.flushing in record {
+      resting = ended.0;
+      flushes = ended.1;
+      room = flush-spends drives now.room;
+      disk = disk-then now.disk (flush-disk c.loop-answer.core c.next.new.core next.disk next.counted);
+      keeps = keeps-on (patient_store g.S.Store) c.args.core.now.store c.loop-answer.core.store c.next.new.core.store now.keeps next.keeps;
+      base_keeps = subst (λ (b : Patient _). KeepsBase (patient_base g.B.Base) c.args.core.now.base b) (sym next.base) now.base_keeps;
+    }

@@ -1,0 +1,46 @@
+-- What the serving of one request asks and leaves.
+use Rattle.std.specs.Prelude.{ℕ, ◌≡◌, ◌+◌, ◌*◌, ◌≤◌, List, [], ◌∷◌, ◌++◌, length, Option}
+use Rattle.std.specs.List.{AllByRecursion}
+use Rattle.vd_law.specs.declared.entry.Room.{Room}
+use Rattle.vd_law.specs.Entries.{Asked, Entry, Ask}
+use Rattle.vd_law.specs.Rules.{IsInside}
+use Rattle.vd_passes.specs.declared.shape.Shape.{Shape}
+use Rattle.vd_passes.specs.declared.pass.Pass.{Pass}
+use Rattle.vd_passes.specs.Needs.{need_of}
+use Rattle.vd_core.specs.View.{View}
+use Rattle.vd_core.specs.Asking.{HasSize, Suffices}
+use Rattle.vd_run.specs.Serving.{IsResting, requests_in}
+
+-- The request can be served: it is in order, and the spare room suffices for it.
+pub record CanServe (request : Asked) (shape : Shape) (passes : List Pass) (flusher : Option ℕ) (left : Room) : Type 0 where
+  pub resting : IsResting passes flusher
+  pub size : HasSize request
+  pub inside : IsInside (shape.block * shape.blocks) request
+  pub room : Suffices (need_of shape.block request) left
+
+-- this, and the room of one flush more
+abbrev pub with_flush : Room → Room
+with_flush need = record { events = need.events + 2; sectors = need.sectors }
+
+-- an Ask is one of this pass
+abbrev pub IsAskOf : (pass : ℕ) → Entry → Type 0
+IsAskOf pass (Ask id request) = id.pass ≡ pass
+IsAskOf pass e = Unit {0}
+
+-- Pass 1, and no other, has asked one more request, for which no more of the spare room was used than it needs.
+pub record Serves (request : Asked) (block : ℕ) (entries entries' : List Entry) (left left' : Room) : Type 0 where
+  pub asked : requests_in entries' 1 ≡ requests_in entries 1 ++ request ∷ []
+  pub alone : AllByRecursion (IsAskOf 1) entries → AllByRecursion (IsAskOf 1) entries'
+  pub events_left : left.events ≤ left'.events + (need_of block request).events
+  pub sectors_left : left.sectors ≤ left'.sectors + (need_of block request).sectors
+
+-- the disk, its storage, and what was so at its opening are the same
+pub record IsSameDisk {S B : Type 0} (core core' : View S B) : Type 0 where
+  pub shape : core'.shape ≡ core.shape
+  pub chunks : length core'.table.chunks ≡ length core.table.chunks
+  pub storage : core'.table.storage ≡ core.table.storage
+  pub header : core'.header ≡ core.header
+  pub entries : core'.entries ≡ core.entries
+  pub store_faults : core'.store_faults ≡ core.store_faults
+  pub base_faults : core'.base_faults ≡ core.base_faults
+  pub opened : core'.history.opened ≡ core.history.opened

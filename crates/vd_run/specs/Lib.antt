@@ -1,0 +1,6 @@
+pub mod Waiting
+pub mod Serving
+pub mod Driving
+pub mod Orders
+pub mod Reopening
+pub mod Running
