@@ -8,7 +8,7 @@ use Rattle.vd_law.specs.declared.entry.Sector.{Sector}
 use Rattle.vd_law.specs.declared.entry.Answer.TheVariants.{StoreFault}
 use Rattle.vd_law.specs.Entries.{Read, Flush, Entry, Ask, Issue, Done, Broke, Seen, Reply, Past, nothing, ◌▸◌, past}
 use Rattle.vd_law.specs.Contents.{Open, open_writes}
-use Rattle.vd_law.proofs.Lists.{same_list}
+use Rattle.vd_lists.proofs.Lists.{same_list}
 use Rattle.vd_law.proofs.RuleLaws.{past-append}
 use Rattle.vd_device.specs.declared.store.Store as store
 use Rattle.vd_device.specs.declared.base.Base as base

@@ -8,7 +8,7 @@ use Rattle.std.proofs.lemmas.List.FromFn.{get_or-map-range_with_len, length-map-
 use Rattle.std.proofs.lemmas.Bool.Decides.{leb_tells}
 use Rattle.vd_law.specs.declared.entry.Sector.{Sector}
 use Rattle.vd_law.specs.Contents.{sector_in}
-use Rattle.vd_law.proofs.Lists.{same_list, slice_get_front, slice_get_back, slice_get_replicate, slice_get_run}
+use Rattle.vd_lists.proofs.Lists.{same_list, slice_get_front, slice_get_back, slice_get_replicate, slice_get_run}
 use Rattle.vd_law.proofs.Sectors.{sector_in-at}
 use Rattle.vd_format.specs.Background.{zero_sector, base_at, background_of, background_run}
 

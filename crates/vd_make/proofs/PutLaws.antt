@@ -19,7 +19,7 @@ use Rattle.vd_device.specs.Quiet.{IsAtRest}
 use Rattle.vd_device.proofs.QuietLaws.{flush_idle, held_after, rest_after}
 use Rattle.vd_make.specs.Putting.{AreAll, IsPut, IsNoSuccess, PutsRange, HasDone, IsRangeWritten, TriesWrites, Syncs}
 use Rattle.vd_make.proofs.VersionLaws.{only_one, Fits, Since, since_more, own_open, since_written}
-use Rattle.vd_law.proofs.Lists.{slice_get_front}
+use Rattle.vd_lists.proofs.Lists.{slice_get_front}
 
 -- the log after two events
 pub two_events : (log : List Entry) (a b : Entry) → past (log ++ a ∷ b ∷ []) ≡ past log ▸ a ▸ b

@@ -12,7 +12,7 @@ use Rattle.vd_format.specs.Headers.{spelling}
 use Rattle.vd_make.specs.Putting.{AreAll, IsPut, PutsRange, IsDurable, Fills, Story, Begun, Blanked, Headed, IsImageWritten}
 use Rattle.vd_make.proofs.VersionLaws.{Fits, Left, left_more}
 use Rattle.vd_make.proofs.PutLaws.{each_event, fits_outside}
-use Rattle.vd_law.proofs.Lists.{slice_get_replicate}
+use Rattle.vd_lists.proofs.Lists.{slice_get_replicate}
 use Rattle.vd_format.specs.Background.{zero_sector}
 
 -- writes of a range leave what a crash may leave elsewhere

@@ -7,7 +7,7 @@ use Rattle.vd_format.proofs.BackgroundLaws.{two_parts}
 use Rattle.vd_passes.specs.Laying.{count_below, Backs}
 use Rattle.vd_passes.proofs.Lists.{some-inj}
 use Rattle.vd_format.specs.Background.{zero_sector, background_of, background_run}
-use Rattle.vd_law.proofs.Lists.{slice_get_run}
+use Rattle.vd_lists.proofs.Lists.{slice_get_run}
 
 run-is : (content : List Sector) (tracked first count k : ℕ) (v : Sector) → slice_get (background_run content tracked first count) k ≡ Some v → v ≡ background_of content tracked (first + k)
 unfolding background_run

@@ -19,7 +19,7 @@ use Rattle.vd_passes.specs.Tracing.{IsFailure, FailsBetween, IsReadIn, IsIssueAt
 use Rattle.vd_passes.specs.Following.{IsAsked, IsFollowedPass, IsFollowed}
 use Rattle.vd_passes.proofs.Lists.{some-inj, at-set}
 use Rattle.vd_passes.proofs.Regions.{request-kept}
-use Rattle.vd_law.proofs.Lists.{slice_get_front}
+use Rattle.vd_lists.proofs.Lists.{slice_get_front}
 
 -- Lists that grow at their ends.
 

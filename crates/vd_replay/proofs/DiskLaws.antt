@@ -27,7 +27,7 @@ use Rattle.vd_replay.specs.declared.disk.Source.TheVariants.{Local, Background, 
 use Rattle.vd_replay.proofs.ListLaws.{get_copies, get_take}
 use Rattle.vd_replay.proofs.StateLaws.{storage_is, storage_from}
 use Rattle.vd_format.specs.Background.{zero_sector, base_at, background, background_of, background_run, count_in_base}
-use Rattle.vd_law.proofs.Lists.{slice_get_run, slice_get_back}
+use Rattle.vd_lists.proofs.Lists.{slice_get_run, slice_get_back}
 
 -- ---- runs
 

@@ -19,7 +19,7 @@ use Rattle.vd_table.specs.Tables.{TableState, Has, with_storage}
 use Rattle.vd_table.proofs.Links.{same_some, cases_place}
 use Rattle.vd_replay.specs.Placing.{Places, IsTwin, IsPlaced, IsSpread, AreTwins}
 use Rattle.vd_replay.proofs.ListLaws.{get_take, get_drop, get_copies}
-use Rattle.vd_law.proofs.Lists.{slice_get_run, slice_get_front, slice_get_back}
+use Rattle.vd_lists.proofs.Lists.{slice_get_run, slice_get_front, slice_get_back}
 
 same_entry : (e x : Entry) (o : Option Entry) → o ≡ Some e → o ≡ Some x → e ≡ x
 same_entry e x o is also = cc

@@ -35,7 +35,7 @@ use Rattle.vd_show.specs.Showing.{show_line, fault_line, ShowsDisk}
 use Rattle.vd_run.specs.Reopening.{IsShownBy, Is_read, Store_failed, Base_failed, AreShownBy, AreLocal, Reopens, Reopening_failed, Is_refused_again, Opens_again}
 use Rattle.vd_run.proofs.LeavingLaws.{reads_idle}
 use Rattle.vd_show.proofs.ShowLaws.{disk_shown}
-use Rattle.vd_law.proofs.Lists.{slice_get_front}
+use Rattle.vd_lists.proofs.Lists.{slice_get_front}
 
 -- ---- one line
 

@@ -2,7 +2,7 @@ use Rattle.std.proofs.Common.{inl, inr, sym, ◌∙◌, arith}
 use Rattle.std.proofs.lemmas.Bool.{cases_lt}
 use Rattle.std.proofs.lemmas.Option.{slice_get_past}
 use Rattle.vd_replay.proofs.placing.copy.Goals as goal
-use Rattle.vd_law.proofs.Lists.{same_list}
+use Rattle.vd_lists.proofs.Lists.{same_list}
 
 pub returns : goal.returns
 returns c =
