@@ -11,7 +11,7 @@ use std::test::Fail;
 use vd_core::{Closed, Core, Unopened};
 use vd_device::{Base, Store};
 use vd_faults::{Keep, Rule};
-use vd_header::{Header, valid, write_header};
+use vd_format::{Header, valid, write_header};
 use vd_law::entry::{Answer, NoMemory, Room, Sector};
 use vd_mem::{MemBase, MemStore};
 use vd_passes::pass::Phase;

@@ -6,7 +6,7 @@ use crate::images::{Change, store_of};
 use std::alloc::Global;
 use std::test::Fail;
 use vd_device::Store;
-use vd_header::layout_of;
+use vd_format::layout_of;
 use vd_replay::{OpenError, State, recover};
 
 /// What a state says of the first four chunks, the first sector of the map that differs, and the cursor.

@@ -5,7 +5,7 @@ ghost use Rattle.vd_command.specs.Reading.{number_between, switch_of, make_comma
 
 use crate::Command;
 use vd_decimal::read_number;
-use vd_header::{Header, valid};
+use vd_format::{Header, valid};
 
 const DIGITS: usize = 10;
 

@@ -14,7 +14,8 @@ use Rattle.vd_law.specs.Entries.{Flush, Entry, Done, nothing, past}
 use Rattle.vd_law.specs.Contents.{could, last_done}
 use Rattle.vd_law.specs.Histories.{HistoryState}
 use Rattle.vd_format.specs.declared.header.Header.{Header}
-use Rattle.vd_format.specs.Layouts.{blocks_of}
+use Rattle.vd_format.specs.Layouts.{blocks_of, place_of_sector}
+use Rattle.vd_format.proofs.Places.{in-place}
 use Rattle.vd_image.specs.Log.{Writes, Ends, Flushes, NoneSureFrom}
 use Rattle.vd_image.specs.Image.{Geometry, Format, Layout, DiskHas}
 use Rattle.vd_image.specs.Layouts.{layout_of}
@@ -44,7 +45,7 @@ use Rattle.vd_core.specs.Showing.{EndsFlushed, MayHold, ShowsCould}
 use Rattle.vd_core.specs.Start.{opening_at, IsStart, WasSafe}
 use Rattle.vd_core.proofs.Agreeing.{told-agrees}
 use Rattle.vd_core.proofs.Securing.Words.{all-inside}
-use Rattle.vd_core.proofs.StartingDisk.{sector-place}
+use Rattle.vd_core.proofs.StartingDisk.{sector-block}
 use Rattle.vd_format.specs.Background.{background, background_of, base_at, zero_sector}
 
 listed : (log : List Entry) → list_of (past log) ≡ log
@@ -139,15 +140,12 @@ module _ {shape : Shape} {state : State} {regions : List (Option Region)} {passe
         agrees.held b x s v in_start in_block (up_there state.fresh.bits b up) placed
         (subst (λ (w : Sector). Contains (could (sg.disk the_store).start (sg.disk the_store).log a) w) (sym content) (may.now a (image_of held a) (slice_get-get_or held a zero_sector reached)))
       where
-        spread : (low p c n m r rest : ℕ) → rest ≡ m * n + r → low + (p * c + m) * n + r ≡ low + (p * (n * c) + rest)
-        spread low p c n m r rest near = omega arith
-
         place-is : (p : ℕ) → shape.storage_at + (p * shape.chunk + b % shape.chunk) * shape.block + (s - shape.block * b) ≡ (layout_of h).place p s
         place-is p =
-            spread shape.storage_at p shape.chunk shape.block (b % shape.chunk) (s - shape.block * b) (s % (shape.block * shape.chunk)) (sector-place shape.block shape.chunk b s kept.coherent.shaped.some in_block).1
-            ∙ ap (λ (n : ℕ). shape.storage_at + (p * (n * shape.chunk) + s % (n * shape.chunk))) recorded.attended.block
-            ∙ ap (λ (c : ℕ). shape.storage_at + (p * (k.header.block * c) + s % (k.header.block * c))) recorded.attended.chunk
-            ∙ ap (λ (low : ℕ). low + (p * (k.header.block * k.header.chunk) + s % (k.header.block * k.header.chunk))) recorded.attended.storage_at
+            in-place shape.storage_at shape.chunk shape.block p b s (sector-block shape.block b s kept.coherent.shaped.some in_block)
+            ∙ ap (λ (n : ℕ). place_of_sector shape.storage_at shape.chunk n p s) recorded.attended.block
+            ∙ ap (λ (c : ℕ). place_of_sector shape.storage_at c k.header.block p s) recorded.attended.chunk
+            ∙ ap (λ (low : ℕ). place_of_sector low k.header.chunk k.header.block p s) recorded.attended.storage_at
             ∙ ap (λ (l : Layout). l.place p s) layout-same
 
     -- the block isn't in every image: then no write in it is done, and it isn't local
@@ -158,7 +156,7 @@ module _ {shape : Shape} {state : State} {regions : List (Option Region)} {passe
       where
         unwritten : IsWrittenIn shape history.log.entries b → ⊥
         unwritten w =
-            let near : w.0 / h.block ≡ b = (sector-place h.block h.chunk b w.0 some (subst (λ (n : ℕ). IsIn n b w.0) block-same w.1)).0 in
+            let near : w.0 / h.block ≡ b = sector-block h.block b w.0 some (subst (λ (n : ℕ). IsIn n b w.0) block-same w.1) in
             let secured = was.secured start is safe in
             sure-write history.log.entries ends.ask flushes ends.none_done w.0 w.2
             (unstale-unsure (opening_for h state.map (sg.disk the_store).start secured.0 (bg.content the_base) start history.opened) state.table state.fresh.bits k flusher passes history (sg.disk the_store).log secured.1 w.0 (ap (bit_of k.stale) near ∙ unstale))

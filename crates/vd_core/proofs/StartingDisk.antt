@@ -1,11 +1,11 @@
 -- What the guest's disk had at opening, by the state that was read from its image.
-use Rattle.std.proofs.Common.{◌≡◌, ℕ, ◌+◌, ◌-◌, ◌*◌, ◌/◌, ◌%◌, ◌<◌, ◌≤◌, inl, inr, sym, ◌∙◌, ap, subst, arith, Some, Ok}
-use Rattle.std.proofs.Math.Nat.{div-div-eq-div-mul, mul_comm}
-use Rattle.std.proofs.lemmas.Nat.{div-add-mod', div-mul-add}
+use Rattle.std.proofs.Common.{◌≡◌, ℕ, ◌+◌, ◌-◌, ◌*◌, ◌/◌, ◌<◌, ◌≤◌, inl, inr, sym, ◌∙◌, ap, subst, arith, Some, Ok}
+use Rattle.std.proofs.Math.Nat.{mul_comm}
+use Rattle.std.proofs.lemmas.Nat.{div-mul-add}
 use Rattle.vd_law.specs.declared.entry.Sector.{Sector}
 use Rattle.vd_format.specs.declared.header.Header.{Header}
 use Rattle.vd_format.specs.Headers.{IsValid, header_of}
-use Rattle.vd_format.specs.Layouts.{need_of}
+use Rattle.vd_format.specs.Layouts.{store_need}
 use Rattle.vd_image.specs.Image.{Image, Mapping, Fact, Format, Layout, Counts, IsUnnamed, IsLastNamed, Maps, IsMapping, DiskHas}
 use Rattle.vd_image.specs.Layouts.{layout_of, FitsInStore}
 use Rattle.vd_image.specs.Decoders.{format_of, mapping_in}
@@ -53,11 +53,11 @@ module _ (f : Format) (l : Layout) where
   maps-over a b generation chunk m same (inr other) = inr (unnamed-over a b same other.0, other.1, ap (λ v. f.mapping_of v chunk) (sym (same.0 chunk other.1)) ∙ other.2)
 
 -- An image that has in a store's sectors what the state's image has there stands for the same disk.
-module _ (sectors : ℕ) (image held : Image) (h : Header) (s : State) (is : IsState sectors held h s) (fits : need_of h ≤ sectors) (same : (a : ℕ) → a < sectors → image a ≡ held a) where
+module _ (sectors : ℕ) (image held : Image) (h : Header) (s : State) (is : IsState sectors held h s) (fits : store_need h ≤ sectors) (same : (a : ℕ) → a < sectors → image a ≡ held a) where
   valid : IsValid h
   valid = header_valid (held 0) h is.opens.reads
 
-  inside : FitsInStore (layout_of h) (need_of h)
+  inside : FitsInStore (layout_of h) (store_need h)
   inside = parts_inside h valid
 
   have-same : HaveSame (format_of h) (layout_of h) image held
@@ -98,20 +98,11 @@ module _ (sectors : ℕ) (image held : Image) (h : Header) (s : State) (is : IsS
       ];
     }
 
--- The first sector of a block in the store, and a sector's place in it.
-pub sector-place : (block chunk b s : ℕ) → 0 < block → IsIn block b s → (s / block ≡ b) × (s % (block * chunk) ≡ b % chunk * block + (s - block * b))
-sector-place block chunk b s some in_block =
+-- The block of a sector is the one that it lies in.
+pub sector-block : (block b s : ℕ) → 0 < block → IsIn block b s → s / block ≡ b
+sector-block block b s some in_block =
     let r : ℕ = s - block * b in
     let turn : b * block ≡ block * b = mul_comm b block in
     let less : r < block = (let to = in_block.1 in omega arith) in
     let parts : s ≡ b * block + r = (let from = in_block.0 in omega (arith, turn)) in
-    let quotient : s / block ≡ b = ap (λ n. n / block) parts ∙ div-mul-add b block r less in
-    let whole = div-add-mod' s (block * chunk) in
-    let same : s / (block * chunk) ≡ b / chunk = sym (div-div-eq-div-mul s block chunk) ∙ ap (λ n. n / chunk) quotient in
-    let row : s / (block * chunk) * (block * chunk) ≡ b / chunk * (block * chunk) = ap (λ n. n * (block * chunk)) same in
-    let inner = div-add-mod' b chunk in
-    let wide : b / chunk * (block * chunk) + b % chunk * block ≡ b * block = regroup (b / chunk) (b % chunk) block chunk ∙ ap (λ n. n * block) inner in
-    (quotient, omega (arith, whole, row, wide, parts))
-  where
-    regroup : (q m k c : ℕ) → q * (k * c) + m * k ≡ (q * c + m) * k
-    regroup q m k c = omega arith
+    ap (λ n. n / block) parts ∙ div-mul-add b block r less

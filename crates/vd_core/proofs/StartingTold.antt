@@ -6,6 +6,7 @@ use Rattle.vd_law.specs.declared.entry.Sector.{Sector}
 use Rattle.vd_device.specs.Disks.{Disk, IsHonest}
 use Rattle.vd_format.specs.declared.header.Header.{Header}
 use Rattle.vd_format.specs.Layouts.{storage_start}
+use Rattle.vd_format.proofs.Places.{in-place}
 use Rattle.vd_format.proofs.Rules.{block_within}
 use Rattle.vd_image.specs.Image.{Image, DiskHas}
 use Rattle.vd_image.specs.Layouts.{layout_of}
@@ -26,7 +27,7 @@ use Rattle.vd_passes.proofs.PlacesGiven.{place-from}
 use Rattle.vd_core.specs.Start.{opening_at, IsStart, image_at}
 use Rattle.vd_core.specs.Opening.{disk_shape}
 use Rattle.vd_core.proofs.Starting.{clean-one, clean-held}
-use Rattle.vd_core.proofs.StartingDisk.{disk-over, sector-place}
+use Rattle.vd_core.proofs.StartingDisk.{disk-over, sector-block}
 use Rattle.vd_format.specs.Background.{background, background_of, base_at, zero_sector}
 
 starts : (start : List Sector) (s : ℕ) (v : Sector) → slice_get start s ≡ Some v → (track start [] s).contents ≡ v ∷ []
@@ -70,22 +71,16 @@ module _ (s : State) (whole : IsWholeState s) (version : s.header.version ≡ 2)
     stands-local : (x : ℕ) (v : Sector) → x < h.size → slice_get start x ≡ Some v → (b at : ℕ) → IsIn h.block b x → slice_get s.fresh.bits b ≡ Some true → place_of shape s.table.chunks b ≡ Some at
         → (w : Sector) → Contains (track disk.start disk.log (at + (x - h.block * b))).contents w → w ≡ v
     stands-local x v less there b at in_block up placed w held =
-        let near = sector-place h.block h.chunk b x some in_block in
+        let near = sector-block h.block b x some in_block in
         let from = place-from shape s.table.chunks b at placed in
         let p = from.0 in
         let a : ℕ = at + (x - h.block * b) in
-        let local : slice_get s.fresh.bits (x / h.block) ≡ Some true = ap (slice_get s.fresh.bits) near.0 ∙ up in
-        let given : Has s.table (x / h.block / h.chunk) p = ap (λ (n : ℕ). slice_get s.table.chunks (n / h.chunk)) near.0 ∙ from.1 in
+        let local : slice_get s.fresh.bits (x / h.block) ≡ Some true = ap (slice_get s.fresh.bits) near ∙ up in
+        let given : Has s.table (x / h.block / h.chunk) p = ap (λ (n : ℕ). slice_get s.table.chunks (n / h.chunk)) near ∙ from.1 in
         let stored = whole-storage s b whole up in
         let within : p < h.storage = (let e = some-inj (some-inj (sym from.1 ∙ stored.1)) in let lt = stored.2 in omega (arith, e, lt)) in
-        let place : a ≡ (layout_of h).place p x = place-is p b x at from.2 near.1 in
+        let place : a ≡ (layout_of h).place p x = ap (λ (n : ℕ). n + (x - h.block * b)) from.2 ∙ in-place (storage_start h) h.chunk h.block p b x near in
         clean-one disk opened a w all is.clean held ∙ place-held p x a within place ∙ sym (local-at x p v less there local given)
-      where
-        spread : (low p c k m r at rest : ℕ) → at ≡ low + (p * c + m) * k → rest ≡ m * k + r → at + r ≡ low + (p * (k * c) + rest)
-        spread low p c k m r at rest from near = omega arith
-
-        place-is : (p b x at : ℕ) → at ≡ storage_start h + (p * h.chunk + b % h.chunk) * h.block → x % (h.block * h.chunk) ≡ b % h.chunk * h.block + (x - h.block * b) → at + (x - h.block * b) ≡ (layout_of h).place p x
-        place-is p b x at from near = spread (storage_start h) p h.chunk h.block (b % h.chunk) (x - h.block * b) at (x % (h.block * h.chunk)) from near
 
     pub stands-at : (x : ℕ) → x < length start → AgreesInSector h.block s.fresh.bits (place_of shape s.table.chunks) (background_of base h.tracked) x (track start [] x) (track disk.start disk.log)
     stands-at x within =
@@ -96,8 +91,8 @@ module _ (s : State) (whole : IsWholeState s) (version : s.header.version ≡ 2)
                 let same_one = stands-local x v (omega arith) there b at in_block up placed w held in
                 subst (λ (xs : List Sector). Contains xs w) (sym (starts start x v there)) (subst (λ (u : Sector). Contains (v ∷ []) u) (sym same_one) (is-one v));
             other = λ b in_block down.
-                let near = sector-place h.block h.chunk b x some in_block in
-                let is_back = background-at x v (omega arith) there (ap (slice_get s.fresh.bits) near.0 ∙ down) in
+                let near = sector-block h.block b x some in_block in
+                let is_back = background-at x v (omega arith) there (ap (slice_get s.fresh.bits) near ∙ down) in
                 subst (λ (xs : List Sector). Contains xs (background_of base h.tracked x)) (sym (starts start x v there)) (subst (λ (u : Sector). Contains (v ∷ []) u) is_back (is-one v));
           })
           | inr past_it ↦ absurd (let far = past_it.0 in omega arith)

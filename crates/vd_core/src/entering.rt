@@ -5,6 +5,7 @@ ghost use Rattle.vd_passes.specs.Places.{place_of};
 ghost use Rattle.vd_passes.specs.Steps.{IsAt, IsPieceToEnter};
 ghost use Rattle.vd_core.specs.Entering.{CanEnter, EntersBlock, IsKeptOut};
 
+use vd_format::place_of_block;
 use vd_passes::pass::Pass;
 use vd_passes::shape::Shape;
 use vd_regions::regions::{Busy, Mode, Regions};
@@ -34,9 +35,7 @@ fn place(shape: &Shape, table: &Table, block: u64) -> u64
     ensures { (x : ℕ) → place_of shape.now table.now.chunks block ≡ Some x → result ≡ x }
 {
     match table.get((block / shape.chunk) as u32) {
-        Some(p) => {
-            shape.storage_at + (u64::from(p) * shape.chunk + block % shape.chunk) * shape.block
-        }
+        Some(p) => place_of_block(shape.storage_at, shape.chunk, shape.block, p, block),
         None => 0,
     }
 }

@@ -2,7 +2,7 @@
 
 ghost use Rattle.std.specs.Prelude.{ℕ, ◌≡◌, ◌+◌, ◌*◌, ◌^◌, ◌<◌, ◌≤◌, ◌++◌, List, [], ◌∷◌, None, replicate, IfOk, IfErr, length, slice_get, Some, vec_capacity};
 ghost use Rattle.vd_format.specs.Headers.{IsValid};
-ghost use Rattle.vd_format.specs.Layouts.{need_of};
+ghost use Rattle.vd_format.specs.Layouts.{store_need};
 ghost use Rattle.vd_replay.specs.States.{IsSized, IsWholeState, StateSays};
 ghost use Rattle.vd_passes.specs.declared.pass.Pass.{Pass as AnyPass};
 ghost use Rattle.vd_passes.specs.declared.pass.Phase.TheVariants.{Idle};
@@ -16,8 +16,7 @@ use crate::state::Core;
 use std::alloc::Global;
 use vd_bits::marked::Marked;
 use vd_device::{Base, Store};
-use vd_format::Header;
-use vd_header::layout_of;
+use vd_format::{Header, layout_of};
 use vd_keeper::Keeper;
 use vd_law::entry::{NoMemory, Room};
 use vd_log::history::History;
@@ -195,7 +194,7 @@ impl<S: Store, B: Base> Core<S, B> {
     ) -> Result<Core<S, B>, Unopened<S, B>>
         requires whole { IsWholeState state }
         requires version { state.header.version ≡ 2 }
-        requires fits { need_of state.header ≤ S.sectors store }
+        requires fits { store_need state.header ≤ S.sectors store }
         requires says { S.tells store → StateSays (S.disk store).held state }
         // what was written before is durable
         requires flushed { S.tells store → (old : Disk) × AddsFlush old (S.disk store) }

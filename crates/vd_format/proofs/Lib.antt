@@ -9,3 +9,6 @@ pub mod Slots
 pub mod Pages
 pub mod Writing
 pub mod BackgroundLaws
+pub mod SlotReading
+pub mod Sent
+pub mod Places

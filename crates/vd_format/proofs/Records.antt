@@ -8,7 +8,7 @@ use Rattle.std.proofs.lemmas.List.Concat.{flat_map-cons}
 use Rattle.std.proofs.lemmas.List.Elements.{All-head, All-tail}
 use Rattle.byteorder.specs.Numbers.{little_number-reads_back}
 use Rattle.vd_law.specs.declared.entry.Sector.{Sector}
-use Rattle.vd_format.specs.declared.map.Fact2.{Fact2}
+use Rattle.vd_format.specs.declared.journal.Fact2.{Fact2}
 use Rattle.vd_format.specs.declared.map.Shape2.{Shape2}
 use Rattle.vd_format.specs.Numbers.{IsBytes, u32_at, u64_at, u32_bytes, u64_bytes, are_zeros, has_magic}
 use Rattle.vd_format.specs.Entries.{Fits, entry_bytes, entry_from, has_kind}

@@ -5,7 +5,7 @@ use Rattle.std.specs.List.{flat_map}
 use Rattle.std.proofs.lemmas.Bool.{and_parts, and_from, both_ways, eqb-true, leb-true, eqb-false}
 use Rattle.std.proofs.lemmas.List.{take_all, length-drop, length-take}
 use Rattle.vd_law.specs.declared.entry.Sector.{Sector}
-use Rattle.vd_format.specs.declared.map.Fact2.{Fact2}
+use Rattle.vd_format.specs.declared.journal.Fact2.{Fact2}
 use Rattle.vd_format.specs.declared.map.Shape2.{Shape2}
 use Rattle.vd_format.specs.Numbers.{IsBytes, u64_at, u32_bytes, u64_bytes, are_zeros, has_magic}
 use Rattle.vd_format.specs.Records.{ShapeFits, Said, Nothing, Facts, Outside, HasRecord, SpellsRecord, IsOutsideGrammar, record_magic, most_facts, fact_bytes, record_bytes, facts_from, have_kinds, count_in, is_well_formed, are_facts, slot_of}

@@ -4,3 +4,4 @@ pub mod Headers
 pub mod Entries
 pub mod Records
 pub mod Background
+pub mod SlotReading

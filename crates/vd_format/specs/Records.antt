@@ -10,7 +10,7 @@ use Rattle.std.specs.Prelude.{ℕ, zero, suc, ◌≡◌, ◌≤◌, ◌<◌, ◌
 use Rattle.std.specs.List.{All, flat_map}
 use Rattle.std.specs.List.Sorted.{IsStrictlyIncreasing}
 use Rattle.vd_law.specs.declared.entry.Sector.{Sector}
-use Rattle.vd_format.specs.declared.map.Fact2.{Fact2}
+use Rattle.vd_format.specs.declared.journal.Fact2.{Fact2}
 use Rattle.vd_format.specs.declared.map.Shape2.{Shape2}
 use Rattle.vd_format.specs.Numbers.{u32_bytes, u64_bytes, u32_at, u64_at, are_zeros, has_magic}
 use Rattle.vd_format.specs.Entries.{IsEntry, entry_bytes, entry_from, has_kind, is_entry}

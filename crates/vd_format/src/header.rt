@@ -1,4 +1,14 @@
-//! The header of an image, and the layout that it gives.
+//! The header of an image, and the layout that it gives: the first sector of a store, read and written.
+
+mod areas;
+mod reading;
+mod rules;
+mod writing;
+
+pub use areas::{layout_of, place_of_block};
+pub use reading::read_header;
+pub use rules::valid;
+pub use writing::write_header;
 
 /// The first bytes of a header.
 pub const HEADER_MAGIC: [u8; 8] = *b"FVDPROF1";

@@ -1,7 +1,10 @@
-//! What the map and the journal say of a chunk.
+//! The map: what it says of each chunk, and how its sectors are read and written.
 
-/// The first bytes of a record.
-pub const RECORD_MAGIC: [u8; 8] = *b"FVDRECO2";
+pub mod entries;
+mod pages;
+
+pub use entries::read_entry;
+pub use pages::{Map, page_of};
 
 /// What the map or a record says of one chunk.
 #[derive(Clone, Copy, PartialEq, Eq, Drop)]
@@ -12,13 +15,6 @@ pub struct Entry {
     pub zeros: bool,
     /// Bit i is set where the chunk's block i is local.
     pub mask: u64,
-}
-
-/// What a record says of one chunk.
-#[derive(Clone, Copy, PartialEq, Eq, Drop)]
-pub struct Fact2 {
-    pub chunk: u32,
-    pub entry: Entry,
 }
 
 /// The numbers of an image by which its entries and records are judged.

@@ -2,10 +2,15 @@
 use Rattle.std.proofs.Common.{ℕ, ◌≡◌, ◌+◌, ◌-◌, ◌*◌, ◌/◌, ◌%◌, ◌<◌, ◌≤◌, arith, ap, sym, ◌∙◌, Contains}
 use Rattle.std.proofs.lemmas.Nat.{div-mul-add, mod-mul-add, div_below, mod_below, div-add-mod'}
 use Rattle.std.proofs.Math.Nat.{div-div-eq-div-mul}
-use Rattle.vd_format.specs.Layouts.{blocks_of, chunks_of, storage_start, need_of}
+use Rattle.vd_format.specs.Layouts.{blocks_of, chunks_of, storage_start, store_need}
 use Rattle.vd_format.specs.Headers.{block_sizes, chunk_sizes, IsValid}
+use Rattle.vd_format.proofs.Places.{in-storage-chunk}
 use Rattle.vd_image.specs.Image.{Header, IsApart}
-use Rattle.vd_image.specs.Layouts.{chunk_sectors, layout_of, FitsInStore}
+use Rattle.vd_image.specs.Layouts.{layout_of, FitsInStore}
+
+-- the sectors of a chunk, and of a storage chunk
+abbrev chunk_sectors : Header → ℕ
+chunk_sectors h = h.block * h.chunk
 
 -- as many chunks as hold all blocks
 enough : (n k : ℕ) → 0 < k → n ≤ (n + k - 1) / k * k
@@ -64,7 +69,9 @@ parts_apart h valid = record {
   places = λ p q s t p_below q_below same.
       let r = mod_below s (chunk_sectors h) sectors in
       let u = mod_below t (chunk_sectors h) sectors in
-      let inner : p * chunk_sectors h + s % chunk_sectors h ≡ q * chunk_sectors h + t % chunk_sectors h = omega arith in (
+      let e = in-storage-chunk (storage_start h) h.chunk h.block p s chunk block in
+      let f = in-storage-chunk (storage_start h) h.chunk h.block q t chunk block in
+      let inner : p * chunk_sectors h + s % chunk_sectors h ≡ q * chunk_sectors h + t % chunk_sectors h = omega (arith, e, f, same) in (
         same_number (chunk_sectors h) p q (s % chunk_sectors h) (t % chunk_sectors h) r u inner,
         λ chunk. same_sector h.block h.chunk s t chunk (same_rest (chunk_sectors h) p q (s % chunk_sectors h) (t % chunk_sectors h) r u inner),
       );
@@ -87,16 +94,22 @@ parts_apart h valid = record {
     sectors = some_product h.block h.chunk block chunk
 
 -- and inside a store of as many sectors as it needs
-pub parts_inside : (h : Header) → IsValid h → FitsInStore (layout_of h) (need_of h)
+pub parts_inside : (h : Header) → IsValid h → FitsInStore (layout_of h) (store_need h)
 parts_inside h valid = record {
   header = omega arith;
   map = λ c below. let k = map_within (chunks_of h) c below in omega arith;
   slots = λ k below. omega arith;
-  places = λ p s below. let r = mod_below s (chunk_sectors h) sectors in place_below p h.storage (s % chunk_sectors h) below r;
+  places = λ p s below. let r = mod_below s (chunk_sectors h) sectors in let e = in-storage-chunk (storage_start h) h.chunk h.block p s chunk block in let less = place_below p h.storage (s % chunk_sectors h) below r in omega (arith, e, less);
 }
   where
+    block : 0 < h.block
+    block = some_block h.block valid.block
+
+    chunk : 0 < h.chunk
+    chunk = some_chunk h.chunk valid.chunk
+
     sectors : 0 < chunk_sectors h
-    sectors = some_product h.block h.chunk (some_block h.block valid.block) (some_chunk h.chunk valid.chunk)
+    sectors = some_product h.block h.chunk block chunk
 
     place_below : (p n r : ℕ) → p < n → r < chunk_sectors h → storage_start h + (p * chunk_sectors h + r) < storage_start h + n * h.chunk * h.block
     place_below p n r below less = let inner = row_below p n r (chunk_sectors h) below less in let turned : n * h.chunk * h.block ≡ n * (h.block * h.chunk) = product_turned n h.block h.chunk in omega arith

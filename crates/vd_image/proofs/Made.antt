@@ -15,7 +15,8 @@ use Rattle.vd_image.specs.Log.{Sector}
 use Rattle.vd_image.specs.Image.{Header, Mapping, Record, unmapped_sector, IsMapping, Maps, GivesStorage, HasNoLater, DiskHas}
 use Rattle.vd_image.specs.Layouts.{layout_of, page_mappings}
 use Rattle.vd_image.specs.Decoders.{Entry, has_kind, entry_byte, entry_at, record_of, this_version, mapping_in, record_in, entry_place, format_of}
-use Rattle.vd_image.specs.Openings.{Opens, need_of}
+use Rattle.vd_format.specs.Layouts.{store_need}
+use Rattle.vd_image.specs.Openings.{Opens}
 use Rattle.vd_image.specs.Made.{header_sector, made_image, small_header}
 use Rattle.vd_image.proofs.Decoders.{entry_is_mapping}
 
@@ -101,7 +102,7 @@ made_gives_none h generation chunk p (m, maps, storage) = let same = made_maps h
 pub made_base : (h : Header) (generation chunk : ℕ) (m : Mapping) → Maps (format_of h) (layout_of h) (made_image h) generation chunk m → m.zeros ≡ false
 made_base h generation chunk m maps = ap (λ (w : Mapping). w.zeros) (made_maps h generation chunk m maps)
 
-pub made_opens : (h : Header) → IsValid h → h.version ≡ this_version → Opens (need_of h) (made_image h) h
+pub made_opens : (h : Header) → IsValid h → h.version ≡ this_version → Opens (store_need h) (made_image h) h
 made_opens h valid version = record {
   reads = header_of-spelling (header_sector h) h (record { valid = valid; bytes = refl });
   version = version;

@@ -9,7 +9,8 @@ use Rattle.vd_image.specs.Image.{Header, HeaderError, Image, Format, Layout, Geo
 use Rattle.vd_image.specs.Layouts.{layout_of}
 use Rattle.vd_image.specs.Decoders.{header_of, this_version, format_of}
 use Rattle.vd_image.specs.Refusals.{Refuses}
-use Rattle.vd_image.specs.Openings.{OpeningRefusal, TooSmall, BadHeader, BadImage, RefusesOpening, No_sectors, Header_bad, Store_small, Image_bad, IsThisVersion, Opens, need_of}
+use Rattle.vd_format.specs.Layouts.{store_need}
+use Rattle.vd_image.specs.Openings.{OpeningRefusal, TooSmall, BadHeader, BadImage, RefusesOpening, No_sectors, Header_bad, Store_small, Image_bad, IsThisVersion, Opens}
 use Rattle.vd_image.proofs.Refusals.{consistent_not_refused, consistent_or_refused, refused_for_one}
 use Rattle.vd_image.proofs.Telling.{told_page, told_slot}
 
@@ -29,7 +30,7 @@ pub header_valid : (sector : Sector) (h : Header) → header_of sector ≡ Ok h 
 header_valid sector h told = read_valid sector h (header_of sector) (reads sector) told
 
 -- need is at least one sector
-needs_some : (h : Header) → 0 < need_of h
+needs_some : (h : Header) → 0 < store_need h
 needs_some h = omega arith
 
 -- what opens is refused for nothing
@@ -37,7 +38,7 @@ pub opens_not_refused : (sectors : ℕ) (image : Image) (h : Header) (r : Openin
 opens_not_refused sectors image h (TooSmall need have) opens (No_sectors none) = let room = opens.room in let some = needs_some h in omega arith
 opens_not_refused sectors image h (BadHeader e) opens (Header_bad error some bad) = let good = opens.reads in cc
 opens_not_refused sectors image h (TooSmall need have) opens (Store_small g some reads small) =
-    let good = opens.reads in let same : h ≡ g = cc in let room : need_of g ≤ sectors = subst (λ (x : Header). need_of x ≤ sectors) same opens.room in omega arith
+    let good = opens.reads in let same : h ≡ g = cc in let room : store_need g ≤ sectors = subst (λ (x : Header). store_need x ≤ sectors) same opens.room in omega arith
 opens_not_refused sectors image h (BadImage r) opens (Image_bad g refusal reads version room refuses) =
     let good = opens.reads in
     let same : g ≡ h = cc in
@@ -52,8 +53,8 @@ opens_or_refused sectors image this = elim (cases_eq sectors 0) [
   where
     by_header : 0 < sectors → (read : Result Header HeaderError) → header_of (image 0) ≡ read → ((h : Header) × Opens sectors image h) ⊎ ((r : OpeningRefusal) × RefusesOpening sectors image r)
     by_header some (Err error) bad = inr (BadHeader error, Header_bad error some bad)
-    by_header some (Ok h) reads = elim (cases_lt sectors (need_of h)) [
-      | inl small ↦ inr (TooSmall (need_of h) sectors, Store_small h some reads small)
+    by_header some (Ok h) reads = elim (cases_lt sectors (store_need h)) [
+      | inl small ↦ inr (TooSmall (store_need h) sectors, Store_small h some reads small)
       | inr room ↦
           let valid = header_valid (image 0) h reads in
           elim (consistent_or_refused (format_of h) (layout_of h) image h.generation (λ c within. told_page h image c valid) (λ k within. told_slot h image h.generation k valid)) [
@@ -74,13 +75,13 @@ opening_refused_for_one sectors image r q (Header_bad error some bad) (Store_sma
 opening_refused_for_one sectors image r q (Header_bad error some bad) (Image_bad h refusal reads version room refuses) = absurd cc
 opening_refused_for_one sectors image r q (Store_small h some reads small) (No_sectors none) = absurd (omega arith)
 opening_refused_for_one sectors image r q (Store_small h some reads small) (Header_bad error more bad) = absurd cc
-opening_refused_for_one sectors image r q (Store_small h some reads small) (Store_small g more also smaller) = let same : h ≡ g = cc in ap (λ (x : Header). TooSmall (need_of x) sectors) same
+opening_refused_for_one sectors image r q (Store_small h some reads small) (Store_small g more also smaller) = let same : h ≡ g = cc in ap (λ (x : Header). TooSmall (store_need x) sectors) same
 opening_refused_for_one sectors image r q (Store_small h some reads small) (Image_bad g refusal also version room refuses) =
-    absurd (let same : h ≡ g = cc in let enough : need_of h ≤ sectors = subst (λ (x : Header). need_of x ≤ sectors) (sym same) room in omega arith)
+    absurd (let same : h ≡ g = cc in let enough : store_need h ≤ sectors = subst (λ (x : Header). store_need x ≤ sectors) (sym same) room in omega arith)
 opening_refused_for_one sectors image r q (Image_bad h refusal reads version room refuses) (No_sectors none) = absurd (let needs = needs_some h in omega arith)
 opening_refused_for_one sectors image r q (Image_bad h refusal reads version room refuses) (Header_bad error some bad) = absurd cc
 opening_refused_for_one sectors image r q (Image_bad h refusal reads version room refuses) (Store_small g some also small) =
-    absurd (let same : h ≡ g = cc in let enough : need_of g ≤ sectors = subst (λ (x : Header). need_of x ≤ sectors) same room in omega arith)
+    absurd (let same : h ≡ g = cc in let enough : store_need g ≤ sectors = subst (λ (x : Header). store_need x ≤ sectors) same room in omega arith)
 opening_refused_for_one sectors image r q (Image_bad h refusal reads version room refuses) (Image_bad g other also this enough rejects) =
     let same : g ≡ h = cc in
     ap BadImage (refused_for_one (format_of h) (layout_of h) image h.generation refusal other refuses (subst (λ (x : Header). Refuses (format_of x) (layout_of x) image x.generation other) same rejects))
@@ -96,11 +97,11 @@ same_format g h same = ap (λ (z : Geometry). format_of (header_by z)) same
 pub same_layout : (g h : Header) → geometry_of g ≡ geometry_of h → layout_of g ≡ layout_of h
 same_layout g h same = ap (λ (z : Geometry). layout_of (header_by z)) same
 
-pub same_need : (g h : Header) → geometry_of g ≡ geometry_of h → need_of g ≡ need_of h
-same_need g h same = ap (λ (z : Geometry). need_of (header_by z)) same
+pub same_need : (g h : Header) → geometry_of g ≡ geometry_of h → store_need g ≡ store_need h
+same_need g h same = ap (λ (z : Geometry). store_need (header_by z)) same
 
 -- an image that the laws call sound, by the numbers of some header, opens, and no slot has a record of a later generation
-pub sound_opens : (g : Header) (sectors : ℕ) (image : Image) → g.version ≡ this_version → need_of g ≤ sectors → IsSound (format_of g) (layout_of g) image
+pub sound_opens : (g : Header) (sectors : ℕ) (image : Image) → g.version ≡ this_version → store_need g ≤ sectors → IsSound (format_of g) (layout_of g) image
     → (h : Header) × (geometry_of h ≡ geometry_of g) × Opens sectors image h × HasNoLater (format_of h) (layout_of h) image h.generation
 sound_opens g sectors image version room sound = (
   sound.header,

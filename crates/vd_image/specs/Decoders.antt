@@ -3,7 +3,7 @@ use Rattle.std.specs.Prelude.{ℕ, ◌-◌, ◌*◌, ◌%◌, ◌==◌, ◌&&◌
 use Rattle.std.specs.Int.{bit_at}
 use Rattle.std.specs.Option.{option_map}
 pub use Rattle.vd_format.specs.declared.map.Entry.{Entry}
-pub use Rattle.vd_format.specs.declared.map.Fact2.{Fact2}
+pub use Rattle.vd_format.specs.declared.journal.Fact2.{Fact2}
 pub use Rattle.vd_format.specs.declared.map.Shape2.{Shape2}
 unfoldable pub use Rattle.vd_format.specs.Headers.{header_of}
 pub use Rattle.vd_format.specs.Entries.{IsEntry, entry_at}

@@ -1,16 +1,13 @@
 -- Where the parts of a store stand, by the numbers of a header.
-use Rattle.std.specs.Prelude.{ℕ, ◌+◌, ◌*◌, ◌/◌, ◌%◌, ◌<◌, false}
+use Rattle.std.specs.Prelude.{ℕ, ◌+◌, ◌/◌, ◌<◌, false}
 pub use Rattle.vd_format.specs.Layouts.{blocks_of, chunks_of, map_start, slots_start, storage_start}
+use Rattle.vd_format.specs.Layouts.{place_of_sector}
 pub use Rattle.vd_format.specs.Headers.{IsValid}
 use Rattle.vd_image.specs.Image.{Header, Layout, geometry_of}
 
 -- the mappings that one sector of the map has
 abbrev pub page_mappings : ℕ
 page_mappings = 32
-
--- the sectors of a chunk, and of a storage chunk
-abbrev pub chunk_sectors : Header → ℕ
-chunk_sectors h = h.block * h.chunk
 
 abbrev pub layout_of : Header → Layout
 layout_of h = record {
@@ -26,7 +23,7 @@ layout_of h = record {
   slot_at = λ k. slots_start h + k;
   block_of = λ s. s / h.block;
   chunk_of = λ b. b / h.chunk;
-  place = λ p s. storage_start h + (p * chunk_sectors h + s % chunk_sectors h);
+  place = λ p s. place_of_sector (storage_start h) h.chunk h.block p s;
 }
 
 -- each part lies in a store of so many sectors

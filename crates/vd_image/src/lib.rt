@@ -17,7 +17,8 @@ ghost use Rattle.vd_image.specs.Layouts.{layout_of, FitsInStore};
 ghost use Rattle.vd_image.specs.Decoders.{Entry as MapEntry, Said, IsEntry, record_of, this_version, shape_of, mapping_in, record_in, format_of};
 ghost use Rattle.vd_image.specs.CrashImages.{sectors_or, IsCrashImage};
 ghost use Rattle.vd_image.specs.Made.{made_image, small_header};
-ghost use Rattle.vd_image.specs.Openings.{OpeningRefusal, RefusesOpening, IsThisVersion, Opens, need_of};
+ghost use Rattle.vd_format.specs.Layouts.{store_need};
+ghost use Rattle.vd_image.specs.Openings.{OpeningRefusal, RefusesOpening, IsThisVersion, Opens};
 
 /// A crash may leave a content in a sector exactly where the law's list has it, and some image it may always leave.
 pub fn may_is_exact()
@@ -43,7 +44,7 @@ pub fn sound_is_not_refused()
     ensures one { (sectors : ℕ) (image : Image) (r q : OpeningRefusal) → RefusesOpening sectors image r → RefusesOpening sectors image q → r ≡ q }
     ensures either { (sectors : ℕ) (image : Image) → IsThisVersion image → ((h : Header) × Opens sectors image h) ⊎ ((r : OpeningRefusal) × RefusesOpening sectors image r) }
     // What the laws call sound, by the numbers of some header, is what opens and has no record of a later generation.
-    ensures sound { (g : Header) (sectors : ℕ) (image : Image) → g.version ≡ this_version → need_of g ≤ sectors → IsSound (format_of g) (layout_of g) image
+    ensures sound { (g : Header) (sectors : ℕ) (image : Image) → g.version ≡ this_version → store_need g ≤ sectors → IsSound (format_of g) (layout_of g) image
         → (h : Header) × (geometry_of h ≡ geometry_of g) × Opens sectors image h × HasNoLater (format_of h) (layout_of h) image h.generation }
     ensures opens { (sectors : ℕ) (image : Image) (h : Header) → Opens sectors image h → HasNoLater (format_of h) (layout_of h) image h.generation → IsSound (format_of h) (layout_of h) image }
 {}
@@ -57,12 +58,12 @@ pub fn grammar_is_that_of_the_bytes()
 /// The parts of a store with a valid header lie apart, and inside the sectors that it needs.
 pub fn parts_lie_apart()
     ensures apart { (h : Header) → IsValid h → IsApart (layout_of h) }
-    ensures inside { (h : Header) → IsValid h → FitsInStore (layout_of h) (need_of h) }
+    ensures inside { (h : Header) → IsValid h → FitsInStore (layout_of h) (store_need h) }
 {}
 
 /// A new image, of its header and zeros everywhere else, opens, and its disk is the base below `tracked` and zeros from there on.
 pub fn new_image_opens()
-    ensures opens { (h : Header) → IsValid h → h.version ≡ this_version → Opens (need_of h) (made_image h) h }
+    ensures opens { (h : Header) → IsValid h → h.version ≡ this_version → Opens (store_need h) (made_image h) h }
     ensures no_later { (h : Header) → HasNoLater (format_of h) (layout_of h) (made_image h) h.generation }
     ensures disk { (h : Header) (base : ℕ → Sector) (s : ℕ) (v : Sector) → IsValid h → DiskHas (format_of h) (layout_of h) base zero_sector (made_image h) s v → v ≡ background base zero_sector h.tracked s }
     ensures some { (h : Header) × IsValid h × (h.version ≡ this_version) }
@@ -73,7 +74,7 @@ pub fn new_image_opens()
 pub fn small_image_is_as_worked()
     ensures map { (layout_of small_header).map_at 3 ≡ 3 }
     ensures slots { ((layout_of small_header).slot_at 0 ≡ 4) × ((layout_of small_header).slot_at 3 ≡ 7) }
-    ensures storage { ((layout_of small_header).place 0 0 ≡ 8) × (need_of small_header ≡ 104) }
+    ensures storage { ((layout_of small_header).place 0 0 ≡ 8) × (store_need small_header ≡ 104) }
     ensures place { (layout_of small_header).place 1 41 ≡ 49 }
     ensures entry { let m = mapping_in small_header 1 (record { storage = 2; zeros = false; mask = 1 }) in (m.storage ≡ Some 1) × (m.has 4 ≡ true) × (m.has 5 ≡ false) × (m.has 0 ≡ false) }
 {}

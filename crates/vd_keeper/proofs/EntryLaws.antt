@@ -7,7 +7,7 @@ use Rattle.vd_bits.specs.Blocks.{Blocks, bits_in}
 use Rattle.vd_bits.specs.Masks.{mask_of}
 use Rattle.vd_format.specs.declared.header.Header.{Header}
 use Rattle.vd_format.specs.declared.map.Entry.{Entry}
-use Rattle.vd_format.specs.declared.map.Fact2.{Fact2}
+use Rattle.vd_format.specs.declared.journal.Fact2.{Fact2}
 use Rattle.vd_format.specs.Layouts.{blocks_of, chunks_of}
 use Rattle.vd_table.specs.Tables.{TableState}
 use Rattle.vd_keeper.specs.Entries.{union_of, map_entry, fact_of, storage_number}

@@ -16,7 +16,7 @@ use Rattle.vd_bits.specs.Blocks.{Blocks, bits_in}
 use Rattle.vd_bits.specs.Masks.{mask_of}
 use Rattle.vd_format.specs.declared.header.Header.{Header}
 use Rattle.vd_format.specs.declared.map.Entry.{Entry}
-use Rattle.vd_format.specs.declared.map.Fact2.{Fact2}
+use Rattle.vd_format.specs.declared.journal.Fact2.{Fact2}
 use Rattle.vd_format.specs.declared.map.Shape2.{Shape2}
 use Rattle.vd_format.specs.Headers.{IsValid}
 use Rattle.vd_format.specs.Layouts.{blocks_of, chunks_of}

@@ -4,7 +4,7 @@ use Rattle.std.specs.List.{list_any, range_with_len}
 use Rattle.vd_law.specs.declared.entry.Sector.{Sector}
 use Rattle.vd_format.specs.declared.header.Header.{Header}
 use Rattle.vd_format.specs.declared.map.Entry.{Entry}
-use Rattle.vd_format.specs.declared.map.Fact2.{Fact2}
+use Rattle.vd_format.specs.declared.journal.Fact2.{Fact2}
 use Rattle.vd_format.specs.Layouts.{blocks_of, chunks_of}
 use Rattle.vd_bits.specs.Masks.{mask_of}
 use Rattle.vd_bits.specs.Blocks.{bits_in}

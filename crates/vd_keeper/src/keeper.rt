@@ -14,8 +14,7 @@ use std::alloc::Global;
 use std::marker::Model;
 use vd_bits::bits::Bits;
 use vd_bits::marked::Marked;
-use vd_format::Header;
-use vd_header::layout_of;
+use vd_format::{Header, layout_of};
 use vd_law::entry::NoMemory;
 
 /// The number of the map's sectors.

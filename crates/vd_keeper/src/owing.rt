@@ -10,7 +10,7 @@ ghost use Rattle.vd_keeper.specs.Sets.{Adopted, chunk_count};
 use crate::keeper::Keeper;
 use crate::sets::BlockSet;
 use vd_bits::bits::Bits;
-use vd_header::layout_of;
+use vd_format::layout_of;
 
 impl Keeper {
     /// Puts a block in the owed ones, unless it is stale.

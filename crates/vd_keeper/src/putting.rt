@@ -17,10 +17,10 @@ use crate::keeper::Keeper;
 use crate::sets::BlockSet;
 use crate::stage::{Put, Way};
 use vd_bits::bits::Bits;
-use vd_format::{Entry, Fact2, Header, Shape2};
-use vd_header::{layout_of, write_header};
+use vd_format::{
+    Entry, Fact2, Facts2, Header, Shape2, layout_of, page_of, write_header, write_record2,
+};
 use vd_law::entry::Sector;
-use vd_map::{Facts2, page_of, write_record2};
 use vd_table::table::Table;
 
 const MOST_FACTS: u32 = 24;

@@ -14,8 +14,7 @@ use std::process::Abort;
 use std::test::Fail;
 use vd_bits::bits::Bits;
 use vd_bits::marked::Marked;
-use vd_format::Header;
-use vd_header::{layout_of, valid};
+use vd_format::{Header, layout_of, valid};
 use vd_law::entry::Sector;
 use vd_table::table::Table;
 

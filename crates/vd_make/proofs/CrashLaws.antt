@@ -11,7 +11,7 @@ use Rattle.vd_law.specs.declared.entry.CallId.{CallId}
 use Rattle.vd_law.specs.declared.entry.Answer.TheVariants as answers
 use Rattle.vd_law.specs.Entries.{Entry, Ask, Issue, Done, Broke, Seen, Reply, past}
 use Rattle.vd_format.specs.Headers.{IsValid, header_of}
-use Rattle.vd_format.specs.Layouts.{storage_start, need_of}
+use Rattle.vd_format.specs.Layouts.{storage_start, store_need}
 use Rattle.vd_format.specs.declared.header.Header.{Header}
 use Rattle.vd_device.specs.Disks.{Disk}
 use Rattle.vd_image.specs.Log.{At}
@@ -100,7 +100,7 @@ never old new more k log quiet (i, id, from, below, is) =
 abbrev Either : Header → Sector → Type 0
 Either h x = (x ≡ zero_sector) ⊎ (x ≡ header_sector h)
 
-header_at : (h : Header) (more : List Entry) (ready new : Disk) (k : ℕ) (image : List Sector) → IsValid h → h.version ≡ this_version → need_of h ≤ length new.start
+header_at : (h : Header) (more : List Entry) (ready new : Disk) (k : ℕ) (image : List Sector) → IsValid h → h.version ≡ this_version → store_need h ≤ length new.start
     → MayHave zero_sector ready 0 → EachFrom 1 (storage_start h) (MayHave zero_sector ready) → PutsRange (header_sector h) 0 1 more ready new → length ready.log ≤ k → IsCrashImage new.start (take k new.log) image → IsNoImage image ⊎ IsNewImage h image
 header_at h more ready new k image valid version room zeros rest puts from crash =
     let part = take (k - length ready.log) more in
@@ -169,7 +169,7 @@ safe_blanked h old mid new first more puts kept last = record {
   safe = λ k image flushed crash. inl (blank_at first more mid new (storage_start h) k image kept last (reaches old mid new first more k puts.log kept last.log flushed) crash);
 }
 
-safe_headed : (h : Header) (old mid ready new : Disk) (first second more : List Entry) → IsValid h → h.version ≡ this_version → need_of h ≤ length old.start → PutsRange zero_sector 0 1 first old mid → IsDurable zero_sector 0 1 first mid
+safe_headed : (h : Header) (old mid ready new : Disk) (first second more : List Entry) → IsValid h → h.version ≡ this_version → store_need h ≤ length old.start → PutsRange zero_sector 0 1 first old mid → IsDurable zero_sector 0 1 first mid
     → PutsRange zero_sector 1 (storage_start h) second mid ready → EachFrom 1 (storage_start h) (MayHave zero_sector ready) → PutsRange (header_sector h) 0 1 more ready new → MakesSafely h old new
 safe_headed h old mid ready new first second more valid version room puts kept zeros rest last =
     let log : new.log ≡ mid.log ++ (second ++ more) = last.log ∙ ap (λ (l : List Entry). l ++ more) zeros.log ∙ append_assoc mid.log second more in
@@ -195,7 +195,7 @@ safe_headed h old mid ready new first second more valid version room puts kept z
         subst (λ (l : List Entry). IsCrashImage ready.start l image) log (subst (λ (xs : List Sector). IsCrashImage xs (take k new.log) image) last.start crash)
 
 -- However far the image was written, its making is safe.
-pub story_safe : (h : Header) (old new : Disk) → IsValid h → h.version ≡ this_version → need_of h ≤ length old.start → Story (header_sector h) zero_sector (storage_start h) old new → MakesSafely h old new
+pub story_safe : (h : Header) (old new : Disk) → IsValid h → h.version ≡ this_version → store_need h ≤ length old.start → Story (header_sector h) zero_sector (storage_start h) old new → MakesSafely h old new
 story_safe h old new valid version room (Begun more puts quiet) = safe_begun h old new more puts quiet
 story_safe h old new valid version room (Blanked first more mid puts kept last) = safe_blanked h old mid new first more puts kept last
 story_safe h old new valid version room (Headed first second more mid ready puts kept zeros rest last) = safe_headed h old mid ready new first second more valid version room puts kept zeros rest last
@@ -211,7 +211,7 @@ story_start header zeros end old new (Blanked first more mid puts kept last) = l
 story_start header zeros end old new (Headed first second more mid ready puts kept blank rest last) = last.start ∙ blank.start ∙ puts.start
 
 -- An image that was written whole is held, and is all that a crash leaves.
-pub written_new : (h : Header) (d : Disk) → IsValid h → h.version ≡ this_version → need_of h ≤ length d.start → need_of h ≤ length d.held → IsImageWritten (header_sector h) zero_sector (storage_start h) d → HasNewImage h d
+pub written_new : (h : Header) (d : Disk) → IsValid h → h.version ≡ this_version → store_need h ≤ length d.start → store_need h ≤ length d.held → IsImageWritten (header_sector h) zero_sector (storage_start h) d → HasNewImage h d
 written_new h d valid version start held written = record {
   held = new_image h d.held valid version held
       (held_sector (header_sector h) d.held 0 (inr (omega (arith, held))) written.first_held)

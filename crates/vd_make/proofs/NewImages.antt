@@ -3,7 +3,7 @@ use Rattle.std.proofs.Common.{ℕ, ◌≡◌, ◌<◌, ◌≤◌, inl, inr, Bool
 use Rattle.std.specs.Prelude.{if◌then◌else◌}
 use Rattle.vd_law.specs.declared.entry.Sector.{Sector}
 use Rattle.vd_format.specs.Headers.{IsValid, header_of}
-use Rattle.vd_format.specs.Layouts.{storage_start, need_of}
+use Rattle.vd_format.specs.Layouts.{storage_start, store_need}
 use Rattle.vd_format.specs.declared.header.HeaderError.TheVariants.{NotImage}
 use Rattle.vd_image.specs.Image.{Header, Image, Mapping, Record, Maps, GivesStorage, IsUnnamed, HasNoLater, DiskHas}
 use Rattle.vd_image.specs.Layouts.{layout_of}
@@ -42,7 +42,7 @@ maps_made h image generation chunk m like (inr page) =
 gives_none : (h : Header) (image : Image) (generation chunk p : ℕ) → IsLike h image → GivesStorage (format_of h) (layout_of h) image generation chunk p → ⊥
 gives_none h image generation chunk p like (m, maps, storage) = made_gives_none h generation chunk p (m, maps_made h image generation chunk m like maps, storage)
 
-like_opens : (h : Header) (sectors : ℕ) (image : Image) → IsValid h → h.version ≡ this_version → need_of h ≤ sectors → IsLike h image → Opens sectors image h
+like_opens : (h : Header) (sectors : ℕ) (image : Image) → IsValid h → h.version ≡ this_version → store_need h ≤ sectors → IsLike h image → Opens sectors image h
 like_opens h sectors image valid version room like =
     let opens = made_opens h valid version in
     record {
@@ -65,7 +65,7 @@ like_disk h image base s valid version like within =
     let apart = parts_apart h valid in
     let chunk = (layout_of h).chunk_of ((layout_of h).block_of s) in
     let inside : chunk < (layout_of h).chunks = apart.chunks ((layout_of h).block_of s) (apart.blocks s within) in
-    let opens = like_opens h (need_of h) image valid version (omega arith) like in
+    let opens = like_opens h (store_need h) image valid version (omega arith) like in
     let good = opens.consistent.mappings chunk inside in
     let maps : Maps (format_of h) (layout_of h) image h.generation chunk good.0 = inr (unnamed h image h.generation chunk like, inside, good.1) in
     record {
@@ -91,7 +91,7 @@ like_new h image first rest = record {
       rest ((layout_of h).slot_at k) (omega arith) (omega (arith, within)) ∙ sym (made_more h ((layout_of h).slot_at k) (omega arith)));
 }
 
-pub new_image : (h : Header) (sectors : List Sector) → IsValid h → h.version ≡ this_version → need_of h ≤ length sectors → sectors_or zero_sector sectors 0 ≡ header_sector h
+pub new_image : (h : Header) (sectors : List Sector) → IsValid h → h.version ≡ this_version → store_need h ≤ length sectors → sectors_or zero_sector sectors 0 ≡ header_sector h
     → ((s : ℕ) → 1 ≤ s → s < storage_start h → sectors_or zero_sector sectors s ≡ zero_sector) → IsNewImage h sectors
 new_image h sectors valid version room first rest =
     let like = like_new h (sectors_or zero_sector sectors) first rest in

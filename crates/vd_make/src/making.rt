@@ -2,7 +2,7 @@
 
 ghost use Rattle.std.specs.Prelude.{◌≡◌, ◌≤◌, ◌<◌, [], length, OnOk, IfErr};
 ghost use Rattle.vd_format.specs.Headers.{IsValid};
-ghost use Rattle.vd_format.specs.Layouts.{storage_start, need_of};
+ghost use Rattle.vd_format.specs.Layouts.{storage_start, store_need};
 ghost use Rattle.vd_device.specs.Stores.{KeepsStore};
 ghost use Rattle.vd_device.specs.Quiet.{IsReady, OnlyReads, IsCallFault};
 ghost use Rattle.vd_image.specs.Made.{header_sector};
@@ -16,7 +16,7 @@ ghost use Rattle.vd_format.specs.Background.{zero_sector};
 use crate::filling::fill;
 use std::alloc::Global;
 use vd_device::{Store, sectors_at_rest};
-use vd_header::{Header, layout_of, write_header};
+use vd_format::{Header, layout_of, write_header};
 use vd_io::sink::Sink;
 use vd_law::entry::Sector;
 use vd_report::line::Line;
@@ -40,7 +40,7 @@ fn write_image<S: Store>(store: &mut S, zeros: &[Sector], header: &Header) -> Re
     requires ready { IsReady S.Store store.old }
     requires zeros { AreAll zero_sector zeros.now × (length zeros.now ≡ MOST) }
     requires valid { IsValid header.now }
-    requires large { need_of header.now ≤ S.sectors store.old }
+    requires large { store_need header.now ≤ S.sectors store.old }
     ensures fault { IfErr result (IsCallFault S.Store store.old store.new) }
     ensures idle { S.flight store.new [] }
     ensures keeps { KeepsStore S.Store store.old store.new }
@@ -62,7 +62,7 @@ pub fn make<S: Store, O: Sink>(alloc: Global, out: &mut O, store: &mut S, header
     requires version { header.now.version ≡ 2 }
     ensures idle { S.flight store.new [] }
     ensures keeps { KeepsStore S.Store store.old store.new }
-    ensures unwritten { S.sectors store.old < need_of header.now → OnlyReads S.Store store.old store.new }
+    ensures unwritten { S.sectors store.old < store_need header.now → OnlyReads S.Store store.old store.new }
     ensures makes { Makes S.Store header.now result store.old store.new }
     ensures answer { (outcome : Outcome) × MakingEnds S.Store header.now store.old store.new outcome × PrintsOutcome O.Sink outcome result out.old out.new }
 {

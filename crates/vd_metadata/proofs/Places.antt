@@ -1,6 +1,6 @@
 -- Where a put lies in the store.
 use Rattle.std.proofs.Common.{◌≡◌, ℕ, ◌+◌, ◌-◌, ◌*◌, ◌/◌, ◌<◌, ◌≤◌, length, sym, ◌∙◌, arith}
-use Rattle.vd_format.specs.Layouts.{chunks_of, sectors_of, map_start, slots_start, storage_start}
+use Rattle.vd_format.specs.Layouts.{chunks_of, map_start, slots_start, storage_start, sectors_for_bytes}
 use Rattle.vd_table.specs.Tables.{TableState}
 use Rattle.vd_keeper.specs.declared.stage.Stage.TheVariants.{Rest, Puts, Broken}
 use Rattle.vd_keeper.specs.declared.stage.Put.{Put}
@@ -22,7 +22,7 @@ pub puts-possible : (k : KeeperState) → IsKeeping k → k.stage ≡ Puts → I
 puts-possible k kept stage = is-possible k kept (λ r. puts-rest (sym stage ∙ r)) (λ b. puts-broken (sym stage ∙ b))
 
 -- the map has a sector for each page
-page-inside : (start chunks slots page : ℕ) → page < (chunks + 31) / 32 → start + page < start + sectors_of (16 * chunks) + slots
+page-inside : (start chunks slots page : ℕ) → page < (chunks + 31) / 32 → start + page < start + sectors_for_bytes (16 * chunks) + slots
 page-inside start chunks slots page less = omega arith
 
 slot-inside : (start slots next left : ℕ) → next + records_for left ≤ slots → 0 < left → start + next < start + slots

@@ -18,7 +18,7 @@ ghost use Rattle.vd_metadata.specs.Flushing.{place_of_put, put_sector, meta_stat
 
 use crate::outcome::Outcome;
 use vd_device::{Settled, Store};
-use vd_header::{Header, layout_of};
+use vd_format::{Header, layout_of};
 use vd_keeper::{Keeper, Put, Route};
 use vd_law::entry::Sector;
 use vd_passes::pass::{Fault, Pass};

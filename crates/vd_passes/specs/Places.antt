@@ -1,5 +1,6 @@
 -- Where the blocks of a disk lie in its store.
-use Rattle.std.specs.Prelude.{ℕ, ◌≡◌, ◌≢◌, ◌+◌, ◌*◌, ◌/◌, ◌%◌, ◌^◌, ◌<◌, ◌≤◌, ◌⊎◌, min, List, Option, Some, None, slice_get}
+use Rattle.std.specs.Prelude.{ℕ, ◌≡◌, ◌≢◌, ◌+◌, ◌*◌, ◌/◌, ◌^◌, ◌<◌, ◌≤◌, ◌⊎◌, min, List, Option, Some, None, slice_get}
+use Rattle.vd_format.specs.Layouts.{place_of_block}
 use Rattle.vd_passes.specs.declared.shape.Shape.{Shape}
 
 -- guest sector s lies in block b
@@ -8,7 +9,7 @@ IsIn block b s = (block * b ≤ s) × (s < block * b + block)
 
 -- the block's first sector in the store, where its chunk has this storage chunk
 abbrev pub place_in : Shape → ℕ → Option (Option ℕ) → Option ℕ
-place_in shape b (Some (Some p)) = Some (shape.storage_at + (p * shape.chunk + b % shape.chunk) * shape.block)
+place_in shape b (Some (Some p)) = Some (place_of_block shape.storage_at shape.chunk shape.block p b)
 place_in shape b _ = None
 
 -- the first sector of block b in the store, by the storage chunk of each chunk

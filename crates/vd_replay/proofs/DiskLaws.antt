@@ -9,7 +9,7 @@ use borrow.Rule.Slice.PartMut.{put_mid}
 use Rattle.std.proofs.lemmas.List.FromFn.{length-map-range_with_len}
 use Rattle.vd_law.specs.declared.entry.Sector.{Sector}
 use Rattle.vd_format.specs.Headers.{IsValid}
-use Rattle.vd_format.specs.Layouts.{chunks_of, need_of}
+use Rattle.vd_format.specs.Layouts.{chunks_of, store_need}
 use Rattle.vd_format.specs.Entries.{empty_entry}
 use Rattle.vd_table.proofs.Links.{none_some}
 use Rattle.vd_image.specs.Image.{Header, DiskHas, Maps, IsLocalBy}
@@ -49,7 +49,7 @@ next_of_run s first n source next run same is i less = elim (cases_lt i n) [
 ]
 
 -- a run lies in the store
-pub run_inside : (s : State) (first n sectors : ℕ) (source : Source) → 0 < n → n ≤ 2048 → IsValid s.header → need_of s.header ≤ sectors → ((i : ℕ) → i < n → IsSource s (first + i) (source_further_on source i)) → FitsInTicket source n sectors
+pub run_inside : (s : State) (first n sectors : ℕ) (source : Source) → 0 < n → n ≤ 2048 → IsValid s.header → store_need s.header ≤ sectors → ((i : ℕ) → i < n → IsSource s (first + i) (source_further_on source i)) → FitsInTicket source n sectors
 run_inside s first n sectors (Local at) some most valid room run =
     let last = run (n - 1) (omega arith) in
     let p = last.1.0 in

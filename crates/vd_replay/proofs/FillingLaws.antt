@@ -6,7 +6,7 @@ use Rattle.vd_law.specs.declared.entry.Sector.{Sector}
 use Rattle.vd_format.specs.declared.map.Entry.{Entry}
 use Rattle.vd_format.specs.declared.map.Shape2.{Shape2}
 use Rattle.vd_format.specs.Headers.{IsValid}
-use Rattle.vd_format.specs.Layouts.{blocks_of, chunks_of, sectors_of, map_start, slots_start}
+use Rattle.vd_format.specs.Layouts.{blocks_of, chunks_of, map_start, slots_start, sectors_for_bytes}
 use Rattle.vd_format.specs.Entries.{empty_entry}
 use Rattle.vd_image.specs.Image.{Header, Geometry, geometry_of}
 use Rattle.vd_image.specs.Decoders.{shape_of}
@@ -170,7 +170,7 @@ sized_again s h b z valid none =
       storage = z.storage ∙ ap (λ (x : Geometry). x.storage) same;
       chunk = z.chunk ∙ ap (λ (x : Geometry). x.chunk) same;
       fresh = z.fresh ∙ ap (λ (x : Geometry). blocks_of (header_by x)) same;
-      more = z.more ∙ ap (λ (n : ℕ). sectors_of (16 * n)) chunks;
+      more = z.more ∙ ap (λ (n : ℕ). sectors_for_bytes (16 * n)) chunks;
       slots = z.slots ∙ ap (λ (x : Geometry). x.slots) same;
     }
 

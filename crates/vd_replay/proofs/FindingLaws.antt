@@ -6,7 +6,8 @@ use Rattle.vd_format.specs.declared.header.Header.{Header}
 use Rattle.vd_format.specs.declared.header.HeaderError.{HeaderError}
 use Rattle.vd_format.specs.Headers.{IsValid, header_of}
 use Rattle.vd_device.specs.Quiet.{sectors_from}
-use Rattle.vd_image.specs.Openings.{RefusesOpening, TooSmall, No_sectors, Header_bad, Store_small, need_of}
+use Rattle.vd_format.specs.Layouts.{store_need}
+use Rattle.vd_image.specs.Openings.{RefusesOpening, TooSmall, No_sectors, Header_bad, Store_small}
 use Rattle.vd_replay.specs.Images.{image_of}
 use Rattle.vd_replay.specs.Finding.{Found, Agrees, IsWrong, NotFound, ForStore}
 use Rattle.vd_replay.specs.Filling.{IsOfReading}
@@ -67,7 +68,7 @@ wrong_header kept held h have error.NotBuilt size some reads wrong = absurd wron
 wrong_header kept held h have error.NoMemory size some reads wrong = absurd wrong
 
 -- what is judged to be the header is found
-pub found_header : (T : Type 0) (r : Result Header OpenError) (held : List Sector) (h : Header) (have : ℕ) → IfOk r (λ (g : Header). g ≡ h) → IfOk r (λ (g : Header). need_of g ≤ have)
+pub found_header : (T : Type 0) (r : Result Header OpenError) (held : List Sector) (h : Header) (have : ℕ) → IfOk r (λ (g : Header). g ≡ h) → IfOk r (λ (g : Header). store_need g ≤ have)
     → (T → (have ≡ length held) × (0 < length held) × (header_of (image_of held 0) ≡ Ok h)) → IfOk r (λ (g : Header). T → Found held g)
 found_header T (Ok g) held h have same room knows = λ told. let k = knows told in let size = k.0 in record { some = k.1; reads = k.2 ∙ ap Ok (sym same); room = (let r = room in omega arith) }
 found_header T (Err e) held h have same room knows = tt

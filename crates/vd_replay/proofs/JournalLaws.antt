@@ -7,12 +7,12 @@ use Rattle.std.proofs.lemmas.List.{length-set, append-nil}
 use Rattle.std.proofs.lemmas.Option.{slice_get_within, get_or_from_slice_get}
 use Rattle.vd_law.specs.declared.entry.Sector.{Sector}
 use Rattle.vd_format.specs.declared.map.Entry.{Entry}
-use Rattle.vd_format.specs.declared.map.Fact2.{Fact2}
+use Rattle.vd_format.specs.declared.journal.Fact2.{Fact2}
 use Rattle.vd_format.specs.declared.map.Shape2.{Shape2}
 use Rattle.vd_format.specs.Entries.{IsEntry}
 use Rattle.vd_format.specs.Records.{Said, Nothing, Facts, Outside, slot_of}
-use Rattle.vd_map.specs.declared.facts.Slot2.TheVariants.{Other, Counts, Bad}
-use Rattle.vd_map.specs.Slots.{slot_for}
+use Rattle.vd_format.specs.declared.journal.facts.Slot2.TheVariants.{Other, Counts, Bad}
+use Rattle.vd_format.specs.SlotReading.{slot_for}
 use Rattle.vd_bits.proofs.SetLaws.{set_same, set_other}
 use Rattle.vd_replay.specs.Pages.{AreEntries}
 use Rattle.vd_replay.specs.Journal.{facts_said, facts_to, put_facts, AreReplayed, IsFirstOutside}

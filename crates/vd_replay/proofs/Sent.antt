@@ -4,7 +4,7 @@ use Rattle.std.proofs.Crossing as std
 use Rattle.vd_law.proofs.Sent as law
 use Rattle.vd_bits.proofs.Sent as bits
 use Rattle.vd_table.proofs.Sent.{table_send, table_sync}
-use Rattle.vd_map.proofs.Sent as map
+use Rattle.vd_format.proofs.Sent as map
 use Rattle.vd_format.specs.contracts.header.Header as Header
 use Rattle.vd_replay.specs.contracts.buffer.ReadBuffer as ReadBuffer
 use Rattle.vd_replay.specs.contracts.state.Cursor as Cursor

@@ -3,7 +3,7 @@ use Rattle.std.specs.Prelude.{ℕ, ◌≡◌, ◌+◌, ◌/◌, ◌^◌, ◌<◌
 use Rattle.vd_law.specs.declared.entry.Sector.{Sector}
 use Rattle.vd_device.specs.Tickets.{IsRange}
 use Rattle.vd_format.specs.declared.header.Header.{Header}
-use Rattle.vd_format.specs.Layouts.{storage_start, need_of}
+use Rattle.vd_format.specs.Layouts.{storage_start, store_need}
 use Rattle.vd_table.specs.Tables.{Has}
 use Rattle.vd_image.specs.Image.{DiskHas}
 use Rattle.vd_image.specs.Layouts.{layout_of}
@@ -51,7 +51,7 @@ FitsInTicket Zeros count sectors = Unit {0}
 -- the storage of an image with this header begins at this sector
 pub record IsStorageAt (h : Header) (at : ℕ) : Type 0 where
   pub start : at ≡ storage_start h
-  pub near : need_of h < 2 ^ 32
+  pub near : store_need h < 2 ^ 32
 
 -- this is what the sector is, by its source
 abbrev pub IsFrom : (held content : List Sector) (tracked : ℕ) → Source → (sector : ℕ) → Sector → Type 0

@@ -3,7 +3,8 @@ use Rattle.std.specs.Prelude.{ℕ, ◌≡◌, ◌<◌, ◌≤◌, List, length, 
 use Rattle.vd_law.specs.declared.entry.Sector.{Sector}
 use Rattle.vd_format.specs.declared.header.Header.{Header}
 use Rattle.vd_format.specs.Headers.{header_of}
-use Rattle.vd_image.specs.Openings.{TooSmall, BadHeader, RefusesOpening, need_of}
+use Rattle.vd_format.specs.Layouts.{store_need}
+use Rattle.vd_image.specs.Openings.{TooSmall, BadHeader, RefusesOpening}
 use Rattle.vd_replay.specs.Headers.{first_changed}
 use Rattle.vd_replay.specs.Images.{image_of}
 use Rattle.vd_replay.specs.declared.error.OpenError.{OpenError}
@@ -13,7 +14,7 @@ use Rattle.vd_replay.specs.declared.error.OpenError.TheVariants as error
 pub record Found (held : List Sector) (h : Header) : Type 0 where
   pub some : 0 < length held
   pub reads : header_of (image_of held 0) ≡ Ok h
-  pub room : need_of h ≤ length held
+  pub room : store_need h ≤ length held
 
 -- no field that never changes differs from the kept header, if there is one
 abbrev pub Agrees : Option Header → Header → Type 0
@@ -28,7 +29,7 @@ HasChanged (Some kept) h field = first_changed kept h ≡ Some field
 -- what is wrong with a header, on a store of so many sectors
 abbrev pub IsWrong : Option Header → Header → (have : ℕ) → OpenError → Type 0
 IsWrong kept h have (error.Changed field) = HasChanged kept h field
-IsWrong kept h have (error.TooSmall need n) = Agrees kept h × (need ≡ need_of h) × (n ≡ have) × (have < need_of h)
+IsWrong kept h have (error.TooSmall need n) = Agrees kept h × (need ≡ store_need h) × (n ≡ have) × (have < store_need h)
 IsWrong kept h have e = ⊥
 
 -- the header that is read, if one is, keeps the fields that never change

@@ -4,7 +4,7 @@ use Rattle.std.specs.List.{list_all}
 use Rattle.vd_law.specs.declared.entry.Sector.{Sector}
 use Rattle.vd_format.specs.declared.header.Header.{Header}
 use Rattle.vd_format.specs.Numbers.{are_zeros}
-use Rattle.vd_format.specs.Layouts.{chunks_of, sectors_of, table_start, bits_start, map_start, slots_start}
+use Rattle.vd_format.specs.Layouts.{chunks_of, table_start, bits_start, map_start, slots_start, sectors_for_bytes}
 use Rattle.vd_format.specs.Records.{JournalRecord, record_of}
 use Rattle.vd_device.specs.Quiet.{sectors_from}
 
@@ -15,7 +15,7 @@ are_empty bytes (x ∷ xs) = are_zeros (take bytes x.bytes) && are_empty (bytes 
 
 -- the area of so many bytes that begins at sector `from` of the store has zeros alone
 abbrev pub is_empty_area : (held : List Sector) (from bytes : ℕ) → Bool
-is_empty_area held from bytes = are_empty bytes (sectors_from held from (sectors_of bytes))
+is_empty_area held from bytes = are_empty bytes (sectors_from held from (sectors_for_bytes bytes))
 
 -- a slot counts where it has a record of the image's version and generation
 abbrev pub is_current : (version generation : ℕ) → Option JournalRecord → Bool

@@ -3,7 +3,7 @@ use Rattle.std.specs.Prelude.{ℕ, ◌≡◌, ◌≢◌, ◌+◌, ◌-◌, ◌*�
 use Rattle.vd_law.specs.declared.entry.Sector.{Sector}
 use Rattle.vd_format.specs.declared.header.Header.{Header}
 use Rattle.vd_format.specs.Headers.{IsValid, header_of}
-use Rattle.vd_format.specs.Layouts.{blocks_of, chunks_of, sectors_of, need_of}
+use Rattle.vd_format.specs.Layouts.{blocks_of, chunks_of, store_need, sectors_for_bytes}
 use Rattle.vd_format.specs.Entries.{empty_entry}
 use Rattle.vd_table.specs.Tables.{Has}
 use Rattle.vd_image.specs.Image.{Image, Record, Maps, IsCurrent}
@@ -26,7 +26,7 @@ pub record IsSized (s : State) : Type 0 where
   pub chunk : s.fresh.chunk ≡ s.header.chunk
   pub fresh : length s.fresh.bits ≡ blocks_of s.header
   -- one truth value for each sector of the map
-  pub more : length s.more ≡ sectors_of (16 * chunks_of s.header)
+  pub more : length s.more ≡ sectors_for_bytes (16 * chunks_of s.header)
   pub slots : s.cursor.slots ≡ s.header.slots
 
 -- What holds of a state that isn't void, whatever the store tells: its entries are in the grammar, and its table and its local blocks are theirs.
@@ -41,7 +41,7 @@ pub record IsWholeState (s : State) : Type 0 where
 pub record IsReadable (sectors : ℕ) (s : State) : Type 0 where
   pub sized : IsSized s
   pub full : s.void ≡ false
-  pub room : need_of s.header ≤ sectors
+  pub room : store_need s.header ≤ sectors
 
 -- What is opened, whatever the store tells.
 pub record IsOpenedState (sectors : ℕ) (s : State) : Type 0 where
@@ -90,7 +90,7 @@ pub record IsState (sectors : ℕ) (image : Image) (h : Header) (s : State) : Ty
 -- The state is what an image of version 1 says that is as it was made: nothing is local.
 pub record IsOldState (held : List Sector) (h : Header) (s : State) : Type 0 where
   pub reads : header_of (image_of held 0) ≡ Ok h
-  pub room : need_of h ≤ length held
+  pub room : store_need h ≤ length held
   pub is_fresh : is_fresh h held ≡ true
   pub header_is : s.header ≡ h
   pub map : s.map ≡ replicate (chunks_of h) empty_entry

@@ -4,7 +4,7 @@ ghost use Rattle.std.specs.Prelude.{◌≡◌, ◌+◌, ◌-◌, ◌*◌, ◌^�
 ghost use Rattle.vd_device.specs.Tickets.{IsRange};
 ghost use Rattle.vd_device.specs.Quiet.{IsReady, OnlyReads, IsStoreFault, sectors_from};
 ghost use Rattle.vd_format.specs.Numbers.{are_zeros};
-ghost use Rattle.vd_format.specs.Layouts.{sectors_of};
+ghost use Rattle.vd_format.specs.Layouts.{sectors_for_bytes};
 ghost use Rattle.vd_replay.specs.Fresh.{are_empty, is_empty_area};
 ghost use Rattle.vd_replay.specs.Looking.{IsArea, IsEmptyPiece};
 
@@ -61,7 +61,7 @@ pub fn is_empty_area<S: Store>(
 ) -> Result<bool, u64>
     requires ready { IsReady S.Store store.old }
     requires room { length room.old ≡ MOST }
-    requires area { IsArea (S.sectors store.old) from (sectors_of bytes) }
+    requires area { IsArea (S.sectors store.old) from (sectors_for_bytes bytes) }
     requires few { bytes < 2 ^ 32 }
     ensures fault { IfErr result (IsStoreFault S.Store store.old store.new) }
     ensures quiet { OnlyReads S.Store store.old store.new }

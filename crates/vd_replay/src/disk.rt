@@ -13,7 +13,7 @@ use crate::background::read_background;
 use crate::state::State;
 use vd_device::{Base, Store, read_only, sectors_at_rest};
 use vd_format::zeros::clear;
-use vd_header::{Header, layout_of};
+use vd_format::{Header, layout_of, place_of_block};
 use vd_law::entry::Sector;
 
 /// A device failed the ticket of this number.
@@ -55,8 +55,14 @@ fn place(header: &Header, storage_at: u64, p: u32, sector: u64) -> u64
     ensures place { result ≡ (places header.now).place p sector }
     ensures near { result < 2 ^ 32 }
 {
-    let chunk = u64::from(header.block) * u64::from(header.chunk);
-    storage_at + (u64::from(p) * chunk + sector % chunk)
+    let block = u64::from(header.block);
+    place_of_block(
+        storage_at,
+        u64::from(header.chunk),
+        block,
+        p,
+        sector / block,
+    ) + sector % block
 }
 
 /// Where this sector of the guest's disk comes from.

@@ -3,13 +3,13 @@
 ghost use Rattle.std.specs.Prelude.{◌≡◌, ◌≤◌, [], length, IfOk, IfErr};
 ghost use Rattle.vd_device.specs.Quiet.{IsReady, OnlyReads, IsStoreFault};
 ghost use Rattle.vd_format.specs.Headers.{IsValid};
-ghost use Rattle.vd_format.specs.Layouts.{need_of};
+ghost use Rattle.vd_format.specs.Layouts.{store_need};
 ghost use Rattle.vd_replay.specs.Fresh.{is_map_empty, is_fresh};
 
 use crate::area::{MOST, is_empty_area};
 use crate::slots::are_slots_free;
 use vd_device::Store;
-use vd_header::{Header, layout_of};
+use vd_format::{Header, layout_of};
 use vd_law::entry::Sector;
 
 /// Whether no chunk has an entry: the table and the bitmap are zeros.
@@ -18,7 +18,7 @@ fn is_map_empty<S: Store>(store: &mut S, room: &mut [Sector], header: &Header) -
     requires room { length room.old ≡ MOST }
     requires valid { IsValid header.now }
     requires version { header.now.version ≡ 1 }
-    requires large { need_of header.now ≤ S.sectors store.old }
+    requires large { store_need header.now ≤ S.sectors store.old }
     ensures fault { IfErr result (IsStoreFault S.Store store.old store.new) }
     ensures quiet { OnlyReads S.Store store.old store.new }
     ensures read { IfOk result (λ empty. S.tells store.new → empty ≡ is_map_empty header.now (S.disk store.new).held) }
@@ -37,7 +37,7 @@ pub fn is_fresh<S: Store>(store: &mut S, room: &mut [Sector], header: &Header) -
     requires room { length room.old ≡ MOST }
     requires valid { IsValid header.now }
     requires version { header.now.version ≡ 1 }
-    requires large { need_of header.now ≤ S.sectors store.old }
+    requires large { store_need header.now ≤ S.sectors store.old }
     ensures fault { IfErr result (IsStoreFault S.Store store.old store.new) }
     ensures quiet { OnlyReads S.Store store.old store.new }
     ensures read { IfOk result (λ fresh. S.tells store.new → fresh ≡ is_fresh header.now (S.disk store.new).held) }

@@ -3,13 +3,13 @@
 ghost use Rattle.std.specs.Prelude.{◌≡◌, ◌≤◌, [], length, IfOk, IfErr};
 ghost use Rattle.vd_device.specs.Quiet.{IsReady, OnlyReads, AddsFlush, IsStoreFault};
 ghost use Rattle.vd_format.specs.Headers.{IsValid};
-ghost use Rattle.vd_format.specs.Layouts.{need_of};
+ghost use Rattle.vd_format.specs.Layouts.{store_need};
 ghost use Rattle.vd_replay.specs.Headers.{first_changed};
 ghost use Rattle.vd_replay.specs.Finding.{Agrees, IsWrong, Found, NotFound, IsHeaderSearchError};
 
 use crate::error::OpenError;
 use vd_device::{Store, flush_only, read_only, sectors_at_rest};
-use vd_header::{Header, layout_of, read_header};
+use vd_format::{Header, layout_of, read_header};
 use vd_law::entry::Sector;
 
 /// The first of the fields that never change which differs: the version, as field 9, then the fields 1 to 5.
@@ -43,7 +43,7 @@ fn judge(header: Header, kept: Option<Header>, have: u64) -> Result<Header, Open
     requires { IsValid header }
     ensures same { IfOk result (λ h. h ≡ header) }
     ensures agrees { IfOk result (λ h. Agrees kept h) }
-    ensures room { IfOk result (λ h. need_of h ≤ have) }
+    ensures room { IfOk result (λ h. store_need h ≤ have) }
     ensures wrong { IfErr result (IsWrong kept header have) }
 {
     if let Some(kept) = kept {
@@ -67,7 +67,7 @@ pub fn find_header<S: Store>(store: &mut S, kept: Option<Header>) -> Result<Head
     ensures ready { IfOk result (λ h. IsReady S.Store store.new) }
     ensures valid { IfOk result IsValid }
     ensures agrees { IfOk result (Agrees kept) }
-    ensures room { IfOk result (λ h. need_of h ≤ S.sectors store.new) }
+    ensures room { IfOk result (λ h. store_need h ≤ S.sectors store.new) }
     ensures flushed { IfOk result (λ h. S.tells store.new → AddsFlush (S.disk store.old) (S.disk store.new)) }
     ensures found { IfOk result (λ h. S.tells store.new → Found (S.disk store.new).held h) }
     ensures not_found { IfErr result (λ e. S.tells store.new → NotFound kept (S.disk store.new).held e) }

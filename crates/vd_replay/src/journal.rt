@@ -4,7 +4,7 @@ ghost use Rattle.std.specs.Prelude.{ℕ, ◌≡◌, ◌+◌, ◌-◌, ◌*◌, �
 ghost use Rattle.std.specs.List.{All};
 ghost use Rattle.vd_law.specs.declared.entry.Sector.{Sector as AnySector};
 ghost use Rattle.vd_format.specs.declared.map.Entry.{Entry as AnyEntry};
-ghost use Rattle.vd_format.specs.declared.map.Fact2.{Fact2 as AnyFact};
+ghost use Rattle.vd_format.specs.declared.journal.Fact2.{Fact2 as AnyFact};
 ghost use Rattle.vd_format.specs.declared.map.Shape2.{Shape2 as AnyShape};
 ghost use Rattle.vd_format.specs.Records.{AreFacts};
 ghost use Rattle.vd_device.specs.Tickets.{IsRange};
@@ -16,8 +16,8 @@ ghost use Rattle.vd_format.specs.Background.{zero_sector};
 
 use crate::area::MOST;
 use vd_device::{Store, read_only};
+use vd_format::{Facts2, Map, Shape2, Slot2, read_record2};
 use vd_law::entry::Sector;
-use vd_map::{Facts2, Map, Shape2, Slot2, read_record2};
 
 /// Puts the entries of these facts over those of the map.
 fn apply(facts: &Facts2, map: &mut Map)

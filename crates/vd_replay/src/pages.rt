@@ -10,8 +10,8 @@ ghost use Rattle.vd_format.specs.Background.{zero_sector};
 
 use crate::area::MOST;
 use vd_device::{Store, read_only};
+use vd_format::{Map, Shape2, read_entry};
 use vd_law::entry::Sector;
-use vd_map::{Map, Shape2, read_entry};
 
 /// An entry outside the grammar.
 #[derive(Clone, Copy, Drop)]

@@ -8,7 +8,7 @@ ghost use Rattle.vd_replay.specs.Placing.{EachChunkHasBlocks, AreSized, Places, 
 
 use vd_bits::bits::Bits;
 use vd_bits::marked::Marked;
-use vd_map::{Entry, Map, Shape2};
+use vd_format::{Entry, Map, Shape2};
 use vd_table::table::Table;
 
 /// Two chunks that have one storage chunk.

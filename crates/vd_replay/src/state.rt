@@ -3,7 +3,7 @@
 ghost use Rattle.std.specs.Prelude.{◌≡◌, ◌⊎◌, ◌^◌, ◌<◌, ◌≤◌, [], true, is_err, length, None, Some, IfOk, IfErr, OnOk, OnErr};
 ghost use Rattle.vd_device.specs.Quiet.{IsReady, OnlyReads, AddsFlush, IsStoreFault};
 ghost use Rattle.vd_format.specs.Headers.{IsValid};
-ghost use Rattle.vd_format.specs.Layouts.{need_of};
+ghost use Rattle.vd_format.specs.Layouts.{store_need};
 ghost use Rattle.vd_image.specs.Image.{geometry_of};
 ghost use Rattle.vd_image.specs.Decoders.{shape_of};
 ghost use Rattle.vd_replay.specs.Journal.{AreTaken};
@@ -24,9 +24,8 @@ use std::alloc::Global;
 use vd_bits::bits::Bits;
 use vd_bits::marked::Marked;
 use vd_device::Store;
-use vd_header::{Header, layout_of};
+use vd_format::{Header, Map, Shape2, layout_of};
 use vd_law::entry::NoMemory;
-use vd_map::{Map, Shape2};
 use vd_table::table::Table;
 
 /// Where the next record goes.
@@ -128,7 +127,7 @@ impl State {
     fn read_entries<S: Store>(&mut self, store: &mut S) -> Result<u32, OpenError>
         requires ready { IsReady S.Store store.old }
         requires sized { IsSized self.old }
-        requires large { need_of self.old.header ≤ S.sectors store.old }
+        requires large { store_need self.old.header ≤ S.sectors store.old }
         ensures errors { IfErr result (IsOfReading (IsStoreFault S.Store store.old store.new)) }
         ensures quiet { OnlyReads S.Store store.old store.new }
         ensures kept { KeepsSizes self.old self.new }
@@ -172,7 +171,7 @@ impl State {
         requires ready { IsReady S.Store store.old }
         requires sized { IsSized self.old }
         requires version { self.old.header.version ≡ 1 }
-        requires large { need_of self.old.header ≤ S.sectors store.old }
+        requires large { store_need self.old.header ≤ S.sectors store.old }
         ensures errors { IfErr result (IsOfReading (IsStoreFault S.Store store.old store.new)) }
         ensures quiet { OnlyReads S.Store store.old store.new }
         ensures kept { KeepsSizes self.old self.new }
@@ -198,7 +197,7 @@ impl State {
         requires ready { IsReady S.Store store.old }
         requires sized { IsSized self.old }
         requires version { self.old.header.version ≡ 2 }
-        requires large { need_of self.old.header ≤ S.sectors store.old }
+        requires large { store_need self.old.header ≤ S.sectors store.old }
         ensures errors { IfErr result (IsOfReading (IsStoreFault S.Store store.old store.new)) }
         ensures quiet { OnlyReads S.Store store.old store.new }
         ensures kept { KeepsSizes self.old self.new }
@@ -214,7 +213,7 @@ impl State {
     fn read<S: Store>(&mut self, store: &mut S) -> Result<(), OpenError>
         requires ready { IsReady S.Store store.old }
         requires sized { IsSized self.old }
-        requires large { need_of self.old.header ≤ S.sectors store.old }
+        requires large { store_need self.old.header ≤ S.sectors store.old }
         ensures errors { IfErr result (IsOfReading (IsStoreFault S.Store store.old store.new)) }
         ensures quiet { OnlyReads S.Store store.old store.new }
         ensures kept { KeepsSizes self.old self.new }
@@ -233,7 +232,7 @@ impl State {
     fn fill<S: Store>(&mut self, store: &mut S) -> Result<(), OpenError>
         requires ready { IsReady S.Store store.old }
         requires sized { IsSized self.old }
-        requires large { need_of self.old.header ≤ S.sectors store.old }
+        requires large { store_need self.old.header ≤ S.sectors store.old }
         ensures errors { IfErr result (IsOfReading (IsStoreFault S.Store store.old store.new)) }
         ensures quiet { OnlyReads S.Store store.old store.new }
         ensures kept { KeepsSizes self.old self.new }

@@ -14,7 +14,7 @@ use Rattle.vd_device.specs.Disks.{Disk, IsHonest, IsRunning, IsClean}
 use Rattle.vd_device.specs.Quiet.{IsNoWrite, AddsNoWrite}
 use Rattle.vd_format.specs.declared.header.Header.{Header}
 use Rattle.vd_format.specs.Headers.{IsValid, header_of}
-use Rattle.vd_format.specs.Layouts.{need_of}
+use Rattle.vd_format.specs.Layouts.{store_need}
 use Rattle.vd_image.specs.Image.{Image, Mapping, Fact, Format, Layout, Counts, IsLastNamed, Maps, IsMapping, DiskHas}
 use Rattle.vd_image.specs.Layouts.{layout_of, FitsInStore}
 use Rattle.vd_image.specs.Decoders.{format_of, mapping_in}
@@ -144,7 +144,7 @@ module _ (sectors : ℕ) (held image : Image) (h : Header) (s : State) (is : IsS
   valid : IsValid h
   valid = header_valid (held 0) h is.opens.reads
 
-  inside : FitsInStore (layout_of h) (need_of h)
+  inside : FitsInStore (layout_of h) (store_need h)
   inside = parts_inside h valid
 
   have_same : HaveSame (format_of h) (layout_of h) held image

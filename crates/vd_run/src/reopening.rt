@@ -17,7 +17,7 @@ ghost use Rattle.vd_run.specs.Running.{first_past};
 ghost use Rattle.std.specs.Prelude.{None};
 
 use vd_device::{Base, Store, sectors_at_rest};
-use vd_header::Header;
+use vd_format::Header;
 use vd_io::Failed;
 use vd_io::sink::Sink;
 use vd_law::entry::Sector;

@@ -15,7 +15,8 @@ use Rattle.vd_image.specs.Image.{Format, Layout, Geometry, geometry_of, HasNoLat
 use Rattle.vd_image.specs.Layouts.{layout_of}
 use Rattle.vd_image.specs.Decoders.{Entry as MapEntry, this_version, format_of}
 use Rattle.vd_image.specs.CrashImages.{sectors_or}
-use Rattle.vd_image.specs.Openings.{Opens, need_of}
+use Rattle.vd_format.specs.Layouts.{store_need}
+use Rattle.vd_image.specs.Openings.{Opens}
 use Rattle.vd_image.proofs.CrashImages.{at_inside, past_end}
 use Rattle.vd_image.proofs.Exact.{may_is_exact}
 use Rattle.vd_image.proofs.Openings.{same_format, same_layout, sound_opens}
@@ -66,7 +67,7 @@ safe_held o table fresh k flusher passes history log image secured left = subst 
 
 -- What the store of a secured core holds opens again.
 pub held-sound : (h : Header) (entries : List MapEntry) (before : List Sector) (held : ℕ → Sector) (base disk : List Sector) (opened : ℕ) (table : TableState) (fresh : List Bool) (k : KeeperState) (flusher : Option ℕ) (passes : List Pass) (history : HistoryState) (log : List Entry) (now : List Sector)
-    → HasSafeMirror (opening_for h entries before held base disk opened) table fresh k flusher passes history log → IsHeldNow before log now → h.version ≡ this_version → need_of h ≤ length now → length disk ≡ h.size
+    → HasSafeMirror (opening_for h entries before held base disk opened) table fresh k flusher passes history log → IsHeldNow before log now → h.version ≡ this_version → store_need h ≤ length now → length disk ≡ h.size
     → IsOpenAgain h base disk history.log.entries now
 held-sound h entries before held base disk opened table fresh k flusher passes history log now secured holds version room size = record {
   sound = sound;

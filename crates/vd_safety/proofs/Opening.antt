@@ -8,7 +8,7 @@ use Rattle.vd_law.specs.declared.entry.Sector.{Sector}
 use Rattle.vd_law.specs.Entries.{Entry as Event}
 use Rattle.vd_law.specs.Histories.{HistoryState}
 use Rattle.vd_format.specs.declared.header.Header.{Header}
-use Rattle.vd_format.specs.Layouts.{blocks_of, chunks_of, sectors_of, map_start}
+use Rattle.vd_format.specs.Layouts.{blocks_of, chunks_of, map_start, sectors_for_bytes}
 use Rattle.vd_format.specs.Entries.{has_kind, entry_at}
 use Rattle.vd_image.specs.Log.{May, Flushes}
 use Rattle.vd_image.specs.Image.{Format, Layout, Mapping, Image, Maps, IsMapping, HasNoLater, DiskHas}
@@ -159,7 +159,7 @@ page_inside : (chunks c : ℕ) → c < chunks → c / 32 < (16 * chunks + 511) /
 page_inside chunks c less = omega arith
 
 -- the entry of a chunk whose sector of the map isn't marked stands in that sector
-unmarked_entry : (sectors : ℕ) (image : Image) (h : Header) (s : State) (c : ℕ) (e : Entry) → IsState sectors image h s → length s.more ≡ sectors_of (16 * chunks_of h) → c < chunks_of h → slice_get s.map c ≡ Some e
+unmarked_entry : (sectors : ℕ) (image : Image) (h : Header) (s : State) (c : ℕ) (e : Entry) → IsState sectors image h s → length s.more ≡ sectors_for_bytes (16 * chunks_of h) → c < chunks_of h → slice_get s.map c ≡ Some e
     → bit_of s.more (c / 32) ≡ false → e ≡ entry_at (image ((layout_of h).map_at c)) (entry_place c)
 unmarked_entry sectors image h s c e is size within at down = elim (same_or_not e (entry_at (image ((layout_of h).map_at c)) (entry_place c))) [
   | inl same ↦ same
@@ -170,7 +170,7 @@ unmarked_entry sectors image h s c e is size within at down = elim (same_or_not 
 ]
 
 -- and so its mapping is read there
-unmarked_read : (sectors : ℕ) (image : Image) (h : Header) (s : State) (c : ℕ) → IsState sectors image h s → length s.more ≡ sectors_of (16 * chunks_of h) → c < chunks_of h → bit_of s.more (c / 32) ≡ false
+unmarked_read : (sectors : ℕ) (image : Image) (h : Header) (s : State) (c : ℕ) → IsState sectors image h s → length s.more ≡ sectors_for_bytes (16 * chunks_of h) → c < chunks_of h → bit_of s.more (c / 32) ≡ false
     → (m : Mapping) × ((format_of h).mapping_of (image ((layout_of h).map_at c)) c ≡ Some m) × IsMapping (layout_of h) c m × Maps (format_of h) (layout_of h) image h.generation c m
 unmarked_read sectors image h s c is size within down =
     let page = is.opens.consistent.mappings c within in

@@ -1,9 +1,10 @@
 -- Where a guest's sector stands in a store, by the layout and by the shape.
 use Rattle.std.proofs.Common.{◌≡◌, ℕ, suc, ◌+◌, ◌-◌, ◌*◌, ◌/◌, ◌%◌, ◌<◌, ◌≤◌, List, refl, sym, ◌∙◌, ap, inl, inr, arith, Option, Some, None, slice_get}
-use Rattle.std.proofs.Math.Nat.{mul-le-mul_left, mul-suc, mul_comm, mul_assoc, mul-add, add-mul, div-add-mod, mod-lt, mod-eq_of_lt, mul-add-mod_self_left}
+use Rattle.std.proofs.Math.Nat.{mul-le-mul_left, mul-suc, div-add-mod, mod-lt}
 use Rattle.std.proofs.lemmas.Bool.{cases_lt}
 use Rattle.vd_format.specs.declared.header.Header.{Header}
-use Rattle.vd_format.specs.Layouts.{blocks_of, storage_start}
+use Rattle.vd_format.specs.Layouts.{blocks_of, storage_start, place_of_sector}
+use Rattle.vd_format.proofs.Places.{in-place}
 use Rattle.vd_image.specs.Image.{Layout}
 use Rattle.vd_image.specs.Layouts.{layout_of}
 use Rattle.vd_passes.specs.declared.shape.Shape.{Shape}
@@ -26,23 +27,6 @@ same-block block b c s in_b in_c = elim (cases_lt b c) [
   ]
 ]
 
--- a sector of a block has as its remainder by the chunk's sectors the place of the block in its chunk, and its own in the block
-remainder : (block chunk b s : ℕ) → 0 < chunk → IsIn block b s → s % (block * chunk) ≡ block * (b % chunk) + (s - block * b)
-remainder block chunk b s some inside =
-    let e = div-add-mod b chunk in
-    let m = mod-lt b some in
-    let f : block * b ≡ block * (chunk * (b / chunk) + b % chunk) = ap (λ (n : ℕ). block * n) (sym e) in
-    let g = mul-add block (chunk * (b / chunk)) (b % chunk) in
-    let k = mul_assoc block chunk (b / chunk) in
-    let from = inside.0 in
-    let to = inside.1 in
-    let split : s ≡ block * chunk * (b / chunk) + (block * (b % chunk) + (s - block * b)) = omega arith in
-    let below : block * (b % chunk) + block ≤ block * chunk = block-after block (b % chunk) chunk m in
-    let small : block * (b % chunk) + (s - block * b) < block * chunk = omega arith in
-    ap (λ (n : ℕ). n % (block * chunk)) split
-    ∙ mul-add-mod_self_left (block * chunk) (b / chunk) (block * (b % chunk) + (s - block * b))
-    ∙ mod-eq_of_lt small
-
 module _ (h : Header) (l : Layout) (is : l ≡ layout_of h) where
   pub block-is : (s : ℕ) → l.block_of s ≡ s / h.block
   block-is s = ap (λ (m : Layout). m.block_of s) is
@@ -60,12 +44,12 @@ module _ (h : Header) (l : Layout) (is : l ≡ layout_of h) where
   -- where a sector of block b stands in storage chunk p
   pub place-is : (p b s : ℕ) → 0 < h.chunk → IsIn h.block b s → l.place p s + h.block * b ≡ storage_start h + (p * h.chunk + b % h.chunk) * h.block + s
   place-is p b s some inside =
-      let e : l.place p s ≡ storage_start h + (p * (h.block * h.chunk) + s % (h.block * h.chunk)) = ap (λ (m : Layout). m.place p s) is in
-      let r = remainder h.block h.chunk b s some inside in
-      let a = add-mul (p * h.chunk) (b % h.chunk) h.block in
-      let c : p * (h.block * h.chunk) ≡ p * h.chunk * h.block = ap (λ (n : ℕ). p * n) (mul_comm h.block h.chunk) ∙ sym (mul_assoc p h.chunk h.block) in
-      let d = mul_comm h.block (b % h.chunk) in
       let from = inside.0 in
+      let to = inside.1 in
+      let some_sector : 0 < h.block = omega arith in
+      let at : s / h.block ≡ b = same-block h.block (s / h.block) b s (in-own h.block s some_sector) inside in
+      let e : l.place p s ≡ place_of_sector (storage_start h) h.chunk h.block p s = ap (λ (m : Layout). m.place p s) is in
+      let f = in-place (storage_start h) h.chunk h.block p b s at in
       omega arith
 
   -- a block of the disk has its sectors in the disk

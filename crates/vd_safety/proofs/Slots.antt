@@ -7,7 +7,7 @@ use Rattle.std.proofs.lemmas.Bool.{cases_lt}
 use Rattle.std.proofs.lemmas.Option.{slice_get-map, slice_get-get_or}
 use Rattle.vd_law.specs.declared.entry.Sector.{Sector}
 use Rattle.vd_format.specs.declared.header.Header.{Header}
-use Rattle.vd_format.specs.declared.map.Fact2.{Fact2}
+use Rattle.vd_format.specs.declared.journal.Fact2.{Fact2}
 use Rattle.vd_format.specs.Headers.{IsValid}
 use Rattle.vd_format.specs.Numbers.{u64_at, has_magic}
 use Rattle.vd_format.specs.Records.{ShapeFits, AreFacts, record_magic, record_bytes, is_well_formed, facts_from, count_in}

@@ -12,7 +12,7 @@ ghost use Rattle.vd_table.specs.Tables.{TableState};
 ghost use Rattle.vd_image.specs.Log.{Writes};
 ghost use Rattle.vd_image.specs.Layouts.{layout_of};
 ghost use Rattle.vd_image.specs.Decoders.{Entry as MapEntry, this_version, format_of};
-ghost use Rattle.vd_image.specs.Openings.{need_of};
+ghost use Rattle.vd_format.specs.Layouts.{store_need};
 ghost use Rattle.vd_crash.specs.facts.CrashSafe.{IsCrashSafe};
 ghost use Rattle.vd_keeper.specs.Keeping.{KeeperState};
 ghost use Rattle.vd_passes.specs.declared.pass.Pass.{Pass};
@@ -30,6 +30,6 @@ pub fn secured_is_crash_safe()
 /// What the store of a secured core holds, and each image that a crash leaves of it, opens again, with a disk that the history allows.
 pub fn secured_image_opens_again()
     ensures { (h : Header) (entries : List MapEntry) (before : List Sector) (held : ℕ → Sector) (base disk : List Sector) (opened : ℕ) (table : TableState) (fresh : List Bool) (k : KeeperState) (flusher : Option ℕ) (passes : List Pass) (history : HistoryState) (log : List Entry) (now : List Sector)
-        → HasSafeMirror (opening_for h entries before held base disk opened) table fresh k flusher passes history log → IsHeldNow before log now → h.version ≡ this_version → need_of h ≤ length now → length disk ≡ h.size
+        → HasSafeMirror (opening_for h entries before held base disk opened) table fresh k flusher passes history log → IsHeldNow before log now → h.version ≡ this_version → store_need h ≤ length now → length disk ≡ h.size
         → IsOpenAgain h base disk history.log.entries now }
 {}

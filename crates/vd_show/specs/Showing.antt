@@ -8,7 +8,7 @@ use Rattle.vd_format.specs.declared.header.Header.{Header}
 use Rattle.vd_format.specs.declared.header.HeaderError.{HeaderError}
 use Rattle.vd_format.specs.declared.header.HeaderError.TheVariants as header_errors
 use Rattle.vd_format.specs.Headers.{header_of}
-use Rattle.vd_format.specs.Layouts.{need_of}
+use Rattle.vd_format.specs.Layouts.{store_need}
 use Rattle.vd_image.specs.Image.{DiskHas}
 use Rattle.vd_image.specs.Layouts.{layout_of}
 use Rattle.vd_image.specs.Decoders.{this_version, format_of}
@@ -49,7 +49,7 @@ show_line refusals.NoMemory = lines.NoMemory
 pub record IsOldImage (held : List Sector) (h : Header) : Type 0 where
   pub reads : header_of (image_of held 0) ≡ Ok h
   pub version : h.version ≡ 1
-  pub room : need_of h ≤ length held
+  pub room : store_need h ≤ length held
   pub fresh : is_fresh h held ≡ true
 
 -- the image opens by this header: one of version 2 by its map and its records, one of version 1 as it was made

@@ -8,7 +8,7 @@ ghost use Rattle.vd_report.specs.Ending.{PrintsOutcome};
 
 use std::alloc::Global;
 use vd_device::{Base, Store, sectors_at_rest};
-use vd_header::HeaderError;
+use vd_format::HeaderError;
 use vd_io::sink::Sink;
 use vd_law::entry::Sector;
 use vd_replay::{DiskFault, OpenError, read_disk, recover};

@@ -4,7 +4,7 @@ use Rattle.vd_device.specs.declared.store.Store as store
 use Rattle.vd_device.specs.declared.base.Base as base
 use Rattle.vd_io.specs.declared.source.Source as source
 use Rattle.vd_format.specs.declared.header.Header.{Header}
-use Rattle.vd_format.specs.Layouts.{need_of}
+use Rattle.vd_format.specs.Layouts.{store_need}
 use Rattle.vd_command.specs.declared.command.Command.TheVariants.{Show}
 use Rattle.vd_command.specs.Words.{Spells}
 use Rattle.vd_report.specs.declared.line.Line.TheVariants.{BadWords}
@@ -31,7 +31,7 @@ module _ {S B : Type 0} (g : store.Ghosts S) (h : base.Ghosts B) where
 
   -- the words ask for no image that has room
   abbrev pub HasNoRoomFor : (words : List (List ℕ)) → Devices S B → Type 0
-  HasNoRoomFor words d = (header : Header) → AsksFor words (h.sectors d.base) header → g.sectors d.store < need_of header
+  HasNoRoomFor words d = (header : Header) → AsksFor words (h.sectors d.base) header → g.sectors d.store < store_need header
 
 module _ {S B I : Type 0} (g : store.Ghosts S) (h : base.Ghosts B) (i : source.Ghosts I) where
   -- The answer to words, with what was handed out. The source is only read by a run.

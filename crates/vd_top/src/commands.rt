@@ -2,7 +2,7 @@
 
 ghost use Rattle.std.specs.Prelude.{◌≡◌, ℕ, ◌<◌, ◌≤◌, ◌↔◌, ◌⊎◌, [], map, string_bytes, IfSome, IfNone, IsTrue, false, None, OnSome};
 ghost use Rattle.vd_format.specs.declared.header.Header.{Header as AnyHeader};
-ghost use Rattle.vd_format.specs.Layouts.{need_of};
+ghost use Rattle.vd_format.specs.Layouts.{store_need};
 ghost use Rattle.vd_device.specs.Quiet.{OnlyReads};
 ghost use Rattle.vd_show.specs.Devices.{devices, Leaves, HaveFailed};
 ghost use Rattle.vd_report.specs.Outcomes.{Outcome};
@@ -15,7 +15,7 @@ ghost use Rattle.vd_law.specs.Counts.{Rose};
 use std::alloc::Global;
 use vd_command::Command;
 use vd_device::{Base, Store, sectors_at_rest};
-use vd_header::{Header, layout_of};
+use vd_format::{Header, layout_of};
 use vd_io::sink::Sink;
 use vd_io::source::Source;
 use vd_make::make;
@@ -85,7 +85,7 @@ fn task_of(words: &[String], base_sectors: u64) -> Task
 
 /// The sectors of the store that the words make: the number that the image needs, where they are a `make`.
 pub fn store_sectors(words: &[String]) -> Option<u64>
-    ensures some { IfSome result (λ sectors. (h : AnyHeader) → AsksFor (map string_bytes words.now) 0 h → sectors ≡ need_of h) }
+    ensures some { IfSome result (λ sectors. (h : AnyHeader) → AsksFor (map string_bytes words.now) 0 h → sectors ≡ store_need h) }
     ensures none { IfNone result (IsNoMake (map string_bytes words.now)) }
     ensures make { OnSome result (IsNoMake (map string_bytes words.now) → ⊥) }
 {

@@ -11,7 +11,7 @@ use Rattle.vd_device.specs.declared.base.Base as base
 use Rattle.vd_device.specs.declared.ticket.Ticket.{Ticket}
 use Rattle.vd_format.specs.declared.header.Header.{Header}
 use Rattle.vd_format.specs.Headers.{IsValid}
-use Rattle.vd_format.specs.Layouts.{blocks_of, need_of}
+use Rattle.vd_format.specs.Layouts.{blocks_of, store_need}
 use Rattle.vd_format.proofs.Rules.{block_within, chunk_within, size_within}
 use Rattle.vd_table.specs.Tables.{TableState, IsOneToOne}
 use Rattle.vd_replay.specs.declared.state.State.{State}
@@ -124,7 +124,7 @@ one-to-one s whole = record {
 }
 
 module _ (s : State) (whole : IsWholeState s) (passes : List Pass) (count sectors depth events base_sectors base_depth : ℕ) (room : Room) (flight base_flight : List Ticket → Type 0)
-    (fits : need_of s.header ≤ sectors) (bounded : sectors < 2 ^ 64) (deep : 128 ≤ depth) (base_deep : 128 ≤ base_depth) (idle : flight []) (base_idle : base_flight [])
+    (fits : store_need s.header ≤ sectors) (bounded : sectors < 2 ^ 64) (deep : 128 ≤ depth) (base_deep : 128 ≤ base_depth) (idle : flight []) (base_idle : base_flight [])
     (few : count ≤ 64) (new : AreNew count s.header.block passes) (counted : room.events < 2 ^ 64) where
   abbrev h : Header
   h = s.header
@@ -183,7 +183,7 @@ module _ (s : State) (whole : IsWholeState s) (passes : List Pass) (count sector
   opened-parts : IsCoherent shape fresh (place_of shape table.chunks) passes [] sectors depth base_sectors base_depth flight base_flight × RoomIsReserved h.block passes (empty_history room events) room events × IsStorage shape table sectors
   opened-parts = (coherent, roomy, storage)
 
-pub opened-kept : {S B : Type 0} (g : store.Ghosts S) (h : base.Ghosts B) (x : S) (y : B) (s : State) → IsWholeState s → (passes : List Pass) (count : ℕ) (room : Room) → need_of s.header ≤ g.sectors x → g.sectors x < 2 ^ 64 → 128 ≤ g.depth x → 128 ≤ h.depth y
+pub opened-kept : {S B : Type 0} (g : store.Ghosts S) (h : base.Ghosts B) (x : S) (y : B) (s : State) → IsWholeState s → (passes : List Pass) (count : ℕ) (room : Room) → store_need s.header ≤ g.sectors x → g.sectors x < 2 ^ 64 → 128 ≤ g.depth x → 128 ≤ h.depth y
     → g.flight x [] → h.flight y [] → count ≤ 64 → AreNew count s.header.block passes → room.events < 2 ^ 64
     → IsSoundCore g h (disk_shape s.header (h.sectors y)) s (replicate count None) passes (empty_history room (g.events x)) room x y
 opened-kept g h x y s whole passes count room fits bounded deep base_deep idle base_idle few new counted =

@@ -8,7 +8,7 @@ use Rattle.vd_device.specs.Disks.{Disk, IsHonest, IsClean}
 use Rattle.vd_device.specs.Now.{flush_entries}
 use Rattle.vd_format.specs.declared.header.Header.{Header}
 use Rattle.vd_format.specs.Headers.{IsValid}
-use Rattle.vd_format.specs.Layouts.{need_of}
+use Rattle.vd_format.specs.Layouts.{store_need}
 use Rattle.vd_image.specs.Log.{Writes}
 use Rattle.vd_image.specs.Image.{HasNoLater}
 use Rattle.vd_image.specs.Layouts.{layout_of}
@@ -38,7 +38,7 @@ clean-since old new clean adds = record {
 }
 
 -- What each sector holds may be left by a crash, each write lies in the store, and no record that is held is of a later generation.
-pub was-safe : (h : Header) (old disk : Disk) (opened : ℕ) → IsValid h → need_of h ≤ length disk.held → opened ≡ length disk.log → IsHonest disk → WasClean (opening_at opened disk) → IsClean old → AddsFlush old disk
+pub was-safe : (h : Header) (old disk : Disk) (opened : ℕ) → IsValid h → store_need h ≤ length disk.held → opened ≡ length disk.log → IsHonest disk → WasClean (opening_at opened disk) → IsClean old → AddsFlush old disk
     → length disk.held ≡ length disk.start → AreLeft disk → AreInside disk → HasNoLater (format_of h) (layout_of h) (image_of disk.held) h.generation → WasSafe (opening_at opened disk) h
 was-safe h old disk opened valid room all honest settled clean adds size held inside no_later = record {
   inside = subst (λ (l : List Entry). (i a : ℕ) (v : Sector) → Writes l i a v → a < length disk.start) (sym (all-told disk opened all)) inside;

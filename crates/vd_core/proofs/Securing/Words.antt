@@ -9,7 +9,7 @@ use Rattle.vd_law.specs.declared.entry.Room.{Room}
 use Rattle.vd_law.specs.Entries.{Entry}
 use Rattle.vd_law.specs.Histories.{HistoryState}
 use Rattle.vd_format.specs.declared.header.Header.{Header}
-use Rattle.vd_format.specs.Layouts.{need_of}
+use Rattle.vd_format.specs.Layouts.{store_need}
 use Rattle.vd_regions.specs.declared.regions.Region.{Region}
 use Rattle.vd_replay.specs.declared.state.State.{State}
 use Rattle.vd_passes.specs.declared.shape.Shape.{Shape}
@@ -62,10 +62,10 @@ module _ {shape : Shape} {state : State} {regions : List (Option Region)} {passe
     (kept : IsSoundCore sg bg shape state regions passes history spare the_store the_base) (recorded : MetadataAgrees shape state passes flusher k)
     (was : IsSafelyKept sg bg state k flusher passes history the_store the_base) (start : List Sector) (is : IsStart (opening_at history.opened (sg.disk the_store)) (bg.content the_base) state.header start) (safe : WasSafe (opening_at history.opened (sg.disk the_store)) state.header) where
   -- the image has its room in the store
-  room : need_of state.header ≤ (sg.sectors the_store)
+  room : store_need state.header ≤ (sg.sectors the_store)
   room =
       let attended = recorded.attended in
-      let same : need_of k.header ≡ need_of state.header = ap (λ (g : Geometry). need_of (bare g)) recorded.same in
+      let same : store_need k.header ≡ store_need state.header = ap (λ (g : Geometry). store_need (bare g)) recorded.same in
       let inside = rw (attended.storage_at, attended.storage, attended.chunk, attended.block) at kept.storage.inside in
       omega (arith, same, inside)
 

@@ -9,7 +9,8 @@ use Rattle.vd_image.proofs.Layouts.{parts_apart}
 use Rattle.vd_image.proofs.Made.{made_opens, made_base, made_no_later, made_gives_none, made_slot_unread, made_disk}
 use Rattle.vd_crash.specs.facts.Safe.{Opening}
 use Rattle.vd_crash.specs.facts.Opened.{IsAtOpening}
-use Rattle.vd_image.specs.Openings.{Opens, need_of}
+use Rattle.vd_format.specs.Layouts.{store_need}
+use Rattle.vd_image.specs.Openings.{Opens}
 use Rattle.vd_crash.specs.facts.Memory.{Memory}
 use Rattle.vd_format.specs.Background.{zero_sector, background}
 
@@ -80,7 +81,7 @@ new_at_opening h base valid version = record {
   born = λ b. refl;
 }
   where
-    opens : Opens (need_of h) (made_image h) h
+    opens : Opens (store_need h) (made_image h) h
     opens = made_opens h valid version
 
 -- each header of this version has an opening, over each base

@@ -3,7 +3,7 @@ use Rattle.vd_report.specs.declared.line.Line.TheVariants.{NoMemory, TooSmall, S
 use Rattle.vd_report.specs.Outcomes.{Says}
 use Rattle.vd_make.specs.Making.{Too_few, Lacks_memory, Write_failed, Is_made}
 use Rattle.vd_report.specs.declared.line.Line.{Line}
-use Rattle.vd_format.specs.Layouts.{need_of}
+use Rattle.vd_format.specs.Layouts.{store_need}
 use Rattle.vd_device.proofs.QuietLaws.{reads_nothing}
 use Rattle.vd_report.specs.Ending.{PrintsOutcome}
 use Rattle.vd_make.proofs.StoryLaws.{all_filled, zero_is}
@@ -20,8 +20,8 @@ returns-then-have-need-clause-answer g c =
     let need = c.layout_of-need.ensures.need in
     let have = c.sectors_to_write-have.ensures.value in
     let small = c.if-have-need.true in
-    let line : TooSmall c.layout_of-need.result.need c.sectors_to_write-have.result ≡ TooSmall (need_of c.args.header.now) (g.S.Store.sectors c.args.store.now) = cc in (
-      Says (TooSmall (need_of c.args.header.now) (g.S.Store.sectors c.args.store.now)),
+    let line : TooSmall c.layout_of-need.result.need c.sectors_to_write-have.result ≡ TooSmall (store_need c.args.header.now) (g.S.Store.sectors c.args.store.now) = cc in (
+      Says (TooSmall (store_need c.args.header.now) (g.S.Store.sectors c.args.store.now)),
       Too_few (omega (arith, need, have, small)) (reads_nothing c.sectors_to_write-have.ensures.ready),
       subst (λ (l : Line). PrintsOutcome g.O.Sink (Says l) c.say.result c.args.out.now c.say.new.out) line c.say.ensures.ends,
     )
@@ -62,7 +62,7 @@ returns-in-Ok-write_image-clause-answer g c =
     let need = c.layout_of-need.ensures.need in
     let have = c.sectors_to_write-have.ensures.value in
     let large = c.if-have-need.false in (
-      Says (Made (need_of c.args.header.now)),
+      Says (Made (store_need c.args.header.now)),
       Is_made (omega (arith, need, have, large)),
       subst (λ (l : Line). PrintsOutcome g.O.Sink (Says l) c.say-in-Ok-write_image.result c.args.out.now c.say-in-Ok-write_image.new.out) (ap Made need) c.say-in-Ok-write_image.ensures.ends,
     )

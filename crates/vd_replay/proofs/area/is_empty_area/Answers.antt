@@ -1,6 +1,6 @@
 use Rattle.std.proofs.Common.{ℕ, ◌≡◌, ap, ◌∙◌, arith, length, take, length-take-le}
 use Rattle.std.proofs.lemmas.Result.{err_from_is_err_and}
-use Rattle.vd_format.specs.Layouts.{sectors_of}
+use Rattle.vd_format.specs.Layouts.{sectors_for_bytes}
 use Rattle.vd_replay.specs.Fresh.{are_empty}
 use Rattle.vd_device.specs.Quiet.{sectors_from}
 use Rattle.vd_device.proofs.QuietLaws.{reads_nothing, reads_twice, ready_again, fault_of_longer}
@@ -42,5 +42,5 @@ returns-clause-quiet g c = c.loop-done.invariant.0
 
 pub returns-clause-read : goal.returns-clause-read
 returns-clause-read g c told =
-    let all : c.loop-done.done ≡ sectors_of c.args.bytes = (let most = c.loop-done.invariant.2 in omega arith) in
+    let all : c.loop-done.done ≡ sectors_for_bytes c.args.bytes = (let most = c.loop-done.invariant.2 in omega arith) in
     (c.loop-done.invariant.1 told).empty_is ∙ ap (λ (k : ℕ). are_empty c.args.bytes (sectors_from (g.S.Store.disk c.loop-done.store).held c.args.from k)) all

@@ -1,5 +1,5 @@
 use Rattle.std.proofs.Common.{ℕ, ◌+◌, ◌-◌, ◌≤◌, ◌<◌, ◌≡◌, length, take, drop, sym, ◌∙◌, subst, arith}
-use Rattle.vd_format.specs.Layouts.{need_of}
+use Rattle.vd_format.specs.Layouts.{store_need}
 use Rattle.vd_device.proofs.QuietLaws.{reads_twice, ready_again, fault_of_longer, base_reads_twice, base_fault_of_longer}
 use Rattle.std.proofs.lemmas.Result.{err_from_is_err_and}
 use borrow.Rule.Slice.PartMut.{put_mid}
@@ -13,7 +13,7 @@ read_run-requires-clause-ready g c = ready_again c.sectors_at_rest-sectors.ensur
 pub read_run-requires-clause-inside : goal.read_run-requires-clause-inside
 read_run-requires-clause-inside g c =
     let n = c.run_from-count.result in
-    let room : need_of c.args.state.now.header ≤ g.S.Store.sectors c.loop-done.store = (let same = c.loop-done.invariant.quiet.keeps.counts.sectors in let r = c.requires.readable.room in omega arith) in
+    let room : store_need c.args.state.now.header ≤ g.S.Store.sectors c.loop-done.store = (let same = c.loop-done.invariant.quiet.keeps.counts.sectors in let r = c.requires.readable.room in omega arith) in
     let fits : c.loop-done.done + n ≤ length c.loop-done.out = (let m = c.run_from-count.ensures.most in omega arith) in
     subst (λ (k : ℕ). FitsInTicket c.source_of-source.result k (g.S.Store.sectors c.loop-done.store)) (sym (part_length c.loop-done.out c.loop-done.done n fits))
     (run_inside c.args.state.now (c.args.first + c.loop-done.done) n (g.S.Store.sectors c.loop-done.store) c.source_of-source.result c.run_from-count.ensures.some (let m = c.run_from-count.ensures.most in omega arith) c.requires.readable.sized.valid room c.run_from-count.ensures.run)

@@ -2,7 +2,7 @@ use Rattle.std.proofs.Common.{◌<◌, List, length, ap, sym, ◌∙◌, subst, 
 use Rattle.std.specs.Prelude.{slice_set}
 use Rattle.std.proofs.lemmas.List.{length-set}
 use Rattle.vd_format.specs.declared.map.Entry.{Entry}
-use Rattle.vd_format.specs.declared.map.Fact2.{Fact2}
+use Rattle.vd_format.specs.declared.journal.Fact2.{Fact2}
 use Rattle.vd_format.specs.Entries.{IsEntry}
 use Rattle.vd_replay.specs.Pages.{AreEntries}
 use Rattle.vd_replay.proofs.JournalLaws.{put_next, all_at, entries_put}

@@ -1,5 +1,0 @@
-use Rattle.vd_map.proofs.Slots.{ReadsOn}
-use Rattle.vd_map.proofs.records.read_facts.Given as goal
-
-abbrev pub invariant-loop-place : goal.invariant-loop-place
-invariant-loop-place l = ReadsOn l.shape l.bytes l.count l.place l.from l.facts
