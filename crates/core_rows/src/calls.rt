@@ -77,7 +77,8 @@ pub(crate) fn end_write<S: Store, B: Base>(
     ensures shape { core.new.shape ≡ core.old.shape }
     ensures passes { length core.new.passes ≡ length core.old.passes }
     ensures others { (other : ℕ) → other ≢ pass → slice_get core.new.passes other ≡ slice_get core.old.passes other }
-    ensures asked { (other : ℕ) (said : List AnySector) → HasAskedWrite core.old.history.log.entries other said → HasAskedWrite core.new.history.log.entries other said }
+    ensures asked { (other : ℕ) (said : List AnySector) →
+        HasAskedWrite core.old.history.log.entries other said → HasAskedWrite core.new.history.log.entries other said }
 {
     for _ in 0..64 {
         match Writer::next(core, pass, content) {
@@ -102,7 +103,8 @@ pub(crate) fn asks_write<S: Store, B: Base>(
     ensures shape { core.new.shape ≡ core.old.shape }
     ensures passes { length core.new.passes ≡ length core.old.passes }
     ensures others { (other : ℕ) → other ≢ pass → slice_get core.new.passes other ≡ slice_get core.old.passes other }
-    ensures said { (other : ℕ) (said : List AnySector) → other ≢ pass → HasAskedWrite core.old.history.log.entries other said → HasAskedWrite core.new.history.log.entries other said }
+    ensures said { (other : ℕ) (said : List AnySector) → other ≢ pass →
+        HasAskedWrite core.old.history.log.entries other said → HasAskedWrite core.new.history.log.entries other said }
 {
     match core.ask(pass, Request::Write { first: 8, content }) {
         None => true,

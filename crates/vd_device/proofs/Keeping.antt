@@ -19,13 +19,14 @@ goes-on-twice a b c x y = record {
 stood-twice : (m n : ℕ) (a b c : Disk) → StoppedSince m a b → StoppedSince n b c → StoppedSince n a c
 stood-twice m n a b c x y = record { stopped = y.stopped; start = y.start ∙ x.start; log = y.log ∙ x.log }
 
-pub counts-on : {S : Type 0} (sectors_of depth_of faults_of late_of : S → ℕ) (r s t : S) → CountsStand sectors_of depth_of faults_of late_of r s
-    → CountsStand sectors_of depth_of faults_of late_of s t → CountsStand sectors_of depth_of faults_of late_of r t
-counts-on sectors_of depth_of faults_of late_of r s t a b = record {
+pub counts-on : {S : Type 0} (sectors_of depth_of faults_of late_of last_of : S → ℕ) (r s t : S) → CountsStand sectors_of depth_of faults_of late_of last_of r s
+    → CountsStand sectors_of depth_of faults_of late_of last_of s t → CountsStand sectors_of depth_of faults_of late_of last_of r t
+counts-on sectors_of depth_of faults_of late_of last_of r s t a b = record {
   sectors = b.sectors ∙ a.sectors;
   depth = b.depth ∙ a.depth;
   faults = let x = a.faults in let y = b.faults in omega arith;
   late = let x = a.late in let y = b.late in omega arith;
+  last = let x = a.last in let y = b.last in omega arith;
 }
 
 pub telling-on : {S : Type 0} (tells_of logs_of : S → Type 0) (disk_of : S → Disk) (events_of : S → ℕ) (r s t : S) → TellingStands tells_of logs_of disk_of events_of r s
@@ -42,14 +43,14 @@ telling-on tells_of logs_of disk_of events_of r s t a b = record {
 
 pub keeps-on : {S : Type 0} (g : store.Ghosts S) (r s t : S) → KeepsStore g r s → KeepsStore g s t → KeepsStore g r t
 keeps-on g r s t a b = record {
-  counts = counts-on g.sectors g.depth g.faults g.late r s t a.counts b.counts;
+  counts = counts-on g.sectors g.depth g.faults g.late g.last r s t a.counts b.counts;
   telling = telling-on g.tells g.records g.disk g.events r s t a.telling b.telling;
 }
 
 -- what is left untouched
 pub keeps-same : {S : Type 0} (g : store.Ghosts S) (s : S) → IsTold g s → KeepsStore g s s
 keeps-same g s told = record {
-  counts = record { sectors = refl; depth = refl; faults = omega arith; late = omega arith };
+  counts = record { sectors = refl; depth = refl; faults = omega arith; late = omega arith; last = omega arith };
   telling = record {
     events = omega arith;
     told_before = λ h. h;
@@ -69,12 +70,12 @@ content-on tells_of content_of a b c x y = record {
 
 pub base-keeps-on : {B : Type 0} (h : base.Ghosts B) (a b c : B) → KeepsBase h a b → KeepsBase h b c → KeepsBase h a c
 base-keeps-on h a b c x y = record {
-  counts = counts-on h.sectors h.depth h.faults h.late a b c x.counts y.counts;
+  counts = counts-on h.sectors h.depth h.faults h.late h.last a b c x.counts y.counts;
   telling = content-on h.tells h.content a b c x.telling y.telling;
 }
 
 pub base-keeps-same : {B : Type 0} (h : base.Ghosts B) (b : B) → KeepsBase h b b
 base-keeps-same h b = record {
-  counts = record { sectors = refl; depth = refl; faults = omega arith; late = omega arith };
+  counts = record { sectors = refl; depth = refl; faults = omega arith; late = omega arith; last = omega arith };
   telling = record { told_before = λ t. t; content = λ t. refl };
 }

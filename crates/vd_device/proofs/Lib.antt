@@ -4,3 +4,4 @@ pub mod Logs
 pub mod Stopping
 pub mod QuietLaws
 pub mod Parts
+pub mod DeviceLaws

@@ -17,7 +17,7 @@ use Rattle.vd_device.specs.Now.{call_number, read_entries, flush_entries}
 use Rattle.vd_device.specs.Stores.{CallsStore}
 use Rattle.vd_device.specs.Bases.{CallsBase}
 use Rattle.vd_device.proofs.Keeping.{keeps-on, keeps-same, base-keeps-on, base-keeps-same}
-use Rattle.vd_device.specs.Quiet.{IsAtRest, IsNoWrite, AddsNoWrite, AddsFlush, IsReady, OnlyReads, EndsBadly, IsCallFault, IsLoggedFault, IsStoreFault, OnlyReadsBase, IsFault}
+use Rattle.vd_device.specs.Quiet.{IsAtRest, IsNoWrite, AddsNoWrite, AddsFlush, IsReady, OnlyReads, EndsBadly, IsCallFault, IsStoreFault, OnlyReadsBase, IsFault}
 
 -- the entry opens and ends no write
 abbrev pub IsIdle : Entry → Type 0
@@ -175,11 +175,6 @@ last_of_two : {X : Type 0} (xs : List X) (a b : X) → slice_get (xs ++ a ∷ b 
 last_of_two [] a b = refl
 last_of_two (x ∷ xs) a b = last_of_two xs a b
 
-get_further : {X : Type 0} (xs ys : List X) (i : ℕ) (x : X) → slice_get xs i ≡ Some x → slice_get (xs ++ ys) i ≡ Some x
-get_further [] ys i x there = absurd cc
-get_further (y ∷ xs) ys zero x there = there
-get_further (y ∷ xs) ys (suc i) x there = get_further xs ys i x there
-
 -- the log has got the two entries of a call that failed
 ended_badly : (ticket : ℕ) (asked : Entry) (old new : List Entry) → new ≡ old ++ asked ∷ Reply (call_number ticket) (StoreFault ticket 0) ∷ [] → EndsBadly ticket (length old) new
 ended_badly ticket asked old new grown = record {
@@ -193,6 +188,7 @@ pub read_failed : {S : Type 0} {g : store.Ghosts S} {s s' : S} (first count : �
 read_failed first count out (Ok done) calls told = tt
 read_failed {g = g} {s} {s'} first count out (Err number) calls told = record {
   ticket = calls.fault;
+  since = (let n = calls.number in let f = calls.fault in omega arith);
   rose = calls.cause;
   logged = λ t. subst (λ (n : ℕ). EndsBadly n (length (g.disk s).log) (g.disk s').log) (sym calls.fault) (ended_badly (g.last s') (Ask (call_number (g.last s')) (Read first count)) (g.disk s).log (g.disk s').log (told t).log);
 }
@@ -202,21 +198,14 @@ pub flush_failed : {S : Type 0} {g : store.Ghosts S} {s s' : S} (result : Result
 flush_failed (Ok done) calls told = tt
 flush_failed {g = g} {s} {s'} (Err number) calls told = record {
   ticket = calls.fault;
+  since = (let n = calls.number in let f = calls.fault in omega arith);
   rose = calls.cause;
   logged = λ t. subst (λ (n : ℕ). EndsBadly n (length (g.disk s).log) (g.disk s').log) (sym calls.fault) (ended_badly (g.last s') (Ask (call_number (g.last s')) Flush) (g.disk s).log (g.disk s').log (told t).log);
 }
 
 pub base_failed : {B : Type 0} {h : base.Ghosts B} {b b' : B} (result : Result ⊤ ℕ) → CallsBase h result b b' → IfErr result (IsFault h b b')
 base_failed (Ok done) calls = tt
-base_failed (Err number) calls = record { ticket = calls.fault; rose = calls.cause }
-
--- what has ended so goes on to have ended while the log is added to
-pub ends_later : {ticket from : ℕ} {old new : Disk} → AddsNoWrite old new → EndsBadly ticket from old.log → EndsBadly ticket from new.log
-ends_later {old = old} adds ends = record {
-  at = ends.at;
-  reply = ap (λ (l : List Entry). slice_get l ends.at) adds.log ∙ get_further old.log adds.more ends.at _ ends.reply;
-  after = ends.after;
-}
+base_failed (Err number) calls = record { ticket = calls.fault; since = (let n = calls.number in let f = calls.fault in omega arith); rose = calls.cause }
 
 pub ends_earlier : {ticket from from' : ℕ} {log : List Entry} → from ≤ from' → EndsBadly ticket from' log → EndsBadly ticket from log
 ends_earlier less ends = record { at = ends.at; reply = ends.reply; after = (let a = ends.after in omega arith) }
@@ -228,31 +217,17 @@ log_longer {old = old} adds = let e = ap length adds.log in let n = length-appen
 pub fault_of_longer : {S : Type 0} {g : store.Ghosts S} {r s t : S} {number : ℕ} → OnlyReads g r s → OnlyReads g s t → IsStoreFault g s t number → IsStoreFault g r t number
 fault_of_longer before reads fault = record {
   ticket = fault.ticket;
+  since = (let r = fault.since in let p = before.keeps.counts.last in omega arith);
   rose = (let r = fault.rose in let p = before.keeps.counts.faults in omega arith);
   logged = λ t. ends_earlier (log_longer (before.added (reads.keeps.telling.told_before t))) (fault.logged t);
 }
-
-pub logged_of_longer : {S : Type 0} {g : store.Ghosts S} {r s t : S} {number : ℕ} → OnlyReads g r s → OnlyReads g s t → IsLoggedFault g s t number → IsLoggedFault g r t number
-logged_of_longer before reads fault = record {
-  rose = (let r = fault.rose in let p = before.keeps.counts.faults in omega arith);
-  logged = λ t. ends_earlier (log_longer (before.added (reads.keeps.telling.told_before t))) (fault.logged t);
-}
-
--- and of one that only reads after it
-pub logged_before_more : {S : Type 0} {g : store.Ghosts S} {r s t : S} {number : ℕ} → OnlyReads g s t → IsLoggedFault g r s number → IsLoggedFault g r t number
-logged_before_more after fault = record {
-  rose = (let r = fault.rose in let p = after.keeps.counts.faults in omega arith);
-  logged = λ t. ends_later (after.added t) (fault.logged (after.keeps.telling.told_before t));
-}
-
-pub fault_logged : {S : Type 0} {g : store.Ghosts S} {s s' : S} {number : ℕ} → IsStoreFault g s s' number → IsLoggedFault g s s' number
-fault_logged fault = record { rose = fault.rose; logged = fault.logged }
 
 pub fault_of : {S : Type 0} {g : store.Ghosts S} {s s' : S} {number : ℕ} → IsStoreFault g s s' number → IsCallFault g s s' number
-fault_of fault = record { ticket = fault.ticket; rose = fault.rose }
+fault_of fault = record { ticket = fault.ticket; since = fault.since; rose = fault.rose }
 
 pub base_fault_of_longer : {B : Type 0} {h : base.Ghosts B} {a b c : B} {number : ℕ} → OnlyReadsBase h a b → IsFault h b c number → IsFault h a c number
 base_fault_of_longer before fault = record {
   ticket = fault.ticket;
+  since = (let r = fault.since in let p = before.keeps.counts.last in omega arith);
   rose = (let r = fault.rose in let p = before.keeps.counts.faults in omega arith);
 }

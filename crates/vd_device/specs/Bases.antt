@@ -12,7 +12,7 @@ use Rattle.vd_law.specs.Counts.{Rose}
 module _ {B : Type 0} (h : base.Ghosts B) where
   -- What any run of calls leaves of a base.
   pub record KeepsBase (b b' : B) : Type 0 where
-    pub counts : CountsStand h.sectors h.depth h.faults h.late b b'
+    pub counts : CountsStand h.sectors h.depth h.faults h.late h.last b b'
     pub telling : ContentStands h.tells h.content b b'
 
   -- a read was submitted

@@ -13,12 +13,13 @@ pub record GoesOn (old new : Disk) : Type 0 where
   pub log : new.log ≡ old.log ++ more
 
 module _ {S : Type 0} where
-  -- The device is as large and as deep as it was, and no count has fallen.
-  pub record CountsStand (sectors_of depth_of faults_of late_of : S → ℕ) (s s' : S) : Type 0 where
+  -- The device is as large and as deep as it was, no count has fallen, and the last ticket's number has not.
+  pub record CountsStand (sectors_of depth_of faults_of late_of last_of : S → ℕ) (s s' : S) : Type 0 where
     pub sectors : sectors_of s' ≡ sectors_of s
     pub depth : depth_of s' ≡ depth_of s
     pub faults : faults_of s ≤ faults_of s'
     pub late : late_of s ≤ late_of s'
+    pub last : last_of s ≤ last_of s'
 
   -- What a store tells and logs it did before. Where it logs, the log has gone on from what it was, the store tells all or has
   -- stopped, and one that had stopped stands as it stood.

@@ -7,3 +7,5 @@ pub mod Orders
 pub mod Stores
 pub mod Bases
 pub mod Quiet
+pub mod Devices
+pub mod Patients

@@ -66,20 +66,16 @@ module _ {S : Type 0} (g : store.Ghosts S) where
     pub added : g.tells s' → AddsNoWrite (g.disk s) (g.disk s')
     pub recorded : g.records s' → AddsNoWrite (g.disk s) (g.disk s')
 
-  -- A call of any kind failed: the number is the last ticket's, and the count of faults rose.
+  -- A call of any kind failed: the number is the last ticket's, which was given since, and the count of faults rose.
   pub record IsCallFault (s s' : S) (number : ℕ) : Type 0 where
     pub ticket : number ≡ g.last s'
+    pub since : Rose (g.last s) number
     pub rose : Rose (g.faults s) (g.faults s')
 
-  -- A read or a flush failed: the count of faults rose, and where the store tells, its log tells of the failure behind what it
-  -- had told before.
-  pub record IsLoggedFault (s s' : S) (number : ℕ) : Type 0 where
-    pub rose : Rose (g.faults s) (g.faults s')
-    pub logged : g.tells s' → EndsBadly number (length (g.disk s).log) (g.disk s').log
-
-  -- the same, and the number is the last ticket's
+  -- A read or a flush failed: the same, and where the store tells, its log tells of the failure behind what it had told before.
   pub record IsStoreFault (s s' : S) (number : ℕ) : Type 0 where
     pub ticket : number ≡ g.last s'
+    pub since : Rose (g.last s) number
     pub rose : Rose (g.faults s) (g.faults s')
     pub logged : g.tells s' → EndsBadly number (length (g.disk s).log) (g.disk s').log
 
@@ -89,7 +85,8 @@ module _ {B : Type 0} (h : base.Ghosts B) where
     pub keeps : KeepsBase h b b'
     pub idle : h.flight b' []
 
-  -- a read of a base failed: the number is the last ticket's, and the count of faults rose
+  -- a read of a base failed: the number is the last ticket's, which was given since, and the count of faults rose
   pub record IsFault (b b' : B) (number : ℕ) : Type 0 where
     pub ticket : number ≡ h.last b'
+    pub since : Rose (h.last b) number
     pub rose : Rose (h.faults b) (h.faults b')

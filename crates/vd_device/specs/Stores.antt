@@ -16,9 +16,9 @@ module _ {S : Type 0} (g : store.Ghosts S) where
   abbrev pub IsTold : S → Type 0
   IsTold s = g.records s → TellsOrStopped (g.tells s) (g.events s) (g.disk s)
 
-  -- no count of failed or late calls falls, and it is as large and as deep as it was
+  -- it is as large and as deep as it was, and neither a count of failed or late calls nor the last ticket's number falls
   abbrev pub StoreCountsStand : S → S → Type 0
-  StoreCountsStand s s' = CountsStand g.sectors g.depth g.faults g.late s s'
+  StoreCountsStand s s' = CountsStand g.sectors g.depth g.faults g.late g.last s s'
 
   abbrev pub StoreTellingStands : S → S → Type 0
   StoreTellingStands s s' = TellingStands g.tells g.records g.disk g.events s s'

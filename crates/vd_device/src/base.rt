@@ -34,7 +34,7 @@ pub trait Base {
     /// How many settles were too early. It never falls.
     ghost late: { Self → ℕ };
 
-    /// The number of the last ticket, 0 before the first.
+    /// The number of the last ticket, 0 before the first. It never falls.
     ghost last: { Self → ℕ };
 
     fn sectors(&self) -> u64
@@ -63,7 +63,7 @@ pub trait Base {
         ensures ticket { IsTicket result Read first count }
         ensures next { IsNextTicket last result self.old self.new }
         ensures flight { Puts result (flight self.old) (flight self.new) }
-        ensures counts { CountsStand sectors depth faults late self.old self.new }
+        ensures counts { CountsStand sectors depth faults late last self.old self.new }
         ensures telling { ContentStands tells content self.old self.new };
 
     /// Asks once how the ticket went on. `out` has as many sectors as the ticket reads; it is left as it was where the
@@ -74,7 +74,7 @@ pub trait Base {
         ensures settles { Settles result ticket out.old out.new (flight self.old) (flight self.new) }
         ensures cause { IsCaused result (faults self.old) (faults self.new) (late self.old) (late self.new) }
         ensures last { last self.new ≡ last self.old }
-        ensures counts { CountsStand sectors depth faults late self.old self.new }
+        ensures counts { CountsStand sectors depth faults late last self.old self.new }
         ensures telling { ContentStands tells content self.old self.new }
         ensures gives { tells self.new → Gives result ticket out.new (content self.new) };
 
@@ -85,7 +85,7 @@ pub trait Base {
         ensures settles { Settles (settled_of result) ticket out.old out.new (flight self.old) (flight self.new) }
         ensures cause { IsCaused (settled_of result) (faults self.old) (faults self.new) (late self.old) (late self.new) }
         ensures last { last self.new ≡ last self.old }
-        ensures counts { CountsStand sectors depth faults late self.old self.new }
+        ensures counts { CountsStand sectors depth faults late last self.old self.new }
         ensures telling { ContentStands tells content self.old self.new }
         ensures gives { tells self.new → Gives (settled_of result) ticket out.new (content self.new) };
 }

@@ -34,7 +34,8 @@ pub fn write_now<S: Store>(store: &mut S, first: u64, content: &[Sector]) -> Res
     requires range { IsRange (S.sectors store.old) first (length content.now) }
     requires free { IsFree (S.flight store.old) (S.depth store.old) first (length content.now) }
     ensures calls { CallsStore S.Store (write_entries (S.last store.new) first content.now result) result store.old store.new }
-    ensures told { S.tells store.new → WritesBy (write_entries (S.last store.new) first content.now result) first (length content.now) (S.disk store.old) (S.disk store.new) }
+    ensures told { S.tells store.new → WritesBy (write_entries (S.last store.new) first content.now result) first (length content.now)
+        (S.disk store.old) (S.disk store.new) }
 {
     let ticket = store.submit_write(first, content);
     match store.wait(ticket, &mut []) {

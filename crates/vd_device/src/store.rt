@@ -45,7 +45,7 @@ pub trait Store {
     /// The number of events: the log's length where the store tells, and above it once the store has stopped. It never falls.
     ghost events: { Self → ℕ };
 
-    /// The number of the last ticket, 0 before the first.
+    /// The number of the last ticket, 0 before the first. It never falls.
     ghost last: { Self → ℕ };
 
     fn sectors(&self) -> u64
@@ -89,7 +89,7 @@ pub trait Store {
         ensures next { IsNextTicket last result self.old self.new }
         ensures rises { tells self.new → last self.old < result.number }
         ensures flight { Puts result (flight self.old) (flight self.new) }
-        ensures counts { CountsStand sectors depth faults late self.old self.new }
+        ensures counts { CountsStand sectors depth faults late last self.old self.new }
         ensures takes { TakesEvents tells records disk events (issue_entry result content.now ∷ []) self.old self.new };
 
     /// Submits a read of `count` sectors from `first` on.
@@ -100,7 +100,7 @@ pub trait Store {
         ensures next { IsNextTicket last result self.old self.new }
         ensures rises { tells self.new → last self.old < result.number }
         ensures flight { Puts result (flight self.old) (flight self.new) }
-        ensures counts { CountsStand sectors depth faults late self.old self.new }
+        ensures counts { CountsStand sectors depth faults late last self.old self.new }
         ensures takes { TakesEvents tells records disk events (ask_read_entry result ∷ []) self.old self.new };
 
     /// Submits a flush: once it is done, each write that was done before this call is durable.
@@ -110,7 +110,7 @@ pub trait Store {
         ensures next { IsNextTicket last result self.old self.new }
         ensures rises { tells self.new → last self.old < result.number }
         ensures flight { Puts result (flight self.old) (flight self.new) }
-        ensures counts { CountsStand sectors depth faults late self.old self.new }
+        ensures counts { CountsStand sectors depth faults late last self.old self.new }
         ensures takes { TakesEvents tells records disk events (ask_flush_entry result ∷ []) self.old self.new };
 
     /// Asks once how the ticket went on. `out` has as many sectors as the ticket reads, else none; it is left as it was
@@ -122,7 +122,7 @@ pub trait Store {
         ensures settles { Settles result ticket out.old out.new (flight self.old) (flight self.new) }
         ensures cause { IsCaused result (faults self.old) (faults self.new) (late self.old) (late self.new) }
         ensures last { last self.new ≡ last self.old }
-        ensures counts { CountsStand sectors depth faults late self.old self.new }
+        ensures counts { CountsStand sectors depth faults late last self.old self.new }
         ensures takes { TakesEvents tells records disk events (settle_entries result ticket out.new) self.old self.new }
         ensures gives { tells self.new → Gives result ticket out.new (disk self.new).held }
         // a store that has stopped answers no call Done
@@ -135,7 +135,7 @@ pub trait Store {
         ensures settles { Settles (settled_of result) ticket out.old out.new (flight self.old) (flight self.new) }
         ensures cause { IsCaused (settled_of result) (faults self.old) (faults self.new) (late self.old) (late self.new) }
         ensures last { last self.new ≡ last self.old }
-        ensures counts { CountsStand sectors depth faults late self.old self.new }
+        ensures counts { CountsStand sectors depth faults late last self.old self.new }
         ensures takes { TakesEvents tells records disk events (settle_entries (settled_of result) ticket out.new) self.old self.new }
         ensures gives { tells self.new → Gives (settled_of result) ticket out.new (disk self.new).held }
         // a store that has stopped answers no call Done

@@ -52,8 +52,8 @@ fn go_on<S: Store, B: Base>(core: &mut Core<S, B>, pass: u32) -> Step
 pub struct Flusher;
 
 impl Flusher {
-    /// Makes the one step that a pass with a flush calls for. Late and Busy change nothing; every other step leaves the pass with
-    /// fewer steps to its reply. Busy comes exactly where another pass's flush is under way.
+    /// Makes the one step that a pass with a flush calls for. Late and Busy change no pass, and neither the keeper nor the history;
+    /// every other step leaves the pass with fewer steps to its reply. Busy comes exactly where another pass's flush is under way.
     pub fn next<S: Store, B: Base>(core: &mut Core<S, B>, pass: u32) -> Step
         requires busy { IsAt core.old.passes pass (λ p. (p.phase ≢ Idle) × (p.flush ≡ true)) }
         ensures drives { DrivesFlush result pass (flush_work_of core.old) (flush_work_of core.new) }

@@ -20,7 +20,7 @@ pub struct Reader;
 
 impl Reader {
     /// Makes the one step that a pass with a read calls for. `out` has as many sectors as were asked; those of each piece that
-    /// is done are what was seen. Late and Busy change nothing; every other step leaves the pass with fewer steps to its
+    /// is done are what was seen. Late and Busy change no pass; every other step leaves the pass with fewer steps to its
     /// reply, which are at most three for each piece and one more.
     pub fn next<S: Store, B: Base>(core: &mut Core<S, B>, pass: u32, out: &mut [Sector]) -> Step
         requires busy { IsAt core.old.passes pass (λ p. (p.phase ≢ Idle) × (p.write ≡ false) × (p.flush ≡ false) × (p.count ≡ length out.old)) }

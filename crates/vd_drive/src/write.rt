@@ -20,7 +20,7 @@ pub struct Writer;
 
 impl Writer {
     /// Makes the one step that a pass with a write calls for. `content` is the whole content that was asked. Late and Busy
-    /// change nothing; every other step leaves the pass with fewer steps to its reply, which are at most five for each piece
+    /// change no pass; every other step leaves the pass with fewer steps to its reply, which are at most five for each piece
     /// and one more.
     pub fn next<S: Store, B: Base>(core: &mut Core<S, B>, pass: u32, content: &[Sector]) -> Step
         requires busy { IsAt core.old.passes pass (λ p. (p.phase ≢ Idle) × (p.write ≡ true) × (p.flush ≡ false)) }

@@ -79,7 +79,8 @@ fn lay_event(image: &mut Vec<Sector>, all: &mut Vec<Versions>, tape: &Tape, i: u
     requires same { length image.old.items ≡ length all.old.items }
     ensures size { length all.new.items ≡ length all.old.items }
     ensures image_size { length image.new.items ≡ length image.old.items }
-    ensures lays { (start : List AnySector) (target : ℕ → ℕ) → GoesOnLaying start target tape.now.log.entries i all.old.items image.old.items all.new.items image.new.items }
+    ensures lays { (start : List AnySector) (target : ℕ → ℕ) →
+        GoesOnLaying start target tape.now.log.entries i all.old.items image.old.items all.new.items image.new.items }
 {
     match step_of(tape.log().event(i)) {
         Step::Begins { first, content } => lay_content(image, all, first, content),
@@ -116,8 +117,10 @@ pub fn leave_image<C: Chooser>(
     requires short { length tape.now.log.entries < 2 ^ 63 }
     requires same { length image.old.items ≡ length all.old.items }
     ensures size { length all.new.items ≡ length all.old.items }
-    ensures image { (held : List AnySector) → IsChosen C.choice chooser.old (record { start = image.old.items; log = tape.now.log.entries; held = held }) image.new.items }
-    ensures asked { (held : List AnySector) → chooser.new ≡ asked C.choice chooser.old (contents_at (record { start = image.old.items; log = tape.now.log.entries; held = held })) (length image.old.items) }
+    ensures image { (held : List AnySector) →
+        IsChosen C.choice chooser.old (record { start = image.old.items; log = tape.now.log.entries; held = held }) image.new.items }
+    ensures asked { (held : List AnySector) →
+        chooser.new ≡ asked C.choice chooser.old (contents_at (record { start = image.old.items; log = tape.now.log.entries; held = held })) (length image.old.items) }
 {
     count(all, tape);
     choose_all(all, chooser);

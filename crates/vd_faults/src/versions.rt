@@ -94,7 +94,8 @@ pub fn step_of(event: Event<'_>) -> Step<'_>
 
 /// The first sector and the content of a write that begins.
 fn write_of(event: Event<'_>) -> (u64, &[Sector])
-    ensures { (id : CallId) (first : ℕ) (content : List AnySector) → entry_of event.entry ≡ Issue id first content → (result.0 ≡ first) × (result.1.now ≡ content) }
+    ensures { (id : CallId) (first : ℕ) (content : List AnySector) →
+        entry_of event.entry ≡ Issue id first content → (result.0 ≡ first) × (result.1.now ≡ content) }
 {
     match event {
         Event::Issue {
@@ -147,7 +148,8 @@ fn clear(all: &mut Vec<Versions>)
 pub fn count(all: &mut Vec<Versions>, tape: &Tape)
     requires traced { IsTracedTape (length all.old.items) tape.now }
     ensures size { length all.new.items ≡ length all.old.items }
-    ensures written { (s : ℕ) (v : declared.Versions) → slice_get all.new.items s ≡ Some v → v.written ≡ length (issued_contents (past tape.now.log.entries) s) }
+    ensures written { (s : ℕ) (v : declared.Versions) →
+        slice_get all.new.items s ≡ Some v → v.written ≡ length (issued_contents (past tape.now.log.entries) s) }
     ensures firm { (s : ℕ) (v : declared.Versions) → slice_get all.new.items s ≡ Some v → v.chosen ≡ firm_after (past tape.now.log.entries) s }
 {
     clear(all);

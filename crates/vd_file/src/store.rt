@@ -111,6 +111,7 @@ impl FileStore {
         ensures first { result.first ≡ first }
         ensures count { result.count ≡ count }
         ensures after { self.new ≡ record self.old { flying = self.old.flying + 1; last = result.number; events = self.new.events } }
+        ensures last { self.old.last ≤ self.new.last }
         ensures events { self.old.events ≤ self.new.events }
         ensures flight { Puts result (AreFlying self.old) (AreFlying self.new) }
     {

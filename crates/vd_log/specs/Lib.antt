@@ -1,3 +1,4 @@
 pub mod StoredEntries
 pub mod LogFields
 pub mod HistoryFields
+pub mod Adding

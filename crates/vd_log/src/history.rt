@@ -8,6 +8,7 @@ ghost use Rattle.vd_law.specs.Contents.{could, may};
 ghost use Rattle.vd_law.specs.Rules.{IsLegal};
 ghost use Rattle.vd_law.specs.Joining.{raised_entry, joined_entries, after_history, IsQuiet, CallsFit, sectors_told};
 ghost use Rattle.vd_law.specs.Logs.{content_of, IsShort};
+ghost use Rattle.vd_log.specs.Adding.{TakesRoom};
 ghost use Rattle.vd_law.specs.Histories.{IsRising, last_number, count_up_to, entries_up_to};
 
 use crate::calls::last_call;
@@ -126,9 +127,7 @@ impl History {
         ensures opened { self.new.opened ≡ self.old.opened }
         // what was so up to an earlier number stays
         ensures earlier { (k : ℕ) → k < at → entries_up_to k self.new ≡ entries_up_to k self.old }
-        ensures events { self.new.log.left.events + 1 ≡ self.old.log.left.events }
-        ensures sectors { self.new.log.left.sectors + length (content_of (entry_of event.entry)) ≡ self.old.log.left.sectors }
-        ensures room { self.new.log.room ≡ self.old.log.room }
+        ensures takes { TakesRoom (entry_of event.entry) self.old.log self.new.log }
     {
         append(&mut self.numbers, at);
         self.log.add(event);

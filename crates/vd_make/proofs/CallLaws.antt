@@ -19,8 +19,8 @@ module _ {S : Type 0} {g : store.Ghosts S} where
   -- a call that was waited for has failed
   pub call_failed : {es : List Entry} {s s' : S} (result : Result ⊤ ℕ) → CallsStore g es result s s' → IfErr result (IsCallFault g s s')
   call_failed (Ok done) calls = tt
-  call_failed (Err number) calls = record { ticket = calls.fault; rose = calls.cause }
+  call_failed (Err number) calls = record { ticket = calls.fault; since = (let n = calls.number in let f = calls.fault in omega arith); rose = calls.cause }
 
   -- a failure is one of a longer work too
   pub fault_earlier : {r s t : S} {number : ℕ} → KeepsStore g r s → IsCallFault g s t number → IsCallFault g r t number
-  fault_earlier keeps fault = record { ticket = fault.ticket; rose = (let r = fault.rose in let calm = keeps.counts.faults in omega arith) }
+  fault_earlier keeps fault = record { ticket = fault.ticket; since = (let r = fault.since in let calm = keeps.counts.last in omega arith); rose = (let r = fault.rose in let calm = keeps.counts.faults in omega arith) }

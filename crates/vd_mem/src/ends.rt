@@ -100,7 +100,8 @@ fn complete(held: &mut Vec<Sector>, tape: &mut Tape, ticket: &Ticket, out: &mut 
 fn break_off(held: &mut Vec<Sector>, tape: &mut Tape, ticket: &Ticket, keep: Keep)
     requires placed { tape.old.over ≡ 0 → CanCarryOut ticket.now.kind ticket.now tape.old.log.entries held.old.items }
     ensures tape { tape.new ≡ taped (last_entry (Some keep) ticket.now held.old.items) ticket.now.mark tape.old }
-    ensures held { held.new.items ≡ (if takes tape.old.log tape.old.fuse tape.old.over (last_entry (Some keep) ticket.now held.old.items) then last_held (Some keep) ticket.now tape.old.log.entries held.old.items else held.old.items) }
+    ensures held { held.new.items ≡ (if takes tape.old.log tape.old.fuse tape.old.over (last_entry (Some keep) ticket.now held.old.items)
+        then last_held (Some keep) ticket.now tape.old.log.entries held.old.items else held.old.items) }
     ensures short { length tape.new.log.entries < 2 ^ 63 }
 {
     let added = tape.add(failure(ticket), ticket.mark());
@@ -123,7 +124,8 @@ pub fn end(
     requires placed { tape.old.over ≡ 0 → CanCarryOut ticket.now.kind ticket.now tape.old.log.entries held.old.items }
     ensures done { result ≡ is_done fault (takes tape.old.log tape.old.fuse tape.old.over (last_entry fault ticket.now held.old.items)) }
     ensures tape { tape.new ≡ taped (last_entry fault ticket.now held.old.items) ticket.now.mark tape.old }
-    ensures held { held.new.items ≡ (if takes tape.old.log tape.old.fuse tape.old.over (last_entry fault ticket.now held.old.items) then last_held fault ticket.now tape.old.log.entries held.old.items else held.old.items) }
+    ensures held { held.new.items ≡ (if takes tape.old.log tape.old.fuse tape.old.over (last_entry fault ticket.now held.old.items)
+        then last_held fault ticket.now tape.old.log.entries held.old.items else held.old.items) }
     ensures read { result ≡ true → ticket.now.kind ≡ Read → out.new ≡ slice_range held.old.items ticket.now.first (ticket.now.first + ticket.now.count) }
     ensures unread { result ≡ false → out.new ≡ out.old }
     ensures short { length tape.new.log.entries < 2 ^ 63 }

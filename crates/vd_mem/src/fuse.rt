@@ -3,12 +3,10 @@
 ghost use Rattle.std.specs.Prelude.{◌≡◌, Some, None, ◌<◌, [], ◌∷◌, length};
 ghost use Rattle.vd_device.specs.declared.ticket.Kind.TheVariants.{Read, Write, Flush};
 ghost use Rattle.vd_device.specs.Tickets.{IsRange, HasPlace, IsFree, IsInFlight, Puts, IsTicket, sectors_read};
-ghost use Rattle.vd_device.specs.Disks.{HasStopped};
-ghost use Rattle.vd_device.specs.Calls.{Gives, Settles, IsCaused, IsUndone, ask_read_entry, ask_flush_entry, issue_entry, settled_of, settle_entries};
+ghost use Rattle.vd_device.specs.Calls.{ask_read_entry, ask_flush_entry, issue_entry, settled_of};
 ghost use Rattle.vd_device.specs.Frames.{IsNextTicket};
-ghost use Rattle.vd_device.specs.Stores.{StoreCountsStand, StoreTakes};
-ghost use Rattle.vd_faults.specs.Tapes.{events_of};
-ghost use Rattle.vd_mem.specs.StoreState.{StillRuns, disk_of, submitted, waited, wait_answer, polled_once, settle_answer, is_late};
+ghost use Rattle.vd_device.specs.Stores.{SettlesCall, StoreCountsStand, StoreTakes};
+ghost use Rattle.vd_mem.specs.StoreState.{StillRuns, submitted, waited, wait_answer, polled_once, settle_answer, is_late};
 ghost use Rattle.vd_mem.specs.Flying.{Flies};
 ghost use Rattle.vd_mem.specs.Devices.{fused};
 
@@ -134,13 +132,7 @@ impl Store for Fuse {
     fn settle(&mut self, ticket: Ticket, out: &mut [Sector]) -> Settled
         requires mine { IsInFlight (Flies self.old.inner) ticket }
         requires room { length out.old ≡ sectors_read ticket }
-        ensures settles { Settles result ticket out.old out.new (Flies self.old.inner) (Flies self.new.inner) }
-        ensures cause { IsCaused result self.old.inner.faults self.new.inner.faults self.old.inner.late self.new.inner.late }
-        ensures last { self.new.inner.last ≡ self.old.inner.last }
-        ensures counts { StoreCountsStand fused self.old self.new }
-        ensures takes { StoreTakes fused (settle_entries result ticket out.new) self.old self.new }
-        ensures gives { StillRuns self.new.inner → Gives result ticket out.new self.new.inner.held }
-        ensures undone { HasStopped (events_of self.new.inner.log self.new.inner.over) (disk_of self.new.inner) → IsUndone result }
+        ensures settles { SettlesCall fused result ticket out.old out.new self.old self.new }
         ensures answer { result ≡ settle_answer self.old.inner ticket }
         ensures after { self.new.inner ≡ polled_once ticket self.old.inner }
     {
@@ -150,13 +142,7 @@ impl Store for Fuse {
     fn wait(&mut self, ticket: Ticket, out: &mut [Sector]) -> Waited
         requires mine { IsInFlight (Flies self.old.inner) ticket }
         requires room { length out.old ≡ sectors_read ticket }
-        ensures settles { Settles (settled_of result) ticket out.old out.new (Flies self.old.inner) (Flies self.new.inner) }
-        ensures cause { IsCaused (settled_of result) self.old.inner.faults self.new.inner.faults self.old.inner.late self.new.inner.late }
-        ensures last { self.new.inner.last ≡ self.old.inner.last }
-        ensures counts { StoreCountsStand fused self.old self.new }
-        ensures takes { StoreTakes fused (settle_entries (settled_of result) ticket out.new) self.old self.new }
-        ensures gives { StillRuns self.new.inner → Gives (settled_of result) ticket out.new self.new.inner.held }
-        ensures undone { HasStopped (events_of self.new.inner.log self.new.inner.over) (disk_of self.new.inner) → IsUndone (settled_of result) }
+        ensures settles { SettlesCall fused (settled_of result) ticket out.old out.new self.old self.new }
         ensures answer { settled_of result ≡ wait_answer self.old.inner ticket }
         ensures after { self.new.inner ≡ waited ticket self.old.inner }
     {

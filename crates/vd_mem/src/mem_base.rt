@@ -127,7 +127,7 @@ impl Base for MemBase {
         ensures ticket { IsTicket result Read first count }
         ensures next { IsNextTicket mem_base.last result self.old self.new }
         ensures flight { Puts result (FliesBase self.old) (FliesBase self.new) }
-        ensures counts { CountsStand mem_base.sectors mem_base.depth mem_base.faults mem_base.late self.old self.new }
+        ensures counts { CountsStand mem_base.sectors mem_base.depth mem_base.faults mem_base.late mem_base.last self.old self.new }
         ensures telling { ContentStands mem_base.tells mem_base.content self.old self.new }
         // whether a rule by sector fails it, and the base's new state, whole
         ensures mark { result.mark ≡ mark_of (list_any (is_hit first count) self.old.rules) }
@@ -144,7 +144,7 @@ impl Base for MemBase {
         ensures settles { Settles result ticket out.old out.new (FliesBase self.old) (FliesBase self.new) }
         ensures cause { IsCaused result self.old.faults self.new.faults self.old.late self.new.late }
         ensures last { self.new.last ≡ self.old.last }
-        ensures counts { CountsStand mem_base.sectors mem_base.depth mem_base.faults mem_base.late self.old self.new }
+        ensures counts { CountsStand mem_base.sectors mem_base.depth mem_base.faults mem_base.late mem_base.last self.old self.new }
         ensures telling { ContentStands mem_base.tells mem_base.content self.old self.new }
         ensures gives { Gives result ticket out.new self.new.content }
         // which answer, and the base's new state, whole
@@ -164,7 +164,7 @@ impl Base for MemBase {
         ensures settles { Settles (settled_of result) ticket out.old out.new (FliesBase self.old) (FliesBase self.new) }
         ensures cause { IsCaused (settled_of result) self.old.faults self.new.faults self.old.late self.new.late }
         ensures last { self.new.last ≡ self.old.last }
-        ensures counts { CountsStand mem_base.sectors mem_base.depth mem_base.faults mem_base.late self.old self.new }
+        ensures counts { CountsStand mem_base.sectors mem_base.depth mem_base.faults mem_base.late mem_base.last self.old self.new }
         ensures telling { ContentStands mem_base.tells mem_base.content self.old self.new }
         ensures gives { Gives (settled_of result) ticket out.new self.new.content }
         // which answer, and the base's new state, whole

@@ -3,12 +3,10 @@
 ghost use Rattle.std.specs.Prelude.{◌≡◌, ◌<◌, [], ◌∷◌, length};
 ghost use Rattle.vd_device.specs.declared.ticket.Kind.TheVariants.{Read, Write, Flush};
 ghost use Rattle.vd_device.specs.Tickets.{IsRange, HasPlace, IsFree, IsInFlight, Puts, IsTicket, sectors_read};
-ghost use Rattle.vd_device.specs.Disks.{HasStopped};
-ghost use Rattle.vd_device.specs.Calls.{Gives, Settles, IsCaused, IsUndone, ask_read_entry, ask_flush_entry, issue_entry, settled_of, settle_entries};
+ghost use Rattle.vd_device.specs.Calls.{ask_read_entry, ask_flush_entry, issue_entry, settled_of};
 ghost use Rattle.vd_device.specs.Frames.{IsNextTicket};
-ghost use Rattle.vd_device.specs.Stores.{StoreCountsStand, StoreTakes};
-ghost use Rattle.vd_faults.specs.Tapes.{events_of};
-ghost use Rattle.vd_mem.specs.StoreState.{StillRuns, disk_of, submitted, waited, wait_answer, polled_once, settle_answer, is_late};
+ghost use Rattle.vd_device.specs.Stores.{SettlesCall, StoreCountsStand, StoreTakes};
+ghost use Rattle.vd_mem.specs.StoreState.{StillRuns, submitted, waited, wait_answer, polled_once, settle_answer, is_late};
 ghost use Rattle.vd_mem.specs.Flying.{Flies};
 ghost use Rattle.vd_mem.specs.Devices.{mem_store};
 
@@ -138,13 +136,7 @@ impl Store for MemStore {
     fn settle(&mut self, ticket: Ticket, out: &mut [Sector]) -> Settled
         requires mine { IsInFlight (Flies self.old) ticket }
         requires room { length out.old ≡ sectors_read ticket }
-        ensures settles { Settles result ticket out.old out.new (Flies self.old) (Flies self.new) }
-        ensures cause { IsCaused result self.old.faults self.new.faults self.old.late self.new.late }
-        ensures last { self.new.last ≡ self.old.last }
-        ensures counts { StoreCountsStand mem_store self.old self.new }
-        ensures takes { StoreTakes mem_store (settle_entries result ticket out.new) self.old self.new }
-        ensures gives { StillRuns self.new → Gives result ticket out.new self.new.held }
-        ensures undone { HasStopped (events_of self.new.log self.new.over) (disk_of self.new) → IsUndone result }
+        ensures settles { SettlesCall mem_store result ticket out.old out.new self.old self.new }
         // which answer, and the store's new state, whole
         ensures answer { result ≡ settle_answer self.old ticket }
         ensures after { self.new ≡ polled_once ticket self.old }
@@ -159,13 +151,7 @@ impl Store for MemStore {
     fn wait(&mut self, ticket: Ticket, out: &mut [Sector]) -> Waited
         requires mine { IsInFlight (Flies self.old) ticket }
         requires room { length out.old ≡ sectors_read ticket }
-        ensures settles { Settles (settled_of result) ticket out.old out.new (Flies self.old) (Flies self.new) }
-        ensures cause { IsCaused (settled_of result) self.old.faults self.new.faults self.old.late self.new.late }
-        ensures last { self.new.last ≡ self.old.last }
-        ensures counts { StoreCountsStand mem_store self.old self.new }
-        ensures takes { StoreTakes mem_store (settle_entries (settled_of result) ticket out.new) self.old self.new }
-        ensures gives { StillRuns self.new → Gives (settled_of result) ticket out.new self.new.held }
-        ensures undone { HasStopped (events_of self.new.log self.new.over) (disk_of self.new) → IsUndone (settled_of result) }
+        ensures settles { SettlesCall mem_store (settled_of result) ticket out.old out.new self.old self.new }
         // which answer, and the store's new state, whole
         ensures answer { settled_of result ≡ wait_answer self.old ticket }
         ensures after { self.new ≡ waited ticket self.old }

@@ -41,6 +41,7 @@ impl Tickets {
     pub fn submit(&mut self) -> u64
         requires { self.old.flying + 1 < 2 ^ 64 }
         ensures number { result ≡ next_number self.old.last }
+        ensures calm { self.old.last ≤ self.new.last }
         ensures after { self.new ≡ record self.old { last = next_number self.old.last; flying = self.old.flying + 1 } }
     {
         self.flying += 1;
@@ -61,7 +62,12 @@ impl Tickets {
     pub fn end(&mut self, ticket: &Ticket, done: bool)
         requires { 0 < self.old.flying }
         ensures calm { self.old.faults ≤ self.new.faults }
-        ensures after { self.new ≡ record self.old { flying = self.old.flying - 1; ended = next_number self.old.ended; faults = (if done then self.old.faults else next_number self.old.faults); rules = filter (outlives ticket.now) self.old.rules } }
+        ensures after { self.new ≡ record self.old {
+          flying = self.old.flying - 1;
+          ended = next_number self.old.ended;
+          faults = (if done then self.old.faults else next_number self.old.faults);
+          rules = filter (outlives ticket.now) self.old.rules;
+        } }
     {
         self.flying -= 1;
         self.ended = self.ended.saturating_add(1);

@@ -23,7 +23,7 @@ use Rattle.vd_core.specs.Showing.{MayHold, ShowsCould}
 use Rattle.vd_safety.specs.Held.{IsOpenAgain}
 use Rattle.vd_safety.proofs.Clean.{honest-left}
 use Rattle.vd_trace.specs.Traces.{Script, Showing}
-use Rattle.vd_show.specs.Devices.{Devices}
+use Rattle.vd_device.specs.Devices.{Devices}
 use Rattle.vd_report.specs.Outcomes.{ShownLine, Reopened}
 use Rattle.vd_show.specs.Showing.{IsJudged}
 use Rattle.vd_run.specs.Reopening.{IsShownBy, Is_read, Store_failed, Base_failed, IsAllowedLine, IsAllowed, Device_failed, Shows_allowed, Reopens, Reopening_failed, Is_refused_again, Opens_again}

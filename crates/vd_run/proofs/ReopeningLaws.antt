@@ -28,7 +28,7 @@ use Rattle.vd_replay.proofs.ListLaws.{get_take}
 use Rattle.vd_trace.specs.Traces.{Showing}
 use Rattle.vd_report.specs.declared.line.Line.{Line}
 use Rattle.vd_report.specs.declared.line.Line.TheVariants as lines
-use Rattle.vd_show.specs.Devices.{Devices, AreReadOnly}
+use Rattle.vd_device.specs.Devices.{Devices, AreReadOnly}
 use Rattle.vd_report.specs.Outcomes.{ShownLine, Sectors, Failed, Reopened, Refused, Opened}
 use Rattle.vd_report.specs.Ending.{has_failed, shown_text}
 use Rattle.vd_show.specs.Showing.{show_line, fault_line, ShowsDisk}

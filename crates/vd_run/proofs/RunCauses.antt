@@ -18,7 +18,7 @@ use Rattle.vd_run.specs.Serving.{Closes}
 use Rattle.vd_trace.specs.Traces.{Showing}
 use Rattle.vd_report.specs.declared.line.Line.{Line}
 use Rattle.vd_report.specs.Statuses.{status_of_line}
-use Rattle.vd_show.specs.Devices.{Devices}
+use Rattle.vd_device.specs.Devices.{Devices}
 use Rattle.vd_report.specs.Outcomes.{ShownLine, Reopened, Refused, Opened}
 use Rattle.vd_report.specs.Ending.{is_device_fault, has_failed, reopened_status}
 use Rattle.vd_show.specs.Showing.{show_line}

@@ -46,10 +46,10 @@ use Rattle.vd_core.specs.History.{HasOpening, IsHistoryOf, HasEnded}
 use Rattle.vd_core.proofs.Opened.{opening-stands}
 use Rattle.vd_run.specs.Serving.{IsUnused, IsServed, Closes}
 use Rattle.vd_run.specs.Driving.{IsSameDisk, with_flush}
-use Rattle.vd_run.specs.Waiting.{patient_store, patient_base}
+use Rattle.vd_device.specs.Patients.{patient_store, patient_base}
 use Rattle.vd_report.specs.declared.line.Line.{Line}
 use Rattle.vd_report.specs.declared.line.Line.TheVariants as lines
-use Rattle.vd_show.specs.Devices.{Devices, devices, AreTold, AreReadOnly, Leaves}
+use Rattle.vd_device.specs.Devices.{Devices, devices, AreTold, AreReadOnly, Leaves}
 use Rattle.vd_run.specs.Orders.{IsOpenedFrom, OpensQuietly, Opened_within, Had_stopped}
 use Rattle.vd_run.specs.Running.{IsDisk, HadDisk, WasGood, IsRun, IsReopenable, RunsTrace, closing_line}
 use Rattle.vd_run.proofs.ClosingLaws.{closed_ok, ends_flushed}

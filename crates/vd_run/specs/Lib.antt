@@ -1,4 +1,3 @@
-pub mod Waiting
 pub mod Serving
 pub mod Driving
 pub mod Orders

@@ -19,7 +19,7 @@ use Rattle.vd_replay.specs.Refusals.{RefusedAgain}
 use Rattle.vd_replay.specs.declared.error.OpenError.{OpenError}
 use Rattle.vd_trace.specs.Traces.{Showing}
 use Rattle.vd_report.specs.declared.line.Line.TheVariants as lines
-use Rattle.vd_show.specs.Devices.{Devices, AreTold}
+use Rattle.vd_device.specs.Devices.{Devices, AreTold}
 use Rattle.vd_report.specs.Outcomes.{ShownLine, Sectors, Failed, Reopened, Refused, Opened}
 use Rattle.vd_show.specs.Showing.{show_line, IsJudged, ShowsDisk}
 
@@ -51,7 +51,8 @@ module _ {S : Type 0} (g : store.Ghosts S) where
     pub local_is : local ≡ count_true are
     pub each : g.tells s → (b : ℕ) (is : Bool) → slice_get are b ≡ Some is → (is ≡ true) ↔ IsLocalIn (g.disk s).held h b
 
--- Among calls that only read, the one of this ticket failed, which was then the last that the store had given.
+-- Among calls that only read, the one of this ticket failed, which was then the last that the store had given, and was given since the
+-- first of them: it is above the last one before, or the greatest u64.
 pub record FailsInStore {S : Type 0} (g : store.Ghosts S) (s s' : S) (ticket : ℕ) : Type 0 where
   pub moment : S
   pub reads : OnlyReads g s moment

@@ -44,7 +44,7 @@ use Rattle.vd_report.specs.declared.line.Line.{Line}
 use Rattle.vd_report.specs.declared.line.Line.TheVariants as lines_of
 use Rattle.vd_show.specs.Showing.{show_line, IsJudged}
 use Rattle.vd_run.specs.declared.ending.End.{End}
-use Rattle.vd_show.specs.Devices.{Devices, devices, AreTold, AreReadOnly, Leaves}
+use Rattle.vd_device.specs.Devices.{Devices, devices, AreTold, AreReadOnly, Leaves}
 use Rattle.vd_run.specs.Orders.{OpensQuietly}
 use Rattle.vd_report.specs.Outcomes.{Reopened, Outcome, Says, Reported}
 use Rattle.vd_run.specs.Reopening.{Reopens, IsAllowed}
@@ -181,8 +181,8 @@ module _ {S B : Type 0} (g : store.Ghosts S) (h : base.Ghosts B) where
 
 module _ {S B I : Type 0} (g : store.Ghosts S) (h : base.Ghosts B) (i : source.Ghosts I) where
   -- What becomes of a run, with its history where a guest was served. Each ticket that the reopening or a line that shows sectors
-  -- names as a store fault failed behind the serving: where the store tells, it ended in its log by a Reply that isn't Ok, at an event
-  -- numbered above the last number of the history.
+  -- names was given behind the serving, and failed. Where it is the store's, and the store tells, it ended in its log by a Reply that
+  -- isn't Ok, at an event numbered above the last number of the history.
   pub data RunEnds (d : Devices S B) (end : End S B) (source source' : I) : Outcome → Type 0 where
     Is_unread : (line : Line) → end.history ≡ None → IsReadLine i source source' line → RunEnds d end source source' (Says line)
     Is_unopened : (trace : Script) (line : Line) → end.history ≡ None → ReadsScript i source source' trace → IsOpenLine g trace d.store end.store line

@@ -1,6 +1,6 @@
 //! What the report of a run says of the image that the run has left: it is read again.
 
-ghost use Rattle.std.specs.Prelude.{◌≡◌, ℕ, ◌+◌, ◌≤◌, [], false, List, length, take};
+ghost use Rattle.std.specs.Prelude.{◌≡◌, ℕ, ◌+◌, ◌≤◌, [], false, List, length, take, None};
 ghost use Rattle.std.specs.Int.{div_ceil};
 ghost use Rattle.std.specs.List.{list_any, flat_map};
 ghost use Rattle.vd_format.specs.Headers.{IsValid};
@@ -8,13 +8,12 @@ ghost use Rattle.vd_format.specs.Layouts.{blocks_of};
 ghost use Rattle.vd_bits.specs.Marks.{count_true};
 ghost use Rattle.vd_replay.specs.States.{IsReadable, IsSized, StateSays};
 ghost use Rattle.vd_trace.specs.Traces.{Showing};
-ghost use Rattle.vd_show.specs.Devices.{devices, HaveNoneInFlight, AreReadOnly};
 ghost use Rattle.vd_report.specs.Outcomes.{ShownLine, Reopened};
 ghost use Rattle.vd_report.specs.Ending.{has_failed, shown_text, reopened_status, reopened_text};
 ghost use Rattle.vd_report.specs.Writing.{WritesOn};
 ghost use Rattle.vd_run.specs.Reopening.{IsShownBy, AreShownBy, Reopens};
 ghost use Rattle.vd_run.specs.Running.{first_past};
-ghost use Rattle.std.specs.Prelude.{None};
+ghost use Rattle.vd_device.specs.Devices.{devices, HaveNoneInFlight, AreReadOnly};
 
 use vd_device::{Base, Store, sectors_at_rest};
 use vd_format::Header;

@@ -4,7 +4,7 @@ ghost use Rattle.std.specs.Prelude.{◌≡◌, ℕ, ◌≤◌, [], Ok, None, len
 ghost use Rattle.std.specs.List.{All};
 ghost use Rattle.vd_law.specs.Entries.{entry_of};
 ghost use Rattle.vd_report.specs.Replies.{HasText, history_text, sum_text};
-ghost use Rattle.vd_show.specs.Devices.{devices, HaveNoneInFlight, AreReadOnly};
+ghost use Rattle.vd_device.specs.Devices.{devices, HaveNoneInFlight, AreReadOnly};
 ghost use Rattle.vd_replay.specs.States.{IsSized};
 ghost use Rattle.vd_report.specs.Outcomes.{Reopened, Reported};
 ghost use Rattle.vd_report.specs.Ending.{PrintsOutcome, is_ok_reply, are_ok, run_status};

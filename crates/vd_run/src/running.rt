@@ -9,7 +9,7 @@ ghost use Rattle.vd_replay.specs.States.{IsSized};
 ghost use Rattle.vd_trace.specs.Scripts.{need_of as trace_need};
 ghost use Rattle.vd_run.specs.Driving.{with_flush};
 ghost use Rattle.vd_report.specs.Replies.{HasText};
-ghost use Rattle.vd_show.specs.Devices.{devices, HaveNoneInFlight, AreReadOnly, Leaves};
+ghost use Rattle.vd_device.specs.Devices.{devices, HaveNoneInFlight, AreReadOnly, Leaves};
 ghost use Rattle.vd_report.specs.Streams.{KeepsSource};
 ghost use Rattle.vd_report.specs.Outcomes.{Outcome, Reopened, Reported};
 ghost use Rattle.vd_run.specs.Reopening.{Reopens};

@@ -18,7 +18,7 @@ use Rattle.vd_replay.specs.declared.error.OpenError.{OpenError}
 use Rattle.vd_replay.specs.declared.error.OpenError.TheVariants as refusals
 use Rattle.vd_report.specs.declared.line.Line.{Line}
 use Rattle.vd_report.specs.declared.line.Line.TheVariants as lines
-use Rattle.vd_show.specs.Devices.{Devices, AreReadOnly}
+use Rattle.vd_device.specs.Devices.{Devices, AreReadOnly}
 use Rattle.vd_report.specs.Ending.{PrintsOutcome}
 use Rattle.vd_report.specs.Outcomes.{Outcome, Says, Shown}
 use Rattle.vd_show.specs.Showing.{show_line, OpensAs, ShowsDisk, IsInDisk, IsJudged, Finds, Without_memory, Store_failed, Image_refused, Past_the_disk, Is_shown}
@@ -83,7 +83,7 @@ module _ {S B : Type 0} {g : store.Ghosts S} {h : base.Ghosts B} {first count : 
 
 -- the image was opened, and then the store failed
 pub failed_reading : {S : Type 0} {g : store.Ghosts S} {s mid s' : S} {ticket : ℕ} → OnlyReads g s mid → IsStoreFault g mid s' ticket → IsCallFault g s s' ticket
-failed_reading opening fault = record { ticket = fault.ticket; rose = (let r = fault.rose in let calm = opening.keeps.counts.faults in omega arith) }
+failed_reading opening fault = record { ticket = fault.ticket; since = (let r = fault.since in let calm = opening.keeps.counts.last in omega arith); rose = (let r = fault.rose in let calm = opening.keeps.counts.faults in omega arith) }
 
 pub ends_shown : {O : Type 0} {o : sink.Ghosts O} {out out' : O} {status : ℕ} (first : ℕ) (sectors room : List Sector) → sectors ≡ room → PrintsOutcome o (Shown first sectors) status out out' → PrintsOutcome o (Shown first room) status out out'
 ends_shown {o = o} {out} {out'} {status} first sectors room same ends = subst (λ (xs : List Sector). PrintsOutcome o (Shown first xs) status out out') same ends

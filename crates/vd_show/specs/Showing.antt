@@ -23,9 +23,9 @@ use Rattle.vd_replay.specs.declared.disk.DiskFault.TheVariants as faults
 use Rattle.vd_report.specs.declared.line.Line.{Line}
 use Rattle.vd_report.specs.declared.line.Line.TheVariants as lines
 use Rattle.vd_report.specs.Statuses.{status_of_line}
-use Rattle.vd_show.specs.Devices.{Devices, AreTold}
 use Rattle.vd_report.specs.Outcomes.{Outcome, Says, Shown}
 use Rattle.vd_format.specs.Background.{zero_sector, base_at, background}
+use Rattle.vd_device.specs.Devices.{Devices, AreTold}
 
 abbrev pub header_line : HeaderError → Line
 header_line header_errors.NotImage = lines.NotImage

@@ -1,10 +1,10 @@
 //! The command `show`.
 
 ghost use Rattle.std.specs.Prelude.{◌≡◌, ℕ, ◌+◌, ◌^◌, ◌<◌, ◌≤◌, [], length, nat_lt};
-ghost use Rattle.vd_show.specs.Devices.{devices, AreReadOnly};
 ghost use Rattle.vd_report.specs.Outcomes.{Outcome};
 ghost use Rattle.vd_show.specs.Showing.{show_outcome, header_line, show_line, fault_line, Finds};
 ghost use Rattle.vd_report.specs.Ending.{PrintsOutcome};
+ghost use Rattle.vd_device.specs.Devices.{devices, AreReadOnly};
 
 use std::alloc::Global;
 use vd_device::{Base, Store, sectors_at_rest};

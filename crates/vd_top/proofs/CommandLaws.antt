@@ -15,7 +15,7 @@ use Rattle.vd_replay.specs.declared.error.OpenError.{OpenError as Refusal}
 use Rattle.vd_report.specs.declared.line.Line.{Line}
 use Rattle.vd_report.specs.Statuses.{status_of_line}
 use Rattle.vd_run.specs.declared.ending.End.{End}
-use Rattle.vd_show.specs.Devices.{Devices, devices, HaveFailed}
+use Rattle.vd_device.specs.Devices.{Devices, devices, HaveFailed}
 use Rattle.vd_report.specs.Outcomes.{Outcome}
 use Rattle.vd_show.specs.Showing.{show_line, IsJudged, Without_memory, Store_failed, Base_failed, Image_refused, Past_the_disk, Is_shown}
 use Rattle.vd_make.specs.Making.{MakingEnds, Too_few, Lacks_memory, Write_failed, Is_made}

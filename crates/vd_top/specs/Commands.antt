@@ -9,13 +9,13 @@ use Rattle.vd_command.specs.declared.command.Command.TheVariants.{Show}
 use Rattle.vd_command.specs.Words.{Spells}
 use Rattle.vd_report.specs.declared.line.Line.TheVariants.{BadWords}
 use Rattle.vd_run.specs.declared.ending.End.{End}
-use Rattle.vd_show.specs.Devices.{Devices, devices}
 use Rattle.vd_report.specs.Outcomes.{Outcome, Says}
 use Rattle.vd_show.specs.Showing.{Finds}
 use Rattle.vd_run.specs.Running.{RunEnds}
 use Rattle.vd_make.specs.Making.{MakingEnds}
 use Rattle.vd_make.specs.Images.{Makes}
 use Rattle.vd_top.specs.Asks.{AsksFor, AsksRun, IsNoRun, IsNoCommand}
+use Rattle.vd_device.specs.Devices.{Devices, devices}
 
 module _ {S B : Type 0} (g : store.Ghosts S) (h : base.Ghosts B) where
   -- the answer to words that are no run

@@ -4,13 +4,13 @@ ghost use Rattle.std.specs.Prelude.{◌≡◌, ℕ, ◌<◌, ◌≤◌, ◌↔�
 ghost use Rattle.vd_format.specs.declared.header.Header.{Header as AnyHeader};
 ghost use Rattle.vd_format.specs.Layouts.{store_need};
 ghost use Rattle.vd_device.specs.Quiet.{OnlyReads};
-ghost use Rattle.vd_show.specs.Devices.{devices, Leaves, HaveFailed};
 ghost use Rattle.vd_report.specs.Outcomes.{Outcome};
 ghost use Rattle.vd_top.specs.Commands.{HasNoRoomFor, IsDone, MakesWhatIsAsked};
 ghost use Rattle.vd_report.specs.Ending.{PrintsOutcome};
 ghost use Rattle.vd_top.specs.Tasks.{IsTask};
 ghost use Rattle.vd_top.specs.Asks.{AsksFor, IsNoMake, IsNoRun, IsNoCommand};
 ghost use Rattle.vd_law.specs.Counts.{Rose};
+ghost use Rattle.vd_device.specs.Devices.{devices, Leaves, HaveFailed};
 
 use std::alloc::Global;
 use vd_command::Command;

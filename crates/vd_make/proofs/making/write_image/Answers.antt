@@ -7,6 +7,9 @@ use Rattle.vd_device.proofs.Keeping.{keeps-on}
 use Rattle.vd_make.proofs.making.write_image.Goals as goal
 use Rattle.vd_format.specs.Background.{zero_sector}
 
+pub returns-in_err-fill-2-clause-keeps : goal.returns-in_err-fill-2-clause-keeps
+returns-in_err-fill-2-clause-keeps g c = keeps-on g.S.Store c.args.store.now c.fill.new.store c.fill-2.new.store c.fill.ensures.keeps c.fill-2.ensures.keeps
+
 pub returns-clause-keeps : goal.returns-clause-keeps
 returns-clause-keeps g c =
     let first = keeps-on g.S.Store c.args.store.now c.fill.new.store c.fill-2.new.store c.fill.ensures.keeps c.fill-2.ensures.keeps in

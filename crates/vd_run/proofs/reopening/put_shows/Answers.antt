@@ -10,7 +10,7 @@ use Rattle.vd_run.proofs.RunningLaws.{line_within}
 use Rattle.vd_report.proofs.WritingLaws.{writes_nothing, writes_both, writes_as}
 use Rattle.vd_run.proofs.ReopeningLaws.{none_shown, one_more, all_later, shown_earlier, all_shown, failed_more, text_more}
 use Rattle.vd_run.proofs.reopening.put_shows.Goals as goal
-use Rattle.vd_show.proofs.DeviceLaws.{both_read_twice}
+use Rattle.vd_device.proofs.DeviceLaws.{both_read_twice}
 
 pub loop-at-init : goal.loop-at-init
 loop-at-init g c = record {

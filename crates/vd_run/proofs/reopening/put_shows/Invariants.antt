@@ -1,6 +1,6 @@
 use Rattle.std.proofs.Common.{◌≡◌, List, length, take}
 use Rattle.std.specs.List.{list_any, flat_map}
-use Rattle.vd_show.specs.Devices.{devices, AreReadOnly}
+use Rattle.vd_device.specs.Devices.{devices, AreReadOnly}
 use Rattle.vd_report.specs.Outcomes.{ShownLine}
 use Rattle.vd_report.specs.Ending.{has_failed, shown_text}
 use Rattle.vd_report.specs.Writing.{WritesOn}

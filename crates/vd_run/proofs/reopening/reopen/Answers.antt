@@ -12,7 +12,7 @@ use Rattle.vd_run.proofs.LocalLaws.{counts_local}
 use Rattle.vd_run.proofs.ReopeningLaws.{refused_again, version_kept, says_state, opens_again, all_earlier}
 use Rattle.vd_run.proofs.reopening.reopen.Goals as goal
 use Rattle.vd_run.proofs.reopening.reopen.Goals.{then-is_fault, else-is_fault, then-failed, else-failed}
-use Rattle.vd_show.proofs.DeviceLaws.{both_read_twice}
+use Rattle.vd_device.proofs.DeviceLaws.{both_read_twice}
 
 pub returns-in-Err-clause-reads : goal.returns-in-Err-clause-reads
 returns-in-Err-clause-reads g c = record { store = c.reload.ensures.quiet; base = base_reads_nothing c.requires.idle.1 }

@@ -5,7 +5,7 @@ use Rattle.vd_core.specs.Showing.{ShowsCould}
 use Rattle.vd_safety.specs.Held.{IsOpenAgain}
 use Rattle.vd_device.proofs.QuietLaws.{reads_nothing, base_reads_nothing}
 use Rattle.vd_report.specs.declared.line.Line.TheVariants.{NoMemory}
-use Rattle.vd_show.specs.Devices.{devices}
+use Rattle.vd_device.specs.Devices.{devices}
 use Rattle.vd_report.specs.Outcomes.{Says, Reported}
 use Rattle.vd_run.specs.Reopening.{Reopens}
 use Rattle.vd_run.specs.Running.{Is_unread, Is_unopened, Ran_without_memory, Has_run, closing_line}
@@ -14,7 +14,7 @@ use Rattle.vd_run.proofs.RunningLaws.{regular_text, opens_told}
 use Rattle.vd_run.proofs.ServedLaws.{run_wider}
 use Rattle.vd_run.proofs.AgainLaws.{allowed_again}
 use Rattle.vd_run.proofs.running.run.Goals as goal
-use Rattle.vd_show.proofs.DeviceLaws.{reads_leave, leaves_twice}
+use Rattle.vd_device.proofs.DeviceLaws.{reads_leave, leaves_twice}
 
 -- no trace
 

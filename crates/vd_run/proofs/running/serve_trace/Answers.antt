@@ -3,11 +3,11 @@ use Rattle.vd_device.specs.declared.patient.Patient.{Patient}
 use Rattle.vd_device.specs.Stores.{KeepsStore}
 use Rattle.vd_device.specs.Bases.{KeepsBase}
 use Rattle.vd_device.proofs.Keeping.{keeps-on, base-keeps-on}
-use Rattle.vd_run.specs.Waiting.{patient_store, patient_base}
+use Rattle.vd_device.specs.Patients.{patient_store, patient_base}
 use Rattle.vd_run.proofs.RunningLaws.{script_served}
 use Rattle.vd_run.proofs.ServedLaws.{opened_unused, opened_size, served_run}
 use Rattle.vd_run.proofs.AgainLaws.{may_hold}
-use Rattle.vd_run.proofs.LeavingLaws.{patient_leaves}
+use Rattle.vd_device.proofs.DeviceLaws.{patient_leaves}
 use Rattle.vd_run.proofs.running.serve_trace.Goals as goal
 
 pub serve-requires-clause-unused : goal.serve-requires-clause-unused

@@ -4,7 +4,7 @@ use Rattle.vd_device.specs.Bases.{KeepsBase}
 use Rattle.vd_device.proofs.Keeping.{keeps-on}
 use Rattle.vd_run.proofs.Guest.Passing.{rests-at}
 use Rattle.vd_run.proofs.Guest.Flushing.{not-answered, flush-asked, flush-goes, flush-fewer, flush-ended, flush-spends}
-use Rattle.vd_run.specs.Waiting.{patient_store, patient_base}
+use Rattle.vd_device.specs.Patients.{patient_store, patient_base}
 use Rattle.vd_run.proofs.Guest.Leaving.{disk-then, ask-disk, ask-flusher, ask-store, ask-base, flush-disk}
 use Rattle.vd_run.proofs.serving.flush.Goals as goal
 

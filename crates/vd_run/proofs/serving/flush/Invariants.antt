@@ -2,7 +2,7 @@ use Rattle.std.proofs.Common.{◌≡◌, ◌+◌, ◌≤◌}
 use Rattle.vd_device.specs.Stores.{KeepsStore}
 use Rattle.vd_device.specs.Bases.{KeepsBase}
 use Rattle.vd_run.specs.Driving.{IsSameDisk}
-use Rattle.vd_run.specs.Waiting.{patient_store, patient_base}
+use Rattle.vd_device.specs.Patients.{patient_store, patient_base}
 use Rattle.vd_run.proofs.Guest.Flushing.{IsFlushing, steps_at}
 use Rattle.vd_run.proofs.serving.flush.Given as goal
 

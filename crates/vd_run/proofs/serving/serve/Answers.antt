@@ -8,7 +8,7 @@ use Rattle.vd_core.specs.Asking.{Suffices}
 use Rattle.vd_run.specs.Driving.{Serves}
 use Rattle.vd_run.proofs.Guest.Needs.{guest-suffices, next-suffices}
 use Rattle.vd_run.proofs.Guest.Going.{servable-at, none-served, one-served, all-served, flush-suffices}
-use Rattle.vd_run.specs.Waiting.{patient_store, patient_base}
+use Rattle.vd_device.specs.Patients.{patient_store, patient_base}
 use Rattle.vd_run.proofs.Guest.Leaving.{same-disk, disk-then}
 use Rattle.vd_run.proofs.serving.serve.Goals as goal
 

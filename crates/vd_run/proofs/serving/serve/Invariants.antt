@@ -3,7 +3,7 @@ use Rattle.vd_trace.specs.Traces.{script}
 use Rattle.vd_device.specs.Stores.{KeepsStore}
 use Rattle.vd_device.specs.Bases.{KeepsBase}
 use Rattle.vd_run.specs.Driving.{IsSameDisk}
-use Rattle.vd_run.specs.Waiting.{patient_store, patient_base}
+use Rattle.vd_device.specs.Patients.{patient_store, patient_base}
 use Rattle.vd_run.proofs.Guest.Going.{IsServing}
 use Rattle.vd_run.proofs.serving.serve.Given as goal
 

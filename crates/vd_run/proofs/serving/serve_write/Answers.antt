@@ -3,7 +3,7 @@ use Rattle.vd_device.proofs.Keeping.{keeps-on, base-keeps-on}
 use Rattle.vd_passes.specs.declared.shape.Shape.{Shape}
 use Rattle.vd_run.proofs.Guest.Passing.{rests-at, answered, asked-write, goes-on, fewer-left, ended}
 use Rattle.vd_run.proofs.Guest.Asks.{ask-serves, serves-on, still-asked}
-use Rattle.vd_run.specs.Waiting.{patient_store, patient_base}
+use Rattle.vd_device.specs.Patients.{patient_store, patient_base}
 use Rattle.vd_run.proofs.Guest.Leaving.{disk-then, ask-disk, ask-flusher, ask-store, ask-base, step-disk}
 use Rattle.vd_run.proofs.serving.serve_write.Goals as goal
 

@@ -4,7 +4,7 @@ use Rattle.vd_passes.specs.Steps.{HasAskedWrite}
 use Rattle.vd_device.specs.Stores.{KeepsStore}
 use Rattle.vd_device.specs.Bases.{KeepsBase}
 use Rattle.vd_run.specs.Driving.{Serves, IsSameDisk}
-use Rattle.vd_run.specs.Waiting.{patient_store, patient_base}
+use Rattle.vd_device.specs.Patients.{patient_store, patient_base}
 use Rattle.vd_run.proofs.Guest.Passing.{IsBusy, steps_at}
 use Rattle.vd_run.proofs.serving.serve_write.Given as goal
 

@@ -6,8 +6,8 @@ use Rattle.vd_report.specs.Outcomes.{Says}
 use Rattle.vd_make.specs.Images.{Makes}
 use Rattle.vd_make.proofs.CrashLaws.{nothing_safe}
 use Rattle.vd_make.proofs.EndLaws.{no_whole}
-use Rattle.vd_show.specs.Devices.{devices}
-use Rattle.vd_show.proofs.DeviceLaws.{waited, base_waited, reads_leave}
+use Rattle.vd_device.specs.Devices.{devices}
+use Rattle.vd_device.proofs.DeviceLaws.{waited, base_waited, reads_leave}
 use Rattle.vd_top.specs.Commands.{Outside, Shows, Is_made_for, Is_answered, Is_run}
 use Rattle.vd_top.proofs.CommandLaws.{over_base, answer_caused, run_caused}
 use Rattle.vd_top.proofs.commands.still.Goals as goal

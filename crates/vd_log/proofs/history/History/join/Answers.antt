@@ -71,8 +71,8 @@ loop-i-preserved c =
       entries = entries_more calls old next c.loop-i.self.log.entries c.add.new.self.log.entries c.loop-i.i e (entry_of c.raised.result) at is c.loop-i.invariant.entries c.add.ensures.entries;
       numbers = numbers_more c.args.self.now.numbers c.args.next.now.numbers c.loop-i.self.numbers c.add.new.self.numbers c.loop-i.i c.at.result c.at.ensures c.loop-i.invariant.numbers c.add.ensures.numbers;
       opened = c.add.ensures.opened ∙ c.loop-i.invariant.opened;
-      events = omega (arith, c.add.ensures.events, c.loop-i.invariant.events);
-      sectors = omega (arith, size, sectors_more next c.loop-i.i e at, c.add.ensures.sectors, c.loop-i.invariant.sectors);
+      events = omega (arith, c.add.ensures.takes.events, c.loop-i.invariant.events);
+      sectors = omega (arith, size, sectors_more next c.loop-i.i e at, c.add.ensures.takes.sectors, c.loop-i.invariant.sectors);
     }
 
 pub returns-clause-legal : goal.returns-clause-legal

@@ -1,4 +1,4 @@
-use Rattle.std.proofs.Common.{◌≡◌, ◌^◌, ◌<◌, Bool, true, length, refl, sym, ◌∙◌, ap, subst}
+use Rattle.std.proofs.Common.{◌≡◌, ◌^◌, ◌<◌, Bool, true, length, refl, sym, ◌∙◌, ap, subst, arith}
 use Rattle.vd_device.specs.Tickets.{Takes}
 use Rattle.vd_device.specs.declared.ticket.Kind.TheVariants.{Read}
 use Rattle.vd_device.specs.Calls.{settled_of, settle_entries, Gives}
@@ -58,39 +58,31 @@ invariant_of-self c =
       scratch = c.self.invariant.scratch;
     }
 
-pub returns-clause-settles : goal.returns-clause-settles
-returns-clause-settles c =
-    rw (sym c.self.view_is) (answer-settles c.end-done.result (settled_of c.answer.result) c.spend.result c.args.ticket c.args.out.now c.end-done.new.out (Flies (before c)) (Flies (after c)) c.answer.ensures c.spend.ensures c.end-done.ensures.unread
-    (subst (λ (m : MemStoreState). Takes c.args.ticket (Flies (before c)) (Flies m)) (sym (is c)) (end-takes (before c) c.args.ticket c.fault-fault.result c.self.invariant.sound)))
-
-pub returns-clause-cause : goal.returns-clause-cause
-returns-clause-cause c =
-    rw (sym c.self.view_is) (answer-caused c.end-done.result (settled_of c.answer.result) c.spend.result c.self.inside.tickets.faults c.end.new.self.faults c.self.inside.tickets.late c.end.new.self.late c.answer.ensures
-    (ap (λ t. t.faults) c.end.ensures.after) c.end.ensures.calm (ap (λ t. t.late) c.end.ensures.after))
-
 is-answer : (c : goal.After-answer) → settled_of c.answer.result ≡ answered (is_done c.fault-fault.result (can c)) c.spend.result
 is-answer c = c.answer.ensures ∙ ap (λ (b : Bool). answered b c.spend.result) c.end-done.ensures.done
 
 was-read : (c : goal.After-answer) → is_done c.fault-fault.result (can c) ≡ true → c.args.ticket.kind ≡ Read → c.end-done.new.out ≡ read_by c.args.ticket c.self.inside.held.items
 was-read c done = c.end-done.ensures.read (c.end-done.ensures.done ∙ done)
 
-pub returns-clause-takes : goal.returns-clause-takes
-returns-clause-takes c =
+pub returns-clause-settles : goal.returns-clause-settles
+returns-clause-settles c =
     let mine = rw (sym c.self.view_is) at c.requires.mine in let answer = settled_of c.answer.result in
+    let late = ap (λ t. t.late) c.end.ensures.after in let last = ap (λ t. t.last) c.end.ensures.after in
     let es = settle_entries answer c.args.ticket c.end-done.new.out in
-    rw (sym c.self.view_is) (subst (λ (m : MemStoreState). StoreTakes mem_store es (before c) m) (sym (is c))
-    (takes es (before c) (ended c) (few-entries answer c.args.ticket c.end-done.new.out) c.self.invariant.sound.short
-    (end-took (before c) c.args.ticket c.fault-fault.result c.self.invariant.sound mine.0 mine.1 mine.2 mine.3 es
-    (answer-entries c.fault-fault.result (can c) answer c.spend.result c.args.ticket c.self.inside.held.items c.end-done.new.out (is-answer c) (was-read c)))))
-
-pub returns-clause-gives : goal.returns-clause-gives
-returns-clause-gives c runs =
-    let mine = rw (sym c.self.view_is) at c.requires.mine in
-    let grows = end-grows (before c) c.args.ticket c.fault-fault.result c.self.invariant.sound mine.0 mine.1 mine.2 mine.3 (subst StillRuns (is c) runs) in
-    subst (λ (m : MemStoreState). Gives (settled_of c.answer.result) c.args.ticket c.end-done.new.out m.held) (sym (is c))
-    (answer-gives c.fault-fault.result (can c) (settled_of c.answer.result) c.spend.result c.args.ticket (disk_of (before c)) (disk_of (ended c)) c.end-done.new.out (is-answer c) grows.0 grows.2 (was-read c))
-
-pub returns-clause-undone : goal.returns-clause-undone
-returns-clause-undone c stopped =
-    answer-undone c.fault-fault.result (can c) (settled_of c.answer.result) c.spend.result (is-answer c)
-    (end-full (before c) c.args.ticket c.fault-fault.result c.self.invariant.sound (subst (λ (m : MemStoreState). HasStopped (events_of m.log m.over) (disk_of m)) (is c) stopped))
+    rw (sym c.self.view_is) (record {
+      settles = answer-settles c.end-done.result answer c.spend.result c.args.ticket c.args.out.now c.end-done.new.out (Flies (before c)) (Flies (after c)) c.answer.ensures c.spend.ensures c.end-done.ensures.unread
+          (subst (λ (m : MemStoreState). Takes c.args.ticket (Flies (before c)) (Flies m)) (sym (is c)) (end-takes (before c) c.args.ticket c.fault-fault.result c.self.invariant.sound));
+      cause = answer-caused c.end-done.result answer c.spend.result c.self.inside.tickets.faults c.end.new.self.faults c.self.inside.tickets.late c.end.new.self.late c.answer.ensures
+          (ap (λ t. t.faults) c.end.ensures.after) c.end.ensures.calm late;
+      last = last;
+      counts = record { sectors = refl; depth = refl; faults = c.end.ensures.calm; late = omega (arith, late); last = omega (arith, last) };
+      takes = subst (λ (m : MemStoreState). StoreTakes mem_store es (before c) m) (sym (is c))
+          (takes es (before c) (ended c) (few-entries answer c.args.ticket c.end-done.new.out) c.self.invariant.sound.short
+          (end-took (before c) c.args.ticket c.fault-fault.result c.self.invariant.sound mine.0 mine.1 mine.2 mine.3 es
+          (answer-entries c.fault-fault.result (can c) answer c.spend.result c.args.ticket c.self.inside.held.items c.end-done.new.out (is-answer c) (was-read c))));
+      gives = λ runs. (let grows = end-grows (before c) c.args.ticket c.fault-fault.result c.self.invariant.sound mine.0 mine.1 mine.2 mine.3 (subst StillRuns (is c) runs) in
+          subst (λ (m : MemStoreState). Gives answer c.args.ticket c.end-done.new.out m.held) (sym (is c))
+          (answer-gives c.fault-fault.result (can c) answer c.spend.result c.args.ticket (disk_of (before c)) (disk_of (ended c)) c.end-done.new.out (is-answer c) grows.0 grows.2 (was-read c)));
+      undone = λ recorded stopped. answer-undone c.fault-fault.result (can c) answer c.spend.result (is-answer c)
+          (end-full (before c) c.args.ticket c.fault-fault.result c.self.invariant.sound (subst (λ (m : MemStoreState). HasStopped (events_of m.log m.over) (disk_of m)) (is c) stopped));
+    })
