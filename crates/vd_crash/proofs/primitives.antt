@@ -1,10 +1,13 @@
 pub mod Core
 pub mod DropSteps
 pub mod EndSteps
+pub mod FlushKeeping
 pub mod FlushSteps
 pub mod IssueSteps
 pub mod Keeping
 pub mod MarkSteps
+pub mod Parts
+pub mod PassKeeping
 pub mod PassSteps
 pub mod Primitives
 pub mod Retrack

@@ -1,3 +1,4 @@
+pub mod Blocks
 pub mod Flushing
 pub mod Moves
 pub mod Passes

@@ -11,9 +11,10 @@ use Rattle.vd_crash.specs.facts.Words.{IsDropWrite, IsDiscarded, IsUpdated, AreO
 use Rattle.vd_crash.specs.facts.Opened.{IsAtOpening}
 use Rattle.vd_crash.specs.flushes.Moves.{entry_now}
 use Rattle.vd_crash.specs.flushes.Flushing.{Snapshot, snapshot_of, IsOffAfter, IsReleased, IsLogged, IsWantedRecord, IsWantedMapping}
-use Rattle.vd_crash.specs.flushes.Stage.{Flight, Idle, Answering, Progress, IsLoggedBy}
+use Rattle.vd_crash.specs.flushes.Stage.{Flight, Idle, Answering, FlushProgress, IsLoggedBy}
 use Rattle.vd_crash.specs.primitives.Core.{Resting, Sending, Working, Putting, Syncing}
-use Rattle.vd_crash.specs.primitives.Primitives.{State, state, at_rest, nothing_put, IsPrimitive, Notes, Begins, Data_flushed, Puts_record, Put_done, Syncs, Synced, Seals, Answers, Drops, Marks, Interleaves, Nothing, Then}
+use Rattle.vd_crash.specs.primitives.Primitives.{State, state, at_rest, nothing_put, IsPrimitive, Interleaves, Nothing, Then}
+use Rattle.vd_crash.proofs.primitives.Parts.{Notes, Begins, Data_flushed, Puts_record, Put_done, Syncs, Synced, Seals, Answers, Drops, Marks}
 use Rattle.vd_discard.specs.Released.{loss, IsReleasing}
 use Rattle.vd_crash.specs.facts.Memory.{Discards, Memory}
 
@@ -265,13 +266,13 @@ releasing o log m marked c first content v d f t start within allowed room write
     log6 : List Entry
     log6 = log5 ++ Reply t Fine ∷ []
 
-    p1 : Progress
+    p1 : FlushProgress
     p1 = nothing_put (snapshot_of m1 h) m1.index.cursor none
 
-    p2 : Progress
+    p2 : FlushProgress
     p2 = record { snapshot = p1.snapshot; first = p1.first; by = length log3 + 1; recorded = of_chunk; written = none; slotted = p1.slotted; paged = p1.paged }
 
-    p3 : Progress
+    p3 : FlushProgress
     p3 = record { snapshot = p2.snapshot; first = p2.first; by = p2.by; recorded = p2.recorded; written = p2.written; slotted = of_chunk; paged = none }
 
     answering : ℕ → Flight

@@ -23,36 +23,45 @@ ghost use Rattle.vd_image.specs.Openings.{OpeningRefusal, RefusesOpening, IsThis
 /// A crash may leave a content in a sector exactly where the law's list has it, and some image it may always leave.
 pub fn may_is_exact()
     ensures some { (held : ℕ → Sector) (log : List Entry) → (image : Image) × IsImage held log image }
-    ensures exact { (start : List Sector) (held : ℕ → Sector) (log : List Entry) (s : ℕ) (v : Sector) → slice_get start s ≡ Some (held s) → Contains (may start log s) v ↔ May held log s v }
+    ensures exact { (start : List Sector) (held : ℕ → Sector) (log : List Entry) (s : ℕ) (v : Sector) → slice_get start s ≡ Some (held s)
+        → Contains (may start log s) v ↔ May held log s v }
 {}
 
 /// An image that a crash may leave, as a list, is one that it may leave sector by sector, whatever stands past the store's end.
 pub fn image_is_left()
-    ensures { (start : List Sector) (held : ℕ → Sector) (log : List Entry) (image : List Sector) (other : Sector) → ((s : ℕ) → held s ≡ sectors_or other start s)
+    ensures { (start : List Sector) (held : ℕ → Sector) (log : List Entry) (image : List Sector) (other : Sector)
+        → ((s : ℕ) → held s ≡ sectors_or other start s)
         → ((i s : ℕ) (v : Sector) → Writes log i s v → s < length start) → IsCrashImage start log image → IsImage held log (sectors_or other image) }
 {}
 
 /// The disk of a sound image has one content in each of its sectors.
 pub fn disk_is_one()
-    ensures some { (f : Format) (l : Layout) (base : ℕ → Sector) (zeros : Sector) (image : Image) → IsSound f l image → (s : ℕ) → l.chunk_of (l.block_of s) < l.chunks → (v : Sector) × DiskHas f l base zeros image s v }
-    ensures one { (f : Format) (l : Layout) (base : ℕ → Sector) (zeros : Sector) (image : Image) (s : ℕ) (u v : Sector) → DiskHas f l base zeros image s u → DiskHas f l base zeros image s v → u ≡ v }
+    ensures some { (f : Format) (l : Layout) (base : ℕ → Sector) (zeros : Sector) (image : Image) → IsSound f l image → (s : ℕ)
+        → l.chunk_of (l.block_of s) < l.chunks → (v : Sector) × DiskHas f l base zeros image s v }
+    ensures one { (f : Format) (l : Layout) (base : ℕ → Sector) (zeros : Sector) (image : Image) (s : ℕ) (u v : Sector)
+        → DiskHas f l base zeros image s u → DiskHas f l base zeros image s v → u ≡ v }
 {}
 
 /// A store's content opens exactly where it is refused for nothing, and it is refused for one thing alone.
 pub fn sound_is_not_refused()
     ensures not_both { (sectors : ℕ) (image : Image) (h : Header) (r : OpeningRefusal) → Opens sectors image h → RefusesOpening sectors image r → ⊥ }
     ensures one { (sectors : ℕ) (image : Image) (r q : OpeningRefusal) → RefusesOpening sectors image r → RefusesOpening sectors image q → r ≡ q }
-    ensures either { (sectors : ℕ) (image : Image) → IsThisVersion image → ((h : Header) × Opens sectors image h) ⊎ ((r : OpeningRefusal) × RefusesOpening sectors image r) }
+    ensures either { (sectors : ℕ) (image : Image) → IsThisVersion image
+        → ((h : Header) × Opens sectors image h) ⊎ ((r : OpeningRefusal) × RefusesOpening sectors image r) }
     // What the laws call sound, by the numbers of some header, is what opens and has no record of a later generation.
-    ensures sound { (g : Header) (sectors : ℕ) (image : Image) → g.version ≡ this_version → store_need g ≤ sectors → IsSound (format_of g) (layout_of g) image
+    ensures sound { (g : Header) (sectors : ℕ) (image : Image) → g.version ≡ this_version → store_need g ≤ sectors
+        → IsSound (format_of g) (layout_of g) image
         → (h : Header) × (geometry_of h ≡ geometry_of g) × Opens sectors image h × HasNoLater (format_of h) (layout_of h) image h.generation }
-    ensures opens { (sectors : ℕ) (image : Image) (h : Header) → Opens sectors image h → HasNoLater (format_of h) (layout_of h) image h.generation → IsSound (format_of h) (layout_of h) image }
+    ensures opens { (sectors : ℕ) (image : Image) (h : Header) → Opens sectors image h → HasNoLater (format_of h) (layout_of h) image h.generation
+        → IsSound (format_of h) (layout_of h) image }
 {}
 
 /// The grammar of entries and of records in bytes is that of the mappings and records which they stand for.
 pub fn grammar_is_that_of_the_bytes()
-    ensures entries { (h : Header) (chunk : ℕ) (e : MapEntry) → IsValid h → IsEntry (shape_of h) chunk e ↔ IsMapping (layout_of h) chunk (mapping_in h chunk e) }
-    ensures records { (h : Header) (sector : Sector) (r : Said) → IsValid h → record_of sector ≡ Some r → r.well_formed ≡ true → AreFacts (shape_of h) r.facts ↔ IsRecord (layout_of h) (record_in h r) }
+    ensures entries { (h : Header) (chunk : ℕ) (e : MapEntry) → IsValid h
+        → IsEntry (shape_of h) chunk e ↔ IsMapping (layout_of h) chunk (mapping_in h chunk e) }
+    ensures records { (h : Header) (sector : Sector) (r : Said) → IsValid h → record_of sector ≡ Some r → r.well_formed ≡ true
+        → AreFacts (shape_of h) r.facts ↔ IsRecord (layout_of h) (record_in h r) }
 {}
 
 /// The parts of a store with a valid header lie apart, and inside the sectors that it needs.
@@ -65,7 +74,8 @@ pub fn parts_lie_apart()
 pub fn new_image_opens()
     ensures opens { (h : Header) → IsValid h → h.version ≡ this_version → Opens (store_need h) (made_image h) h }
     ensures no_later { (h : Header) → HasNoLater (format_of h) (layout_of h) (made_image h) h.generation }
-    ensures disk { (h : Header) (base : ℕ → Sector) (s : ℕ) (v : Sector) → IsValid h → DiskHas (format_of h) (layout_of h) base zero_sector (made_image h) s v → v ≡ background base zero_sector h.tracked s }
+    ensures disk { (h : Header) (base : ℕ → Sector) (s : ℕ) (v : Sector) → IsValid h
+        → DiskHas (format_of h) (layout_of h) base zero_sector (made_image h) s v → v ≡ background base zero_sector h.tracked s }
     ensures some { (h : Header) × IsValid h × (h.version ≡ this_version) }
 {}
 
@@ -76,5 +86,6 @@ pub fn small_image_is_as_worked()
     ensures slots { ((layout_of small_header).slot_at 0 ≡ 4) × ((layout_of small_header).slot_at 3 ≡ 7) }
     ensures storage { ((layout_of small_header).place 0 0 ≡ 8) × (store_need small_header ≡ 104) }
     ensures place { (layout_of small_header).place 1 41 ≡ 49 }
-    ensures entry { let m = mapping_in small_header 1 (record { storage = 2; zeros = false; mask = 1 }) in (m.storage ≡ Some 1) × (m.has 4 ≡ true) × (m.has 5 ≡ false) × (m.has 0 ≡ false) }
+    ensures entry { let m = mapping_in small_header 1 (record { storage = 2; zeros = false; mask = 1 }) in
+        (m.storage ≡ Some 1) × (m.has 4 ≡ true) × (m.has 5 ≡ false) × (m.has 0 ≡ false) }
 {}

@@ -27,14 +27,14 @@ pub record HasOpenWrite (start : List Sector) (log : List Entry) (ticket : Ticke
   pub only_open : (s : ℕ) (v : Sector) → sector_in ticket.first content s ≡ Some v → IsOnlyOpen start (past log) (ticket_id ticket) s v
 
 -- the flush of this ticket was asked at the ticket's mark
-pub record HasAskedFlush (log : List Entry) (ticket : Ticket) : Type 0 where
+pub record IsFlushAsked (log : List Entry) (ticket : Ticket) : Type 0 where
   pub asked : (progress (past log) (ticket_id ticket)).asked ≡ Some Asks_flush
   pub before : before_ask (past log) (ticket_id ticket) ≡ past (take ticket.mark log)
 
 abbrev pub IsLoggedAs : Kind → (start : List Sector) (log : List Entry) → Ticket → Type 0
 IsLoggedAs Read start log ticket = Unit {0}
 IsLoggedAs Write start log ticket = HasOpenWrite start log ticket
-IsLoggedAs Flush start log ticket = HasAskedFlush log ticket
+IsLoggedAs Flush start log ticket = IsFlushAsked log ticket
 
 -- what the log says of a ticket in flight, where the number of the last ticket is this
 pub record IsCall (last : ℕ) (start : List Sector) (log : List Entry) (ticket : Ticket) : Type 0 where

@@ -8,7 +8,7 @@ use Rattle.vd_crash.specs.facts.Safe.{Opening}
 use Rattle.vd_crash.specs.facts.Words.{with_blocks}
 use Rattle.vd_crash.specs.primitives.Core.{Resting}
 use Rattle.vd_crash.specs.primitives.Primitives.{State, state}
-use Rattle.vd_crash.specs.primitives.Primitives.IsPrimitive.{Adopts}
+use Rattle.vd_crash.proofs.primitives.Parts.{Adopts}
 use Rattle.vd_crash.specs.primitives.Keeping.{KeepsCrashSafety}
 use Rattle.vd_crash.proofs.primitives.Keeping.{primitive_keeps}
 use Rattle.vd_keeper.specs.Keeping.{KeeperState}

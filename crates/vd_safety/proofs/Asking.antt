@@ -13,7 +13,7 @@ use Rattle.vd_crash.specs.facts.Words.{Grows}
 use Rattle.vd_crash.specs.flushes.Stage.{Idle as NoFlight}
 use Rattle.vd_crash.specs.flushes.Moves.{entry_now}
 use Rattle.vd_crash.specs.primitives.Primitives.{State, state, with_table}
-use Rattle.vd_crash.specs.primitives.Primitives.IsPrimitive.{Takes}
+use Rattle.vd_crash.proofs.primitives.Parts.{Takes}
 use Rattle.vd_crash.proofs.primitives.Keeping.{primitive_keeps}
 use Rattle.vd_keeper.specs.Keeping.{KeeperState}
 use Rattle.vd_passes.specs.declared.shape.Shape.{Shape}

@@ -19,7 +19,7 @@ use Rattle.vd_crash.specs.facts.Facts as crash
 use Rattle.vd_crash.specs.flushes.Stage.{Idle as NoFlight}
 use Rattle.vd_crash.specs.primitives.Core.{Resting, Sending}
 use Rattle.vd_crash.specs.primitives.Primitives.{State, state}
-use Rattle.vd_crash.specs.primitives.Primitives.IsPrimitive.{Begins, Marks}
+use Rattle.vd_crash.proofs.primitives.Parts.{Begins, Marks}
 use Rattle.vd_crash.proofs.primitives.Keeping.{primitive_keeps}
 use Rattle.vd_keeper.specs.declared.stage.Stage.TheVariants.{DataFlush, Syncs, Seals}
 use Rattle.vd_keeper.specs.declared.stage.Way as way

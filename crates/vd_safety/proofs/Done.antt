@@ -14,11 +14,11 @@ use Rattle.vd_format.specs.declared.header.Header.{Header}
 use Rattle.vd_format.specs.Layouts.{chunks_of}
 use Rattle.vd_table.specs.Tables.{TableState}
 use Rattle.vd_crash.specs.facts.Safe.{Opening}
-use Rattle.vd_crash.specs.flushes.Stage.{Progress, IsLoggedBy}
+use Rattle.vd_crash.specs.flushes.Stage.{FlushProgress, IsLoggedBy}
 use Rattle.vd_crash.specs.primitives.Core as core
 use Rattle.vd_crash.specs.primitives.Core.{Working, Putting, Puts_next, Has_next}
 use Rattle.vd_crash.specs.primitives.Primitives.{State, state}
-use Rattle.vd_crash.specs.primitives.Primitives.IsPrimitive.{Put_done, Header_done}
+use Rattle.vd_crash.proofs.primitives.Parts.{Put_done, Header_done}
 use Rattle.vd_crash.specs.primitives.Keeping.{KeepsCrashSafety}
 use Rattle.vd_crash.proofs.primitives.Keeping.{primitive_keeps}
 use Rattle.vd_keeper.specs.declared.stage.Stage.TheVariants.{DataFlush, Puts, Syncs, Seals}
@@ -90,7 +90,7 @@ module _ (h : Header) (o : Opening) (table : TableState) (fresh : List Bool) (k 
     now : IsBegunOf k × IsStageBy Puts false (Some t) o k (call_id i p) s.stage
     now = stage-at Puts false (Some t) i p o k (Some i) passes s.stage refl there puts plain has mirrors.stage
 
-    abbrev pr : Progress
+    abbrev pr : FlushProgress
     pr = now.1.3
 
     abbrev sector : ℕ
@@ -129,7 +129,7 @@ module _ (h : Header) (o : Opening) (table : TableState) (fresh : List Bool) (k 
       ];
     }
 
-    abbrev after : Progress
+    abbrev after : FlushProgress
     after = record { snapshot = pr.snapshot; first = pr.first; by = length s.log + 1; recorded = recorded; written = written; slotted = pr.slotted; paged = pr.paged }
 
     so_far : IsProgressOf k' after Nowhere Nowhere

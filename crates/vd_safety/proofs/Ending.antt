@@ -21,7 +21,7 @@ use Rattle.vd_crash.specs.facts.Words.{IsUpdated, with_blocks}
 use Rattle.vd_crash.specs.flushes.Stage.{Flight, Idle as NoFlight, Writing, FlightHolds}
 use Rattle.vd_crash.specs.flushes.Moves.{entry_now}
 use Rattle.vd_crash.specs.primitives.Primitives.{State, state}
-use Rattle.vd_crash.specs.primitives.Primitives.IsPrimitive.{Ends_local, Ends_whole, Fails_whole}
+use Rattle.vd_crash.proofs.primitives.Parts.{Ends_local, Ends_whole, Fails_whole}
 use Rattle.vd_crash.specs.primitives.Keeping.{KeepsCrashSafety}
 use Rattle.vd_crash.proofs.primitives.Keeping.{primitive_keeps}
 use Rattle.vd_keeper.specs.Keeping.{KeeperState}

@@ -13,12 +13,12 @@ use Rattle.vd_device.specs.Tickets.{ticket_id}
 use Rattle.vd_device.specs.Calls.{failed_entry}
 use Rattle.vd_table.specs.Tables.{TableState}
 use Rattle.vd_crash.specs.facts.Safe.{Opening}
-use Rattle.vd_crash.specs.facts.Words.{IsQuiet}
+use Rattle.vd_crash.specs.facts.Words.{WritesNothing}
 use Rattle.vd_crash.specs.flushes.Stage.{Flight, Idle as NoFlight, HasTicket}
 use Rattle.vd_crash.specs.primitives.Core as core
 use Rattle.vd_crash.specs.primitives.Core.{Resting, StageTicket}
 use Rattle.vd_crash.specs.primitives.Primitives.{State, state, EndsNone}
-use Rattle.vd_crash.specs.primitives.Primitives.IsPrimitive.{Flush_fails}
+use Rattle.vd_crash.proofs.primitives.Parts.{Flush_fails}
 use Rattle.vd_crash.specs.primitives.Keeping.{KeepsCrashSafety}
 use Rattle.vd_crash.proofs.primitives.Keeping.{primitive_keeps}
 use Rattle.vd_keeper.specs.declared.stage.Stage.TheVariants.{Puts}
@@ -39,10 +39,10 @@ kept-tickets : (o : Opening) (s : State) → KeepsCrashSafety o s → (l : ℕ) 
 unfolding KeepsCrashSafety
 kept-tickets o s keeps = keeps.core.tickets
 
-reply-quiet : (id : CallId) (number : ℕ) → IsQuiet (Reply id (StoreFault number 0))
+reply-quiet : (id : CallId) (number : ℕ) → WritesNothing (Reply id (StoreFault number 0))
 reply-quiet id number s v covers = covers
 
-broke-quiet : (id : CallId) → IsQuiet (Broke id)
+broke-quiet : (id : CallId) → WritesNothing (Broke id)
 broke-quiet id s v covers = covers
 
 reply-ends : (flights : ℕ → Flight) (id : CallId) (number : ℕ) → EndsNone flights (Reply id (StoreFault number 0))
@@ -60,7 +60,7 @@ module _ (o : Opening) (table : TableState) (fresh : List Bool) (k : KeeperState
   p' = after_fault (Store t.number) p
 
   -- with this entry
-  failed-with : (e : Entry) → IsQuiet e → EndsNone s.flights e → HasSafeMirror o table fresh (after_break k) None (slice_set passes i p') history (log ++ e ∷ [])
+  failed-with : (e : Entry) → WritesNothing e → EndsNone s.flights e → HasSafeMirror o table fresh (after_break k) None (slice_set passes i p') history (log ++ e ∷ [])
   failed-with e quiet ends =
       let bare : is_bare p.phase ≡ true = ap is_bare flushes in
       let after = primitive_keeps o s (state (s.log ++ e ∷ []) s.history s.memory s.marked s.flights Resting) (Flush_fails s.log s.history s.memory s.marked s.flights s.stage e quiet ends) was in

@@ -13,11 +13,11 @@ use Rattle.vd_format.specs.Layouts.{chunks_of}
 use Rattle.vd_table.specs.Tables.{TableState}
 use Rattle.vd_image.specs.Log.{Fine}
 use Rattle.vd_crash.specs.facts.Safe.{Opening}
-use Rattle.vd_crash.specs.flushes.Stage.{Progress}
+use Rattle.vd_crash.specs.flushes.Stage.{FlushProgress}
 use Rattle.vd_crash.specs.primitives.Core as core
 use Rattle.vd_crash.specs.primitives.Core.{Sending, Working}
-use Rattle.vd_crash.specs.primitives.Primitives.{State, state, nothing_put, IsClean}
-use Rattle.vd_crash.specs.primitives.Primitives.IsPrimitive.{Data_flushed}
+use Rattle.vd_crash.specs.primitives.Primitives.{State, state, nothing_put, HasCleanPage}
+use Rattle.vd_crash.proofs.primitives.Parts.{Data_flushed}
 use Rattle.vd_crash.specs.primitives.Keeping.{KeepsCrashSafety}
 use Rattle.vd_crash.proofs.primitives.Keeping.{primitive_keeps}
 use Rattle.vd_keeper.specs.declared.stage.Stage.TheVariants.{DataFlush, Puts, Seals}
@@ -56,7 +56,7 @@ module _ (h : Header) (o : Opening) (table : TableState) (fresh : List Bool) (k 
   or-neither true y e f = absurd cc
   or-neither false y e f = f
 
-  clean : (c : ℕ) → paged c ≡ true → IsClean o s.history s.memory.discards.drops s.marked snapshot c
+  clean : (c : ℕ) → paged c ≡ true → HasCleanPage o s.history s.memory.discards.drops s.marked snapshot c
   clean c is =
       let two = and_parts (nat_lt c (chunks_of k.header)) (not (bit_of k.marked (c / 32))) is in
       let less : c < chunks_of k.header = ltb-true c (chunks_of k.header) two.0 in
@@ -74,7 +74,7 @@ module _ (h : Header) (o : Opening) (table : TableState) (fresh : List Bool) (k 
         no_drop = λ j n after drop. let none = mirrors.undiscarded.drops j in let is = drop.is in cc;
       }
 
-  abbrev pr : Progress
+  abbrev pr : FlushProgress
   pr = nothing_put snapshot s.memory.index.cursor paged
 
   abbrev k' : KeeperState

@@ -12,7 +12,7 @@ use Rattle.vd_image.specs.Layouts.{layout_of}
 use Rattle.vd_image.specs.Decoders.{Entry as MapEntry, format_of}
 use Rattle.vd_image.specs.CrashImages.{sectors_or}
 use Rattle.vd_crash.specs.facts.Safe.{NumberedEntry, Opening, events}
-use Rattle.vd_crash.specs.facts.Facts.{IsDrop, IsShown, Holds}
+use Rattle.vd_crash.specs.facts.Facts.{IsDrop, IsClaimSettled, Holds}
 use Rattle.vd_crash.proofs.facts.Histories.{events_numbered}
 use Rattle.vd_crash.proofs.facts.Recovered.{mapped, due_has, local_by, header_order, start_left}
 use Rattle.vd_crash.specs.primitives.Primitives.{State}
@@ -49,13 +49,13 @@ found_by o log history m holds undiscarded same_off untried image is_image s v w
     let kept = metadata.header_known (image o.layout.header_at) (is_image o.layout.header_at) in
     let same : disk.header ≡ kept.header = cc (disk.reads, kept.reads) in
     let order : m.index.generation ≤ disk.header.generation = subst (λ (y : ImageHeader). m.index.generation ≤ y.generation) (sym same) (header_order o (May o.before log) m.index (image o.layout.header_at) kept) in
-    let right = mapped o (May o.before log) (IsShown o log history m m.discards.reach) m.index image disk.header (o.layout.chunk_of (o.layout.block_of s)) disk.mapping metadata is_image disk.reads order disk.maps in
+    let right = mapped o (May o.before log) (IsClaimSettled o log history m m.discards.reach) m.index image disk.header (o.layout.chunk_of (o.layout.block_of s)) disk.mapping metadata is_image disk.reads order disk.maps in
     elim disk.has [
       | inl h ↦ inl (h.0, right.storage_agrees h.0 h.1.0, known (right.blocks_settled (o.layout.block_of s) h.1.1).1, h.2)
       | inr h ↦
-          let not_has : disk.mapping.has (o.layout.block_of s) ≡ true → ⊥ = λ has. (let l = local_by o (IsShown o log history m m.discards.reach) m.index.table (o.layout.chunk_of (o.layout.block_of s)) (o.layout.block_of s) disk.mapping right has in h.0 l.0 l.1) in
+          let not_has : disk.mapping.has (o.layout.block_of s) ≡ true → ⊥ = λ has. (let l = local_by o (IsClaimSettled o log history m m.discards.reach) m.index.table (o.layout.chunk_of (o.layout.block_of s)) (o.layout.block_of s) disk.mapping right has in h.0 l.0 l.1) in
           let unstale : m.index.stale (o.layout.block_of s) ≡ false = is_false (m.index.stale (o.layout.block_of s))
-          (λ stale. not_has (due_has o (May o.before log) (IsShown o log history m m.discards.reach) m.index image disk.header (Local (o.layout.block_of s)) disk.mapping metadata is_image disk.reads order stale disk.maps)) in
+          (λ stale. not_has (due_has o (May o.before log) (IsClaimSettled o log history m m.discards.reach) m.index image disk.header (Local (o.layout.block_of s)) disk.mapping metadata is_image disk.reads order stale disk.maps)) in
           let start : background o.base o.zeros disk.header.tracked s ≡ o.disk s = elim (kept.background s within (same_off (o.layout.block_of s) ∙ unstale)) [
             | inl e ↦ ap (λ (y : ImageHeader). background o.base o.zeros y.tracked s) same ∙ e
             | inr next ↦ absurd (let tried = next.1 in let never = untried (o.layout.block_of s) in cc)

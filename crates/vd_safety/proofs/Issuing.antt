@@ -18,7 +18,7 @@ use Rattle.vd_crash.specs.facts.Words.{IsUpdated, IsSameWrite, IsWholeWrite, wit
 use Rattle.vd_crash.specs.flushes.Stage.{Flight, Writing}
 use Rattle.vd_crash.specs.flushes.Moves.{entry_now}
 use Rattle.vd_crash.specs.primitives.Primitives.{State, state}
-use Rattle.vd_crash.specs.primitives.Primitives.IsPrimitive.{Issues as Issues_local, Issues_whole}
+use Rattle.vd_crash.proofs.primitives.Parts.{Issues as Issues_local, Issues_whole}
 use Rattle.vd_crash.specs.primitives.Keeping.{KeepsCrashSafety}
 use Rattle.vd_crash.proofs.primitives.Keeping.{primitive_keeps}
 use Rattle.vd_keeper.specs.Keeping.{KeeperState}

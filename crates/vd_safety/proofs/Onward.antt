@@ -9,12 +9,12 @@ use Rattle.vd_table.specs.Tables.{TableState}
 use Rattle.vd_image.specs.Log.{Fine, IsIssueOf}
 use Rattle.vd_crash.specs.facts.Safe.{Opening, NumberedEntry}
 use Rattle.vd_crash.specs.facts.Facts.{HasEntry as Stands}
-use Rattle.vd_crash.specs.facts.Words.{IsUpdated, IsQuiet}
+use Rattle.vd_crash.specs.facts.Words.{IsUpdated, WritesNothing}
 use Rattle.vd_crash.specs.flushes.Stage.{Flight, Idle as NoFlight, IsOtherCall}
 use Rattle.vd_crash.specs.flushes.Moves.{entry_now}
 use Rattle.vd_crash.specs.primitives.Core.{AsksNone}
 use Rattle.vd_crash.specs.primitives.Primitives.{State, state, with_table}
-use Rattle.vd_crash.specs.primitives.Primitives.IsPrimitive.{Tells, Notes}
+use Rattle.vd_crash.proofs.primitives.Parts.{Tells, Notes}
 use Rattle.vd_crash.specs.primitives.Keeping.{KeepsCrashSafety}
 use Rattle.vd_crash.proofs.primitives.Keeping.{primitive_keeps}
 use Rattle.vd_keeper.specs.Keeping.{KeeperState}
@@ -37,7 +37,7 @@ IsNoWriteEvent (Broke id) = ⊥
 IsNoWriteEvent (Seen id first content) = Unit {0}
 IsNoWriteEvent (Reply id answer) = Unit {0}
 
-calm-quiet : (e : Entry) → IsNoWriteEvent e → IsQuiet e
+calm-quiet : (e : Entry) → IsNoWriteEvent e → WritesNothing e
 calm-quiet (Ask id request) calm a v covers = covers
 calm-quiet (Issue id first content) calm a v covers = calm
 calm-quiet (Done id) calm a v covers = covers

@@ -19,10 +19,10 @@ use Rattle.vd_format.specs.Records.{record_bytes}
 use Rattle.vd_table.specs.Tables.{TableState}
 use Rattle.vd_crash.specs.facts.Safe.{Opening}
 use Rattle.vd_crash.specs.facts.Words.{with_index}
-use Rattle.vd_crash.specs.flushes.Stage.{Progress, HasTicket}
+use Rattle.vd_crash.specs.flushes.Stage.{FlushProgress, HasTicket}
 use Rattle.vd_crash.specs.primitives.Core.{Stage, Working, Putting, Puts_next as Puts_head}
 use Rattle.vd_crash.specs.primitives.Primitives.{State, state}
-use Rattle.vd_crash.specs.primitives.Primitives.IsPrimitive.{Puts_record, Puts_page, Puts_header}
+use Rattle.vd_crash.proofs.primitives.Parts.{Puts_record, Puts_page, Puts_header}
 use Rattle.vd_crash.specs.primitives.Keeping.{KeepsCrashSafety}
 use Rattle.vd_crash.proofs.primitives.Keeping.{primitive_keeps}
 use Rattle.vd_crash.proofs.primitives.Using.{kept_same_tracked}
@@ -108,7 +108,7 @@ module _ (h : Header) (o : Opening) (shape : Shape) (table : TableState) (fresh 
   abbrev q : ℕ
   q = now.1.2
 
-  abbrev pr : Progress
+  abbrev pr : FlushProgress
   pr = now.1.3
 
   progress : IsProgressOf k pr Nowhere Nowhere

@@ -10,7 +10,7 @@ use Rattle.vd_image.specs.Log.{Covers}
 use Rattle.vd_image.specs.Image.{IsApart}
 use Rattle.vd_crash.specs.facts.Safe.{Opening, NumberedEntry}
 use Rattle.vd_crash.specs.facts.Words.{WritesOnly}
-use Rattle.vd_crash.specs.flushes.Stage.{Flight, Progress}
+use Rattle.vd_crash.specs.flushes.Stage.{Flight, FlushProgress}
 use Rattle.vd_crash.specs.primitives.Core.{Working}
 use Rattle.vd_crash.specs.primitives.Primitives.{State, state}
 use Rattle.vd_crash.specs.primitives.Keeping.{KeepsCrashSafety}
@@ -97,7 +97,7 @@ pub kept-apart : (o : Opening) (s : State) → KeepsCrashSafety o s → IsApart 
 unfolding KeepsCrashSafety
 kept-apart o s keeps = keeps.core.holds.apart
 
-pub kept-first : (o : Opening) (log : List Entry) (history : List NumberedEntry) (m : Memory) (marked : ℕ → Bool) (flights : ℕ → Flight) (call : CallId) (a n q : ℕ) (pr : Progress)
+pub kept-first : (o : Opening) (log : List Entry) (history : List NumberedEntry) (m : Memory) (marked : ℕ → Bool) (flights : ℕ → Flight) (call : CallId) (a n q : ℕ) (pr : FlushProgress)
     → KeepsCrashSafety o (state log history m marked flights (Working call a n q pr)) → pr.first ≤ m.index.cursor
 unfolding KeepsCrashSafety
 kept-first o log history m marked flights call a n q pr keeps = keeps.core.so_far.first

@@ -15,7 +15,7 @@ use Rattle.vd_crash.specs.facts.Facts.{HasEntry as Stands}
 use Rattle.vd_crash.specs.flushes.Stage.{Flight, Idle as NoFlight, Answering, FlightHolds}
 use Rattle.vd_crash.specs.flushes.Moves.{entry_now}
 use Rattle.vd_crash.specs.primitives.Primitives.{State, state}
-use Rattle.vd_crash.specs.primitives.Primitives.IsPrimitive.{Answers}
+use Rattle.vd_crash.proofs.primitives.Parts.{Answers}
 use Rattle.vd_crash.specs.primitives.Keeping.{KeepsCrashSafety}
 use Rattle.vd_crash.proofs.primitives.Keeping.{primitive_keeps}
 use Rattle.vd_keeper.specs.Keeping.{KeeperState}

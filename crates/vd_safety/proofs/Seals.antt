@@ -10,10 +10,10 @@ use Rattle.vd_table.specs.Tables.{TableState}
 use Rattle.vd_crash.specs.facts.Safe.{Opening}
 use Rattle.vd_crash.specs.facts.Words.{Sealing, sealed_memory}
 use Rattle.vd_crash.specs.flushes.Flushing.{IsLogged}
-use Rattle.vd_crash.specs.flushes.Stage.{Flight, Idle as NoFlight, Answering, Progress}
+use Rattle.vd_crash.specs.flushes.Stage.{Flight, Idle as NoFlight, Answering, FlushProgress}
 use Rattle.vd_crash.specs.primitives.Core.{Resting, Working, Is_next}
 use Rattle.vd_crash.specs.primitives.Primitives.{State, state}
-use Rattle.vd_crash.specs.primitives.Primitives.IsPrimitive.{Seals as Seals_records, Seals_recycle}
+use Rattle.vd_crash.proofs.primitives.Parts.{Seals as Seals_records, Seals_recycle}
 use Rattle.vd_crash.specs.primitives.Keeping.{KeepsCrashSafety}
 use Rattle.vd_crash.proofs.primitives.Keeping.{primitive_keeps}
 use Rattle.vd_keeper.specs.declared.stage.Stage.TheVariants.{Seals}
@@ -75,7 +75,7 @@ module _ (h : Header) (o : Opening) (shape : Shape) (table : TableState) (fresh 
   no-drop j n c drop = let none = mirrors.undiscarded.drops j in let is = drop.is in cc
 
   -- what is logged
-  logged : (pr : Progress) → IsSnapshotOf k.snapshot k.stale pr.snapshot → IsLogged o s.history s.memory pr.snapshot (left pr.snapshot.begun)
+  logged : (pr : FlushProgress) → IsSnapshotOf k.snapshot k.stale pr.snapshot → IsLogged o s.history s.memory pr.snapshot (left pr.snapshot.begun)
   logged pr snapshot_is =
       record {
         stale_was = λ b on. elim (or_cases (bit_of k.stale b) (bit_of k.snapshot b) (sym (get_or-either k.stale k.snapshot b) ∙ on)) [
@@ -138,7 +138,7 @@ module _ (h : Header) (o : Opening) (shape : Shape) (table : TableState) (fresh 
   sealed-plain head =
       let now = stage-at Seals false None i p o k (Some i) passes s.stage refl there seals head none mirrors.stage in
       let w = now.1 in
-      let pr : Progress = w.3 in
+      let pr : FlushProgress = w.3 in
       let m = s.memory in
       let plain : is_recycle k.way ≡ false = now.0.recycled seals head in
       let header : (after_seal k).header ≡ k.header = plain-header k.way k.header plain in
@@ -170,7 +170,7 @@ module _ (h : Header) (o : Opening) (shape : Shape) (table : TableState) (fresh 
   sealed-recycle head =
       let now = stage-at Seals true None i p o k (Some i) passes s.stage refl there seals head none mirrors.stage in
       let w = now.1 in
-      let pr : Progress = w.5 in
+      let pr : FlushProgress = w.5 in
       let m = s.memory in
       let next : Header = next_header k.way k.header in
       let recycle : is_recycle k.way ≡ true = elim (cases_Bool (is_recycle k.way)) [ inl is ↦ is | inr not ↦ absurd (let e = now.0.headless not in cc) ] in

@@ -4,7 +4,7 @@ use Rattle.vd_law.specs.declared.entry.CallId.{CallId}
 use Rattle.vd_device.specs.declared.ticket.Ticket.{Ticket}
 use Rattle.vd_device.specs.Tickets.{ticket_id}
 use Rattle.vd_crash.specs.facts.Safe.{Opening}
-use Rattle.vd_crash.specs.flushes.Stage.{Progress}
+use Rattle.vd_crash.specs.flushes.Stage.{FlushProgress}
 use Rattle.vd_crash.specs.primitives.Core.{Stage, StageTicket, StageFlush}
 use Rattle.vd_keeper.specs.declared.stage.Stage as stages
 use Rattle.vd_keeper.specs.declared.stage.Stage.TheVariants as stage
@@ -23,7 +23,7 @@ stage-set (Some j) o k passes i p' s other is = (is.0, (is.1.0, get-set-other pa
 abbrev owes : List Bool → KeeperState → KeeperState
 owes owed k = record k { owed = owed }
 
-progress-owes : (owed : List Bool) (k : KeeperState) (pr : Progress) (InRecord InPage : ℕ → Type 0) → IsProgressOf k pr InRecord InPage → IsProgressOf (owes owed k) pr InRecord InPage
+progress-owes : (owed : List Bool) (k : KeeperState) (pr : FlushProgress) (InRecord InPage : ℕ → Type 0) → IsProgressOf k pr InRecord InPage → IsProgressOf (owes owed k) pr InRecord InPage
 progress-owes owed k pr InRecord InPage is = record { snapshot = is.snapshot; recorded = is.recorded; paged = is.paged; written_unmarked = is.written_unmarked; in_page = is.in_page; caught_up = is.caught_up }
 
 by-owes : (stage : stages.Stage) (head : Bool) (ticket : Option Ticket) (owed : List Bool) (o : Opening) (k : KeeperState) (call : CallId) (s : Stage) → IsStageBy stage head ticket o k call s → IsStageBy stage head ticket o (owes owed k) call s

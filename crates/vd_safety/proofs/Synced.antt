@@ -13,11 +13,11 @@ use Rattle.vd_format.specs.Layouts.{chunks_of, map_start}
 use Rattle.vd_table.specs.Tables.{TableState}
 use Rattle.vd_image.specs.Log.{Fine}
 use Rattle.vd_crash.specs.facts.Safe.{Opening}
-use Rattle.vd_crash.specs.flushes.Stage.{Progress}
+use Rattle.vd_crash.specs.flushes.Stage.{FlushProgress}
 use Rattle.vd_crash.specs.primitives.Core as core
 use Rattle.vd_crash.specs.primitives.Core.{Working, Syncing, Syncs_next, Is_next}
 use Rattle.vd_crash.specs.primitives.Primitives.{State, state}
-use Rattle.vd_crash.specs.primitives.Primitives.IsPrimitive.{Synced, Header_synced}
+use Rattle.vd_crash.proofs.primitives.Parts.{Synced, Header_synced}
 use Rattle.vd_crash.specs.primitives.Keeping.{KeepsCrashSafety}
 use Rattle.vd_crash.proofs.primitives.Keeping.{primitive_keeps}
 use Rattle.vd_keeper.specs.declared.stage.Stage.TheVariants.{DataFlush, Puts, Syncs, Seals}
@@ -69,7 +69,7 @@ module _ (h : Header) (o : Opening) (table : TableState) (fresh : List Bool) (k 
     now : IsBegunOf k × IsStageBy Syncs false (Some t) o k (call_id i p) s.stage
     now = stage-at Syncs false (Some t) i p o k (Some i) passes s.stage refl there syncs plain has mirrors.stage
 
-    abbrev pr : Progress
+    abbrev pr : FlushProgress
     pr = now.1.4
 
     progress : IsProgressOf k pr Nowhere Nowhere
@@ -109,7 +109,7 @@ module _ (h : Header) (o : Opening) (table : TableState) (fresh : List Bool) (k 
           | inr none ↦ inl (mirrors.marked c within ∙ sym (or-none (bit_of k.marked (c / 32)) (bit_of k.put (c / 32)) none) ∙ here)
         ]
 
-    abbrev after : Progress
+    abbrev after : FlushProgress
     after = record { snapshot = pr.snapshot; first = pr.first; by = pr.by; recorded = pr.recorded; written = pr.written; slotted = slotted; paged = paged }
 
     so_far : IsProgressOf k' after Nowhere Nowhere

@@ -12,7 +12,7 @@ use Rattle.vd_table.specs.Tables.{TableState}
 use Rattle.vd_crash.specs.facts.Safe.{Opening}
 use Rattle.vd_crash.specs.primitives.Core.{Stage, Working, Syncing, Has_next, Syncs_next}
 use Rattle.vd_crash.specs.primitives.Primitives.{State, state}
-use Rattle.vd_crash.specs.primitives.Primitives.IsPrimitive.{Syncs as Asks_sync, Syncs_header}
+use Rattle.vd_crash.proofs.primitives.Parts.{Syncs as Asks_sync, Syncs_header}
 use Rattle.vd_crash.specs.primitives.Keeping.{KeepsCrashSafety}
 use Rattle.vd_crash.proofs.primitives.Keeping.{primitive_keeps}
 use Rattle.vd_keeper.specs.declared.stage.Stage.TheVariants.{Syncs}

@@ -17,7 +17,7 @@ use Rattle.vd_image.specs.Decoders.{format_of, mask_has}
 use Rattle.vd_image.specs.CrashImages.{sectors_or}
 use Rattle.vd_crash.specs.facts.Safe.{Opening, numbered}
 use Rattle.vd_crash.specs.flushes.Flushing.{Snapshot}
-use Rattle.vd_crash.specs.flushes.Stage.{Flight, Idle as NoFlight, Writing, Answering, Progress}
+use Rattle.vd_crash.specs.flushes.Stage.{Flight, Idle as NoFlight, Writing, Answering, FlushProgress}
 use Rattle.vd_crash.specs.primitives.Core.{Stage, Resting, Sending, Working, Putting, Syncing, Puts_next, Has_next, Syncs_next, Is_next}
 use Rattle.vd_crash.specs.primitives.Primitives.{State}
 use Rattle.vd_crash.specs.primitives.Keeping.{KeepsCrashSafety}
@@ -106,7 +106,7 @@ pub record IsSnapshotOf (snapshot stale : List Bool) (p : Snapshot) : Type 0 whe
 
 -- How far the flush under way is, by the keeper: each chunk that it has logged stands in a record that is done, or in the one in flight;
 -- and each chunk's sector of the map is right already, or was put, or is in flight, or is still to be put.
-pub record IsProgressOf (k : KeeperState) (pr : Progress) (InRecord InPage : ℕ → Type 0) : Type 0 where
+pub record IsProgressOf (k : KeeperState) (pr : FlushProgress) (InRecord InPage : ℕ → Type 0) : Type 0 where
   pub snapshot : IsSnapshotOf k.snapshot k.stale pr.snapshot
   pub recorded : k.way ≡ ways.Records → (b : ℕ) → bit_of k.snapshot b ≡ true → Contains (take k.logged (chunks_with k.header k.snapshot)) (b / k.header.chunk) → (pr.recorded b ≡ true) ⊎ InRecord b
   pub paged : is_recycle k.way ≡ true → (c : ℕ) → c < (layout_of k.header).chunks
@@ -131,16 +131,16 @@ InPageOf o sector c = sector ≡ o.layout.map_at c
 -- The stage of the flush of this call, by the keeper's stage and by what the pass has in flight.
 abbrev pub IsStageBy : stages.Stage → (head : Bool) → Option Ticket → (o : Opening) → (k : KeeperState) → CallId → Stage → Type 0
 IsStageBy stage.DataFlush head (Some t) o k call s = (a : ℕ) × (n : ℕ) × (q : ℕ) × (snapshot : Snapshot) × IsSnapshotOf k.snapshot k.stale snapshot × (s ≡ Sending call a n q snapshot (ticket_id t))
-IsStageBy stage.Puts head None o k call s = (a : ℕ) × (n : ℕ) × (q : ℕ) × (pr : Progress) × IsProgressOf k pr Nowhere Nowhere × (s ≡ Working call a n q pr)
-IsStageBy stage.Puts false (Some t) o k call s = (a : ℕ) × (n : ℕ) × (q : ℕ) × (pr : Progress) × (sector : ℕ) × (at : ℕ) × (v : Sector)
+IsStageBy stage.Puts head None o k call s = (a : ℕ) × (n : ℕ) × (q : ℕ) × (pr : FlushProgress) × IsProgressOf k pr Nowhere Nowhere × (s ≡ Working call a n q pr)
+IsStageBy stage.Puts false (Some t) o k call s = (a : ℕ) × (n : ℕ) × (q : ℕ) × (pr : FlushProgress) × (sector : ℕ) × (at : ℕ) × (v : Sector)
     × IsProgressOf k pr (InRecordOf o k pr.first sector v) (InPageOf o sector) × (s ≡ Putting call a n q pr sector at v (ticket_id t))
-IsStageBy stage.Puts true (Some t) o k call s = (a : ℕ) × (n : ℕ) × (q : ℕ) × (pr : Progress) × (at : ℕ) × (v : Sector) × IsProgressOf k pr Nowhere Nowhere × (s ≡ Puts_next call a n q pr at v (next_header k.way k.header) (ticket_id t))
-IsStageBy stage.Syncs false None o k call s = (a : ℕ) × (n : ℕ) × (q : ℕ) × (pr : Progress) × IsProgressOf k pr Nowhere Nowhere × (s ≡ Working call a n q pr)
-IsStageBy stage.Syncs false (Some t) o k call s = (a : ℕ) × (n : ℕ) × (q : ℕ) × (r : ℕ) × (pr : Progress) × IsProgressOf k pr Nowhere Nowhere × (s ≡ Syncing call a n q pr r (ticket_id t))
-IsStageBy stage.Syncs true None o k call s = (a : ℕ) × (n : ℕ) × (q : ℕ) × (by : ℕ) × (pr : Progress) × (v : Sector) × IsProgressOf k pr Nowhere Nowhere × (s ≡ Has_next call a n q pr by v (next_header k.way k.header))
-IsStageBy stage.Syncs true (Some t) o k call s = (a : ℕ) × (n : ℕ) × (q : ℕ) × (by : ℕ) × (r : ℕ) × (pr : Progress) × (v : Sector) × IsProgressOf k pr Nowhere Nowhere × (s ≡ Syncs_next call a n q pr by v (next_header k.way k.header) r (ticket_id t))
-IsStageBy stage.Seals false ticket o k call s = (a : ℕ) × (n : ℕ) × (q : ℕ) × (pr : Progress) × IsProgressOf k pr Nowhere Nowhere × ((b : ℕ) → bit_of k.snapshot b ≡ true → pr.slotted b ≡ true) × (s ≡ Working call a n q pr)
-IsStageBy stage.Seals true ticket o k call s = (a : ℕ) × (n : ℕ) × (q : ℕ) × (by : ℕ) × (r : ℕ) × (pr : Progress) × (v : Sector) × IsProgressOf k pr Nowhere Nowhere × (s ≡ Is_next call a n q pr by v (next_header k.way k.header) r)
+IsStageBy stage.Puts true (Some t) o k call s = (a : ℕ) × (n : ℕ) × (q : ℕ) × (pr : FlushProgress) × (at : ℕ) × (v : Sector) × IsProgressOf k pr Nowhere Nowhere × (s ≡ Puts_next call a n q pr at v (next_header k.way k.header) (ticket_id t))
+IsStageBy stage.Syncs false None o k call s = (a : ℕ) × (n : ℕ) × (q : ℕ) × (pr : FlushProgress) × IsProgressOf k pr Nowhere Nowhere × (s ≡ Working call a n q pr)
+IsStageBy stage.Syncs false (Some t) o k call s = (a : ℕ) × (n : ℕ) × (q : ℕ) × (r : ℕ) × (pr : FlushProgress) × IsProgressOf k pr Nowhere Nowhere × (s ≡ Syncing call a n q pr r (ticket_id t))
+IsStageBy stage.Syncs true None o k call s = (a : ℕ) × (n : ℕ) × (q : ℕ) × (by : ℕ) × (pr : FlushProgress) × (v : Sector) × IsProgressOf k pr Nowhere Nowhere × (s ≡ Has_next call a n q pr by v (next_header k.way k.header))
+IsStageBy stage.Syncs true (Some t) o k call s = (a : ℕ) × (n : ℕ) × (q : ℕ) × (by : ℕ) × (r : ℕ) × (pr : FlushProgress) × (v : Sector) × IsProgressOf k pr Nowhere Nowhere × (s ≡ Syncs_next call a n q pr by v (next_header k.way k.header) r (ticket_id t))
+IsStageBy stage.Seals false ticket o k call s = (a : ℕ) × (n : ℕ) × (q : ℕ) × (pr : FlushProgress) × IsProgressOf k pr Nowhere Nowhere × ((b : ℕ) → bit_of k.snapshot b ≡ true → pr.slotted b ≡ true) × (s ≡ Working call a n q pr)
+IsStageBy stage.Seals true ticket o k call s = (a : ℕ) × (n : ℕ) × (q : ℕ) × (by : ℕ) × (r : ℕ) × (pr : FlushProgress) × (v : Sector) × IsProgressOf k pr Nowhere Nowhere × (s ≡ Is_next call a n q pr by v (next_header k.way k.header) r)
 IsStageBy _ head ticket o k call s = ⊥
 
 -- What a flush under way was begun with: one that isn't a recycle needs a sure header, and leaves the map behind. And what each stage

@@ -3,7 +3,7 @@ use Rattle.std.proofs.Common.{ℕ, ◌≡◌, ◌+◌, ◌<◌, ◌≤◌, inl, 
 use Rattle.std.proofs.lemmas.Bool.{cases_eq}
 use Rattle.vd_image.specs.Log.{Sector, CallId, Entry, Issue, IsOpen, May}
 use Rattle.vd_crash.specs.facts.Safe.{NumberedEntry, events, Opening}
-use Rattle.vd_crash.specs.facts.Facts.{GuestWrites, IsDrop, OwnWrites, IsDroppedAfter, NoDropFrom, AreDrops, AreAnswered, AreZeros, IsKnown, IsShown, IsWrittenBefore, Holds}
+use Rattle.vd_crash.specs.facts.Facts.{GuestWrites, IsDrop, OwnWrites, IsDroppedAfter, NoDropFrom, AreDrops, AreAnswered, AreZeros, IsKnown, IsClaimSettled, IsWrittenBefore, Holds}
 use Rattle.vd_crash.specs.facts.Words.{AnswersWell, IsUpdated, IsDropWrite, IsDiscarded, discarded_memory}
 use Rattle.vd_image.proofs.Logs.{at_below, at_end, length_push}
 use Rattle.vd_crash.proofs.facts.Growth.{kept_entry, answered_entry}
@@ -30,7 +30,7 @@ drops_same old new top c put j less = put.other j (λ same. omega (arith, less, 
 
 -- what is shown stays so, but for a count of discards that has this one
 pub shown_drop : (o : Opening) (log : List Entry) (history : List NumberedEntry) (m n : Memory) (id : CallId) (first : ℕ) (content : List Sector) → SameDrops m.discards.drops n.discards.drops (length history) → ((d p : ℕ) → m.index.table d ≡ Some p → n.index.table d ≡ Some p) → ((d : ℕ) → m.discards.zeros d ≡ true → n.discards.zeros d ≡ true)
-    → ((b : ℕ) → m.fresh b ≡ true → IsKnown o (history ++ drop_entry log id first content ∷ []) n.discards.drops n.fresh b) → o.opened ≤ length log → (reach : ℕ) → reach ≤ length history → (t : Claim) → IsShown o log history m reach t → IsShown o log (history ++ drop_entry log id first content ∷ []) n reach t
+    → ((b : ℕ) → m.fresh b ≡ true → IsKnown o (history ++ drop_entry log id first content ∷ []) n.discards.drops n.fresh b) → o.opened ≤ length log → (reach : ℕ) → reach ≤ length history → (t : Claim) → IsClaimSettled o log history m reach t → IsClaimSettled o log (history ++ drop_entry log id first content ∷ []) n reach t
 shown_drop o log history m n id first content same table zeros known opened reach limit (Stored b) h =
     let k = kept_entry o log history m.discards.drops n.discards.drops (drop_entry log id first content) m.index.table b reach 0 same opened refl
     (λ p given. no_ends o log history m.discards.drops (drop_entry log id first content) (λ call. no_done id call first content) b p) (λ is. limit) h.0 in (
@@ -66,8 +66,8 @@ drop_issued o log history m id first content c fresh stale owed d h within write
         kept_entry o log history m.discards.drops d.drops x m.index.table b reach (m.born b) same h.facts.opening.within refl
         (λ p given. no_ends o log history m.discards.drops x (λ call. no_done id call first content) b p)
         (λ at. absurd (was.1 (chunk_is (o.layout.chunk_of b) at))) (h.facts.contents_allowed b was.0 reach);
-    metadata = metadata_fewer o (May o.before log) (IsShown o log history m m.discards.reach) (IsShown o log (history ++ x ∷ []) n d.reach) m.index stale (λ b also. ((is.stale_others b).0 also).0)
-        (λ t shown. subst (λ (r : ℕ). IsShown o log (history ++ x ∷ []) n r t) (sym is.reach) (shown_drop o log history m n id first content same (λ e p given. given) (λ e zeros. updated_more m.discards.zeros d.zeros c e is.zeros zeros) (drop_known o log history m id first content c fresh stale owed d is) h.facts.opening.within m.discards.reach h.blocks.reach t shown))
+    metadata = metadata_fewer o (May o.before log) (IsClaimSettled o log history m m.discards.reach) (IsClaimSettled o log (history ++ x ∷ []) n d.reach) m.index stale (λ b also. ((is.stale_others b).0 also).0)
+        (λ t shown. subst (λ (r : ℕ). IsClaimSettled o log (history ++ x ∷ []) n r t) (sym is.reach) (shown_drop o log history m n id first content same (λ e p given. given) (λ e zeros. updated_more m.discards.zeros d.zeros c e is.zeros zeros) (drop_known o log history m id first content c fresh stale owed d is) h.facts.opening.within m.discards.reach h.blocks.reach t shown))
         h.facts.metadata;
   };
   blocks = record {

@@ -3,7 +3,7 @@ use Rattle.std.proofs.Common.{ℕ, ◌≡◌, ◌+◌, ◌<◌, ◌⊎◌, inl, 
 use Rattle.std.proofs.lemmas.Bool.{cases_eq}
 use Rattle.vd_image.specs.Log.{Sector, CallId, Entry, Done, Covers, Writes, Ends, May, IsOpen}
 use Rattle.vd_crash.specs.facts.Safe.{NumberedEntry, events, Opening}
-use Rattle.vd_crash.specs.facts.Facts.{OwnWrites, IsDroppedAfter, IsShown, IsFresh, IsFlushedSince, IsSettled, IsWrittenBefore, IsPending, Holds}
+use Rattle.vd_crash.specs.facts.Facts.{OwnWrites, IsDroppedAfter, IsClaimSettled, IsFresh, IsFlushedSince, IsSettled, IsWrittenBefore, IsPending, Holds}
 use Rattle.vd_image.proofs.Logs.{at_below, length_push}
 use Rattle.vd_crash.proofs.facts.Growth.{EndsMirrored, kept_grown}
 use Rattle.vd_crash.proofs.facts.Metadata.{metadata_same, metadata_grown}
@@ -31,7 +31,7 @@ born o log history m fresh since pending b i d h is ends put_fresh put_born put_
       | inl same ↦ subst (λ (y : ℕ). IsFresh o log history m.discards.drops m.index.table y (since y)) (sym same) (subst (λ (y : ℕ). IsFresh o log history m.discards.drops m.index.table b y) (sym put_born.same) now)
       | inr other ↦ subst (λ (y : ℕ). IsFresh o log history m.discards.drops m.index.table c y) (sym (put_born.other c other)) (h.facts.contents_allowed c (sym (put_fresh.other c other) ∙ also))
     ];
-    metadata = metadata_same o (May o.before log) (IsShown o log history m m.discards.reach) (IsShown o log history (with_blocks m fresh since m.owed pending) m.discards.reach) m.index (shown_blocks o log history m fresh since m.owed pending more m.discards.reach) h.facts.metadata;
+    metadata = metadata_same o (May o.before log) (IsClaimSettled o log history m m.discards.reach) (IsClaimSettled o log history (with_blocks m fresh since m.owed pending) m.discards.reach) m.index (shown_blocks o log history m fresh since m.owed pending more m.discards.reach) h.facts.metadata;
   };
   blocks = record {
     born = λ c also. elim (cases_eq c b) [
@@ -233,7 +233,7 @@ write_done o log history m owed call b h fresh mine more only logged = record {
     ]
 
 -- what is shown stays so where more storage is given
-pub shown_taken : (o : Opening) (log : List Entry) (history : List NumberedEntry) (m : Memory) (table : ℕ → Option ℕ) → Grows m.index.table table → (reach : ℕ) (t : Claim) → IsShown o log history m reach t → IsShown o log history (with_table m table) reach t
+pub shown_taken : (o : Opening) (log : List Entry) (history : List NumberedEntry) (m : Memory) (table : ℕ → Option ℕ) → Grows m.index.table table → (reach : ℕ) (t : Claim) → IsClaimSettled o log history m reach t → IsClaimSettled o log history (with_table m table) reach t
 shown_taken o log history m table grows reach (Stored b) h = (kept_grown o log history m.discards.drops m.index.table table b reach reach 0 0 (λ p given. grows (o.layout.chunk_of b) p given) (λ j n drop less. less) (λ w good. good) h.0, h.1)
 shown_taken o log history m table grows reach (Zero c) h = h
 
@@ -249,7 +249,7 @@ storage_taken o log history m table h grows is_table = record {
     answered = h.facts.answered;
     zeros = h.facts.zeros;
     storage_one_to_one = is_table;
-    metadata = metadata_grown o (May o.before log) (IsShown o log history m m.discards.reach) (IsShown o log history (with_table m table) m.discards.reach) m.index table grows (shown_taken o log history m table grows m.discards.reach) h.facts.metadata;
+    metadata = metadata_grown o (May o.before log) (IsClaimSettled o log history m m.discards.reach) (IsClaimSettled o log history (with_table m table) m.discards.reach) m.index table grows (shown_taken o log history m table grows m.discards.reach) h.facts.metadata;
     contents_allowed = λ b fresh reach. kept_grown o log history m.discards.drops m.index.table table b reach reach (m.born b) (m.born b) (λ p given. grows (o.layout.chunk_of b) p given) (λ j n drop less. less) (λ w good. good) (h.facts.contents_allowed b fresh reach);
   };
   blocks = record {

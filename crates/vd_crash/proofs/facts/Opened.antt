@@ -4,7 +4,7 @@ use Rattle.std.proofs.lemmas.Bool.{cases_lt}
 use Rattle.vd_image.specs.Log.{Sector, Entry, At, May}
 use Rattle.vd_image.specs.Image.{Header, Mapping, Fact, Record, IsMapping, IsGoodSlot, Counts, IsUnnamed, IsLastNamed, Maps, GivesStorage, IsLocalBy, IsLocal}
 use Rattle.vd_crash.specs.facts.Safe.{Opening}
-use Rattle.vd_crash.specs.facts.Facts.{IsFresh, IsSettled, IsShown, Holds}
+use Rattle.vd_crash.specs.facts.Facts.{IsFresh, IsSettled, IsClaimSettled, Holds}
 use Rattle.vd_crash.proofs.facts.Recovered.{is_false, settled_kept}
 use Rattle.vd_image.proofs.Logs.{at_one, writes_below}
 use Rattle.vd_image.proofs.Deciding.{NamedIn, NamedFrom, find_last, named_once, never_named, named_last, maps_some}
@@ -121,7 +121,7 @@ holds_at_opening o log m h = record {
     settled b fresh = (fresh, (h.flush, h.flushes, let e = h.born b in omega arith))
 
     shown : Claim → Type 0
-    shown = IsShown o log [] m m.discards.reach
+    shown = IsClaimSettled o log [] m m.discards.reach
 
     maps_within : (c : ℕ) (w : Mapping) → Maps o.format o.layout o.held m.index.generation c w → c < o.layout.chunks
     maps_within c w (inl last) =

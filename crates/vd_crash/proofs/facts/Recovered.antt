@@ -4,7 +4,7 @@ use Rattle.std.proofs.Common.{if◌then◌else◌, ap, ◌+◌, ℕ, ◌≡◌, 
 use Rattle.vd_image.specs.Log.{Sector, Entry, Writes, IsSure, NoneSureFrom, May, IsImage}
 use Rattle.vd_image.specs.Image.{Header, Mapping, Fact, IsCurrent, Counts, Maps, GivesStorage, IsLocalBy, unmapped_sector, IsSound, DiskHas}
 use Rattle.vd_crash.specs.facts.Safe.{NumberedEntry, events, Opening, IsSafeNow}
-use Rattle.vd_crash.specs.facts.Facts.{GuestWrites, IsDrop, OwnWrites, NoDropFrom, IsBehind, AreAnswered, IsShown, CrashFacts, IsKept, IsFresh, IsFlushedSince, IsSureBy}
+use Rattle.vd_crash.specs.facts.Facts.{GuestWrites, IsDrop, OwnWrites, NoDropFrom, IsBehind, AreAnswered, IsClaimSettled, CrashFacts, IsKept, IsFresh, IsFlushedSince, IsSureBy}
 use Rattle.vd_image.proofs.Logs.{sure_by}
 use Rattle.vd_crash.proofs.facts.History.{writes_of, guest_writes_of}
 use Rattle.vd_crash.proofs.facts.Contents.{by_drop, sure_ends, sure_flushes, sure_reached, shown_allowed}
@@ -184,7 +184,7 @@ safe_now o log history m facts = λ image is_image. record {
 }
   where
     shown : Claim → Type 0
-    shown = IsShown o log history m m.discards.reach
+    shown = IsClaimSettled o log history m m.discards.reach
 
     stored : (image : ℕ → Sector) → IsImage o.before log image → (s p : ℕ) (v : Sector) (w : Mapping) → s < o.layout.size → IsRight o shown m.index.table (o.layout.chunk_of (o.layout.block_of s)) w
         → IsLocalBy w (o.layout.block_of s) p → v ≡ image (o.layout.place p s) → May o.disk (events history) s v

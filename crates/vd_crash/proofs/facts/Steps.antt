@@ -3,7 +3,7 @@ use Rattle.std.proofs.Common.{ℕ, ◌≡◌, ◌+◌, ◌<◌, ◌≤◌, ◌�
 use Rattle.vd_image.specs.Log.{Sector, CallId, Entry, Done, Covers, IsOpen, May}
 use Rattle.vd_image.specs.Image.{IsApart}
 use Rattle.vd_crash.specs.facts.Safe.{NumberedEntry, events, Opening}
-use Rattle.vd_crash.specs.facts.Facts.{OwnWrites, NoDropFrom, AreDrops, AreZeros, IsKnown, IsShown, IsSettled, IsWrittenBefore, CrashFacts, IsPending, IsIssued, Holds}
+use Rattle.vd_crash.specs.facts.Facts.{OwnWrites, NoDropFrom, AreDrops, AreZeros, IsKnown, IsClaimSettled, IsSettled, IsWrittenBefore, CrashFacts, IsPending, IsIssued, Holds}
 use Rattle.vd_image.proofs.Logs.{at_below, writes_push, writes_pushed, length_push}
 use Rattle.vd_crash.proofs.facts.Contents.{by_drop}
 use Rattle.vd_crash.proofs.facts.Growth.{opened_event, FollowsGuest, EndsMirrored, whole_event, whole_entry, kept_event, kept_entry, flushed_push, answered_event, answered_entry}
@@ -12,7 +12,7 @@ use Rattle.vd_crash.specs.facts.Memory.{Discards, Memory}
 use Rattle.vd_crash.specs.facts.Metadata.{Claim, Stored, Zero}
 use Rattle.vd_crash.proofs.facts.HistoryGrowth.{length_events, guest_writes_push, guest_writes_below, guest_ends_pushed, guest_open_pushed, SameDrops, same_drops, drop_below, drop_push, drop_pushed, drop_old, own_pushed, dropped_after_push, numbers_event, numbers_entry, ends_below, open_below, guest_writes_old, own_writes_old}
 use Rattle.vd_crash.specs.facts.Words.{AnswersWell}
-pub use Rattle.vd_crash.specs.facts.Words.{IsQuiet, with_blocks}
+pub use Rattle.vd_crash.specs.facts.Words.{WritesNothing, with_blocks}
 
 -- the next entry is no discard, as long as nothing is said of it
 pub next_ordinary : (o : Opening) (drops : ℕ → Option ℕ) (history : List NumberedEntry) → AreDrops o drops history → drops (length history) ≡ None
@@ -26,14 +26,14 @@ known_push o old new history x fresh b same (inr dropped) = inr (dropped.0, drop
 -- What is shown stays so after an event that puts into each block's place what stands in the block.
 pub shown_event : (o : Opening) (log : List Entry) (history : List NumberedEntry) (m : Memory) (e : Entry)
     → ((b p : ℕ) → m.index.table (o.layout.chunk_of b) ≡ Some p → FollowsGuest o log history m.discards.drops b p e)
-    → (reach : ℕ) (t : Claim) → IsShown o log history m reach t → IsShown o (log ++ e ∷ []) history m reach t
+    → (reach : ℕ) (t : Claim) → IsClaimSettled o log history m reach t → IsClaimSettled o (log ++ e ∷ []) history m reach t
 shown_event o log history m e follows reach (Stored b) h = (kept_event o log history m.discards.drops e m.index.table b reach 0 (λ p given. follows b p given) h.0, h.1)
 shown_event o log history m e follows reach (Zero c) h = h
 
 -- and after an entry that is no discard, and no Done but of a write that is mirrored
 pub shown_entry : (o : Opening) (log : List Entry) (history : List NumberedEntry) (m : Memory) (x : NumberedEntry) → m.discards.drops (length history) ≡ None → o.opened ≤ length log → x.number ≡ length log
     → ((b p : ℕ) → m.index.table (o.layout.chunk_of b) ≡ Some p → EndsMirrored o log history m.discards.drops b p x)
-    → (reach : ℕ) (t : Claim) → IsShown o log history m reach t → IsShown o log (history ++ x ∷ []) m reach t
+    → (reach : ℕ) (t : Claim) → IsClaimSettled o log history m reach t → IsClaimSettled o log (history ++ x ∷ []) m reach t
 shown_entry o log history m x none opened number ends reach (Stored b) h = (
   kept_entry o log history m.discards.drops m.discards.drops x m.index.table b reach 0 (same_drops m.discards.drops (length history)) opened number (λ p given. ends b p given) (λ is. absurd cc) h.0,
   known_push o m.discards.drops m.discards.drops history x m.fresh b (same_drops m.discards.drops (length history)) h.1,
@@ -52,7 +52,7 @@ facts_event o log history m e apart h places follows = record {
   zeros = h.zeros;
   storage_one_to_one = h.storage_one_to_one;
   contents_allowed = λ b fresh reach. kept_event o log history m.discards.drops e m.index.table b reach (m.born b) (λ p given. follows b p given) (h.contents_allowed b fresh reach);
-  metadata = metadata_less o (May o.before (log ++ e ∷ [])) (May o.before log) (IsShown o log history m m.discards.reach) (IsShown o (log ++ e ∷ []) history m m.discards.reach) m.index (no_more_metadata o log e apart places)
+  metadata = metadata_less o (May o.before (log ++ e ∷ [])) (May o.before log) (IsClaimSettled o log history m m.discards.reach) (IsClaimSettled o (log ++ e ∷ []) history m m.discards.reach) m.index (no_more_metadata o log e apart places)
       (shown_event o log history m e follows m.discards.reach) h.metadata;
 }
 
@@ -88,7 +88,7 @@ pub settled_push : (log : List Entry) (m : Memory) (e : Entry) (b : ℕ) → IsS
 settled_push log m e b h = (h.0, flushed_push log e (m.born b) h.1)
 
 -- a store event that writes nothing
-pub quiet_event : (o : Opening) (log : List Entry) (history : List NumberedEntry) (m : Memory) (e : Entry) → IsQuiet e → Holds o log history m → Holds o (log ++ e ∷ []) history m
+pub quiet_event : (o : Opening) (log : List Entry) (history : List NumberedEntry) (m : Memory) (e : Entry) → WritesNothing e → Holds o log history m → Holds o (log ++ e ∷ []) history m
 quiet_event o log history m e quiet h = record {
   apart = h.apart;
   facts = facts_event o log history m e h.apart h.facts (λ s v covers. absurd (quiet s v covers)) (λ b p given s v block covers. absurd (quiet (o.layout.place p s) v covers));
@@ -146,7 +146,7 @@ facts_entry o log history m owed x h number issues ends answers = record {
   zeros = zeros_entry o history m.index.stale m.index.off_base m.discards x none h.zeros;
   storage_one_to_one = h.storage_one_to_one;
   contents_allowed = λ b fresh reach. kept_entry o log history m.discards.drops m.discards.drops x m.index.table b reach (m.born b) same h.opening.within number (λ p given. ends b p given) (λ is. absurd (let n = none in cc)) (h.contents_allowed b fresh reach);
-  metadata = metadata_same o (May o.before log) (IsShown o log history m m.discards.reach) (IsShown o log (history ++ x ∷ []) (with_blocks m m.fresh m.born owed m.pending) m.discards.reach) m.index
+  metadata = metadata_same o (May o.before log) (IsClaimSettled o log history m m.discards.reach) (IsClaimSettled o log (history ++ x ∷ []) (with_blocks m m.fresh m.born owed m.pending) m.discards.reach) m.index
       (λ t shown. as_blocks t (shown_entry o log history m x none h.opening.within number ends m.discards.reach t shown)) h.metadata;
 }
   where
@@ -156,7 +156,7 @@ facts_entry o log history m owed x h number issues ends answers = record {
     same : (j : ℕ) → j < length history → m.discards.drops j ≡ m.discards.drops j
     same = same_drops m.discards.drops (length history)
 
-    as_blocks : (t : Claim) → IsShown o log (history ++ x ∷ []) m m.discards.reach t → IsShown o log (history ++ x ∷ []) (with_blocks m m.fresh m.born owed m.pending) m.discards.reach t
+    as_blocks : (t : Claim) → IsClaimSettled o log (history ++ x ∷ []) m m.discards.reach t → IsClaimSettled o log (history ++ x ∷ []) (with_blocks m m.fresh m.born owed m.pending) m.discards.reach t
     as_blocks (Stored b) k = k
     as_blocks (Zero c) k = k
 
@@ -213,7 +213,7 @@ pub pending_entry : (o : Opening) (log : List Entry) (history : List NumberedEnt
 pending_entry o log history drops table x b i none h number = pending_push o log history drops drops table x b i (same_drops drops (length history)) (λ is. absurd cc) h number
 
 -- an entry that is no issue, ends no ordinary write, and answers no flush well but one that is due
-pub quiet_entry : (o : Opening) (log : List Entry) (history : List NumberedEntry) (m : Memory) (x : NumberedEntry) → x.number ≡ length log → IsQuiet x.event
+pub quiet_entry : (o : Opening) (log : List Entry) (history : List NumberedEntry) (m : Memory) (x : NumberedEntry) → x.number ≡ length log → WritesNothing x.event
     → EndsNoOwn m.discards.drops history x → AnswersWell o log history m x → Holds o log history m → Holds o log (history ++ x ∷ []) m
 quiet_entry o log history m x number quiet no_end answers h = record {
   apart = h.apart;

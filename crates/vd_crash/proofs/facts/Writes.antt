@@ -5,7 +5,7 @@ use Rattle.std.proofs.lemmas.Bool.{cases_eq}
 use Rattle.vd_image.specs.Log.{Sector, CallId, Entry, Fine, Issue, Done, Reply, Covers, Writes, May, IsOpen}
 use Rattle.vd_image.specs.Image.{IsApart}
 use Rattle.vd_crash.specs.facts.Safe.{NumberedEntry, events, Opening}
-use Rattle.vd_crash.specs.facts.Facts.{IsDrop, OwnWrites, IsDroppedAfter, NoDropFrom, IsLive, IsFill, IsContent, IsShown, IsWrittenBefore, CrashFacts, IsPending, IsIssued, Holds}
+use Rattle.vd_crash.specs.facts.Facts.{IsDrop, OwnWrites, IsDroppedAfter, NoDropFrom, IsLive, IsFill, IsContent, IsClaimSettled, IsWrittenBefore, CrashFacts, IsPending, IsIssued, Holds}
 use Rattle.vd_image.proofs.Logs.{at_below, covers_one, at_end, writes_end, writes_below, length_push}
 use Rattle.vd_crash.proofs.facts.Growth.{FollowsGuest, EndsMirrored}
 use Rattle.vd_crash.proofs.facts.Metadata.{metadata_same, WritesPlaces}
@@ -133,7 +133,7 @@ clash f set unset = cc
 
 -- what is shown stays so where no block stops being local
 pub shown_blocks : (o : Opening) (log : List Entry) (history : List NumberedEntry) (m : Memory) (fresh : ℕ → Bool) (born : ℕ → ℕ) (owed : ℕ → Bool) (pending : ℕ → Option ℕ) → ((b : ℕ) → m.fresh b ≡ true → fresh b ≡ true) → (reach : ℕ) (t : Claim)
-    → IsShown o log history m reach t → IsShown o log history (with_blocks m fresh born owed pending) reach t
+    → IsClaimSettled o log history m reach t → IsClaimSettled o log history (with_blocks m fresh born owed pending) reach t
 shown_blocks o log history m fresh born owed pending more reach (Stored b) h = (h.0, elim h.1 [ inl is ↦ inl (more b is) | inr dropped ↦ inr dropped ])
 shown_blocks o log history m fresh born owed pending more reach (Zero c) h = h
 
@@ -148,7 +148,7 @@ facts_same o log history m owed pending h = record {
   zeros = h.zeros;
   storage_one_to_one = h.storage_one_to_one;
   contents_allowed = h.contents_allowed;
-  metadata = metadata_same o (May o.before log) (IsShown o log history m m.discards.reach) (IsShown o log history (with_blocks m m.fresh m.born owed pending) m.discards.reach) m.index (shown_blocks o log history m m.fresh m.born owed pending (λ b is. is) m.discards.reach) h.metadata;
+  metadata = metadata_same o (May o.before log) (IsClaimSettled o log history m m.discards.reach) (IsClaimSettled o log history (with_blocks m m.fresh m.born owed pending) m.discards.reach) m.index (shown_blocks o log history m m.fresh m.born owed pending (λ b is. is) m.discards.reach) h.metadata;
 }
 
 -- A block that is neither local nor being written whole has no ordinary write that is live, but of before a discard.

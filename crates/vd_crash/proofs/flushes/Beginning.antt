@@ -7,7 +7,7 @@ use Rattle.vd_crash.specs.facts.Facts.{HasEntry, IsKept, IsSureBy, IsWrittenBefo
 use Rattle.vd_image.proofs.Logs.{at_below}
 use Rattle.vd_crash.proofs.facts.Growth.{kept_grown}
 use Rattle.vd_crash.proofs.facts.Recovered.{settled_kept}
-use Rattle.vd_crash.specs.flushes.Flushing.{snapshot_of, IsUnderWay}
+use Rattle.vd_crash.specs.flushes.Flushing.{snapshot_of, IsFlushUnderWay, flush_ask}
 use Rattle.vd_crash.specs.facts.Memory.{Memory}
 
 either : (x y : Bool) → (x || y) ≡ true → (x ≡ true) ⊎ (y ≡ true)
@@ -24,7 +24,7 @@ second_of_two false y h = h
 
 -- the beginning of a flush: the data flush is asked next
 pub begun : (o : Opening) (log : List Entry) (history : List NumberedEntry) (m : Memory) (call : CallId) (a n : ℕ)
-    → Holds o log history m → HasEntry history a n (Ask call Flush) → IsUnderWay o log history m (snapshot_of m history) call a n (length log)
+    → Holds o log history m → HasEntry history a n (Ask call Flush) → IsFlushUnderWay o log history m (snapshot_of m history) (flush_ask call a n) (length log)
 begun o log history m call a n h asked = record {
   asked = asked;
   order = h.facts.numbers.none_above a n (Ask call Flush) asked;

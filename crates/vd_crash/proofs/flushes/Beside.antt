@@ -3,13 +3,13 @@ use Rattle.std.proofs.Common.{ℕ, ◌≡◌, ◌<◌, ◌≤◌, ◌⊎◌, inl
 use Rattle.std.proofs.lemmas.Bool.{cases_eq}
 use Rattle.vd_image.specs.Log.{Sector, CallId, Entry, Issue}
 use Rattle.vd_crash.specs.facts.Safe.{NumberedEntry, Opening}
-use Rattle.vd_crash.specs.facts.Facts.{HasEntry, IsDrop, IsWrittenBefore, IsKept, IsShown}
+use Rattle.vd_crash.specs.facts.Facts.{HasEntry, IsDrop, IsWrittenBefore, IsKept, IsClaimSettled}
 use Rattle.vd_crash.specs.facts.Words.{Grows, IsDiscarded}
 use Rattle.vd_image.proofs.Logs.{at_push, at_end, length_push}
 use Rattle.vd_crash.proofs.facts.Growth.{EndsMirrored, kept_entry, kept_grown, written_before_old}
 use Rattle.vd_crash.proofs.facts.Drops.{drop_entry, drops_same, updated_more}
 use Rattle.vd_crash.proofs.facts.Writes.{no_ends, no_done}
-use Rattle.vd_crash.specs.flushes.Flushing.{Snapshot, IsDroppedFrom, IsUnderWay, IsSealed}
+use Rattle.vd_crash.specs.flushes.Flushing.{Snapshot, IsDroppedFrom, IsFlushUnderWay, IsSealed, flush_ask}
 use Rattle.vd_crash.specs.facts.Memory.{Discards, Memory}
 use Rattle.vd_crash.specs.facts.Metadata.{Claim, Stored, Zero}
 use Rattle.vd_crash.proofs.facts.HistoryGrowth.{same_drops, drop_push, drop_pushed}
@@ -42,7 +42,7 @@ pub record IsBeside (o : Opening) (log : List Entry) (history later : List Numbe
   pub owed_still : (b : ℕ) → m.owed b ≡ true → ((owed b ≡ true) × (born b ≡ m.born b)) ⊎ IsDroppedFrom d.drops later (length history) (o.layout.chunk_of b)
 
 pub shown_beside : (o : Opening) (log : List Entry) (history later : List NumberedEntry) (m : Memory) (table : ℕ → Option ℕ) (stale fresh : ℕ → Bool) (born : ℕ → ℕ) (owed : ℕ → Bool) (pending : ℕ → Option ℕ) (d : Discards) → IsBeside o log history later m table stale fresh born owed d
-    → (reach : ℕ) → reach ≤ length history → (t : Claim) → IsShown o log history m reach t → IsShown o log later (beside_memory m table stale fresh born owed pending d) reach t
+    → (reach : ℕ) → reach ≤ length history → (t : Claim) → IsClaimSettled o log history m reach t → IsClaimSettled o log later (beside_memory m table stale fresh born owed pending d) reach t
 shown_beside o log history later m table stale fresh born owed pending d h reach limit (Stored b) shown = (
   h.kept b reach 0 limit shown.0,
   elim shown.1 [
@@ -54,7 +54,7 @@ shown_beside o log history later m table stale fresh born owed pending d h reach
 
 -- the flush goes on
 pub under_way_beside : (o : Opening) (log : List Entry) (history later : List NumberedEntry) (m : Memory) (table : ℕ → Option ℕ) (stale fresh : ℕ → Bool) (born : ℕ → ℕ) (owed : ℕ → Bool) (pending : ℕ → Option ℕ) (d : Discards) (p : Snapshot) (call : CallId) (a n q : ℕ)
-    → IsBeside o log history later m table stale fresh born owed d → IsUnderWay o log history m p call a n q → IsUnderWay o log later (beside_memory m table stale fresh born owed pending d) p call a n q
+    → IsBeside o log history later m table stale fresh born owed d → IsFlushUnderWay o log history m p (flush_ask call a n) q → IsFlushUnderWay o log later (beside_memory m table stale fresh born owed pending d) p (flush_ask call a n) q
 under_way_beside o log history later m table stale fresh born owed pending d p call a n q h way = record {
   asked = h.entries a n _ way.asked;
   order = way.order;
@@ -108,7 +108,7 @@ under_way_beside o log history later m table stale fresh born owed pending d p c
 
 -- a flush that is over stays so
 pub sealed_beside : (o : Opening) (log : List Entry) (history later : List NumberedEntry) (m : Memory) (table : ℕ → Option ℕ) (stale fresh : ℕ → Bool) (born : ℕ → ℕ) (owed : ℕ → Bool) (d : Discards) (call : CallId) (a n : ℕ)
-    → IsBeside o log history later m table stale fresh born owed d → a ≤ length history → IsSealed o log history m.discards.drops m.index.stale m.index.off_base m.discards.reach call a n → IsSealed o log later d.drops stale m.index.off_base d.reach call a n
+    → IsBeside o log history later m table stale fresh born owed d → a ≤ length history → IsSealed o log history m.discards.drops m.index.stale m.index.off_base m.discards.reach (flush_ask call a n) → IsSealed o log later d.drops stale m.index.off_base d.reach (flush_ask call a n)
 sealed_beside o log history later m table stale fresh born owed d call a n h within is = record {
   asked = h.entries a n _ is.asked;
   flushed = is.flushed;

@@ -1,13 +1,14 @@
 -- How a flush's puts become what every image has.
-use Rattle.std.proofs.Common.{ℕ, ◌≡◌, ◌+◌, ◌<◌, ◌≤◌, ◌⊎◌, inl, inr, List, [], ◌∷◌, ◌++◌, length, Bool, true, arith}
+use Rattle.std.proofs.Common.{ℕ, ◌≡◌, ◌+◌, ◌<◌, ◌≤◌, ◌⊎◌, inl, inr, List, [], ◌∷◌, ◌++◌, length, true, arith}
 use Rattle.vd_image.specs.Log.{Sector, CallId, Entry, Done, Broke, At, Covers, IsIssueOf}
 use Rattle.vd_image.specs.Image.{IsApart}
 use Rattle.vd_crash.specs.facts.Safe.{NumberedEntry, Opening}
-use Rattle.vd_crash.specs.facts.Facts.{IsShown}
+use Rattle.vd_crash.specs.facts.Facts.{IsClaimSettled}
 use Rattle.vd_image.proofs.Logs.{at_end, at_below, writes_push, writes_pushed, writes_end, writes_below, length_push}
 use Rattle.vd_crash.proofs.facts.Metadata.{WritesPlaces}
-use Rattle.vd_crash.specs.flushes.Flushing.{Snapshot, IsLast}
-use Rattle.vd_crash.specs.flushes.Passes.{IsPutting, HasPut}
+use Rattle.vd_crash.specs.flushes.Flushing.{IsLast}
+use Rattle.vd_crash.specs.flushes.Passes.{IsPutting}
+use Rattle.vd_crash.specs.flushes.Stage.{FlushProgress, HasPut}
 use Rattle.vd_crash.proofs.flushes.Passes.{in_flight_push, recorded_push, page_push}
 use Rattle.vd_crash.specs.facts.Memory.{Memory}
 use Rattle.vd_crash.specs.facts.Metadata.{Claim}
@@ -50,10 +51,10 @@ pub last_later : (log : List Entry) (s : ℕ) (v : Sector) (by more : ℕ) → b
 last_later log s v by more order h = record { at = h.at; done = h.done; writes = h.writes; ends = h.ends; last = h.last; before = let b = h.before in omega arith }
 
 -- what was put stays so beside other passes' events
-pub has_put_push : (o : Opening) (log : List Entry) (history : List NumberedEntry) (m : Memory) (snapshot : Snapshot) (e : Entry) (first by : ℕ) (recorded written : ℕ → Bool) → IsApart o.layout
-    → ((c : ℕ) → written c ≡ true → c < o.layout.chunks) → WritesPlaces o e → ((t : Claim) → IsShown o log history m snapshot.begun t → IsShown o (log ++ e ∷ []) history m snapshot.begun t)
-    → HasPut o log history m snapshot first by recorded written → HasPut o (log ++ e ∷ []) history m snapshot first by recorded written
-has_put_push o log history m snapshot e first by recorded written apart in_range places still h = record {
-  records = λ b is. recorded_push o log m e first by b (λ k u below within covers. let p = places (o.layout.slot_at k) u covers in apart.place_slot p.0 p.1 k p.2 within p.3) (h.records b is);
-  pages = λ c is. page_push o log history m snapshot e by c (λ u covers. let p = places (o.layout.map_at c) u covers in apart.place_map p.0 p.1 c p.2 (in_range c is) p.3) still (h.pages c is);
+pub has_put_push : (o : Opening) (log : List Entry) (history : List NumberedEntry) (m : Memory) (e : Entry) (p : FlushProgress) → IsApart o.layout
+    → ((c : ℕ) → p.written c ≡ true → c < o.layout.chunks) → WritesPlaces o e → ((t : Claim) → IsClaimSettled o log history m p.snapshot.begun t → IsClaimSettled o (log ++ e ∷ []) history m p.snapshot.begun t)
+    → HasPut o log history m p → HasPut o (log ++ e ∷ []) history m p
+has_put_push o log history m e p apart in_range places still h = record {
+  records = λ b is. recorded_push o log m e p.first p.by b (λ k u below within covers. let g = places (o.layout.slot_at k) u covers in apart.place_slot g.0 g.1 k g.2 within g.3) (h.records b is);
+  pages = λ c is. page_push o log history m p.snapshot e p.by c (λ u covers. let g = places (o.layout.map_at c) u covers in apart.place_map g.0 g.1 c g.2 (in_range c is) g.3) still (h.pages c is);
 }

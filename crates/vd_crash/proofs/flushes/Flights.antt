@@ -2,7 +2,7 @@
 use Rattle.std.proofs.Common.{◌∙◌, ℕ, ◌≡◌, ◌≤◌, ◌⊎◌, length, Option, inl, inr, List, [], ◌∷◌, ◌++◌, Some, Bool, true, arith, refl, ap, sym, subst}
 use Rattle.vd_image.specs.Log.{Sector, CallId, Entry, Ask, Flush, Done, Broke, At, IsIssueOf, IsWriteInFlight}
 use Rattle.vd_crash.specs.facts.Safe.{NumberedEntry, Opening, events}
-use Rattle.vd_crash.specs.flushes.Flushing.{IsSealed}
+use Rattle.vd_crash.specs.flushes.Flushing.{IsSealed, flush_ask}
 use Rattle.std.proofs.lemmas.Bool.{cases_eq}
 use Rattle.vd_crash.specs.facts.Words.{IsUpdated, IsDiscarded, discarded_memory}
 use Rattle.vd_crash.specs.flushes.Stage.{IsOtherCall, AreDistinct, Answering, HasWrite, Flight, Idle, Writing, Copying, FlightHolds, HasTicket, HasBlock, HasCall, AreFlights}
@@ -15,13 +15,13 @@ use Rattle.vd_crash.specs.facts.Memory.{Discards, Memory}
 use Rattle.vd_crash.proofs.facts.HistoryGrowth.{events_push, same_drops}
 
 -- a flush that is over, beside more events and entries
-pub sealed_event : (o : Opening) (log : List Entry) (history : List NumberedEntry) (drops : ℕ → Option ℕ) (stale off_base : ℕ → Bool) (reach : ℕ) (call : CallId) (a n : ℕ) (e : Entry) → IsSealed o log history drops stale off_base reach call a n → IsSealed o (log ++ e ∷ []) history drops stale off_base reach call a n
+pub sealed_event : (o : Opening) (log : List Entry) (history : List NumberedEntry) (drops : ℕ → Option ℕ) (stale off_base : ℕ → Bool) (reach : ℕ) (call : CallId) (a n : ℕ) (e : Entry) → IsSealed o log history drops stale off_base reach (flush_ask call a n) → IsSealed o (log ++ e ∷ []) history drops stale off_base reach (flush_ask call a n)
 sealed_event o log history drops stale off_base reach call a n e h = record { asked = h.asked; logged = h.logged; reached = h.reached; flushed = (h.flushed.0, flushes_push log e h.flushed.0 h.flushed.1, h.flushed.2) }
 
-pub sealed_below : (o : Opening) (log : List Entry) (history : List NumberedEntry) (drops : ℕ → Option ℕ) (stale off_base : ℕ → Bool) (reach : ℕ) (call : CallId) (a n : ℕ) → IsSealed o log history drops stale off_base reach call a n → a ≤ length history
+pub sealed_below : (o : Opening) (log : List Entry) (history : List NumberedEntry) (drops : ℕ → Option ℕ) (stale off_base : ℕ → Bool) (reach : ℕ) (call : CallId) (a n : ℕ) → IsSealed o log history drops stale off_base reach (flush_ask call a n) → a ≤ length history
 sealed_below o log history drops stale off_base reach call a n h = let l = at_below history a (record { event = Ask call Flush; number = n }) h.asked in omega arith
 
-pub sealed_entry : (o : Opening) (log : List Entry) (history : List NumberedEntry) (drops : ℕ → Option ℕ) (stale off_base : ℕ → Bool) (reach : ℕ) (call : CallId) (a n : ℕ) (x : NumberedEntry) → IsSealed o log history drops stale off_base reach call a n → IsSealed o log (history ++ x ∷ []) drops stale off_base reach call a n
+pub sealed_entry : (o : Opening) (log : List Entry) (history : List NumberedEntry) (drops : ℕ → Option ℕ) (stale off_base : ℕ → Bool) (reach : ℕ) (call : CallId) (a n : ℕ) (x : NumberedEntry) → IsSealed o log history drops stale off_base reach (flush_ask call a n) → IsSealed o log (history ++ x ∷ []) drops stale off_base reach (flush_ask call a n)
 sealed_entry o log history drops stale off_base reach call a n x h = record {
   asked = at_push history x a (record { event = Ask call Flush; number = n }) h.asked;
   flushed = h.flushed;
@@ -51,7 +51,7 @@ flight_entry o log history m (Answering call a n) x other h = sealed_entry o log
 pub record KeepsFor (o : Opening) (log : List Entry) (history : List NumberedEntry) (old new : Memory) (f : Flight) : Type 0 where
   pub fresh : (b : ℕ) → HasBlock f b → old.fresh b ≡ true → new.fresh b ≡ true
   pub pending : (b n : ℕ) → HasBlock f b → old.pending b ≡ Some n → new.pending b ≡ Some n
-  pub sealed : (call : CallId) (a n : ℕ) → IsSealed o log history old.discards.drops old.index.stale old.index.off_base old.discards.reach call a n → IsSealed o log history new.discards.drops new.index.stale new.index.off_base new.discards.reach call a n
+  pub sealed : (call : CallId) (a n : ℕ) → IsSealed o log history old.discards.drops old.index.stale old.index.off_base old.discards.reach (flush_ask call a n) → IsSealed o log history new.discards.drops new.index.stale new.index.off_base new.discards.reach (flush_ask call a n)
 
 pub flight_memory : (o : Opening) (log : List Entry) (history : List NumberedEntry) (old new : Memory) (f : Flight) → KeepsFor o log history old new f
     → FlightHolds o log history old f → FlightHolds o log history new f

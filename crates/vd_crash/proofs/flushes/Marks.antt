@@ -2,10 +2,10 @@
 use Rattle.std.proofs.Common.{[], ap, ◌∙◌, ℕ, ◌≡◌, ◌<◌, ◌⊎◌, inl, inr, List, Some, Bool, true, false, refl, sym, subst}
 use Rattle.vd_image.specs.Log.{Sector, Entry, CallId, May}
 use Rattle.vd_crash.specs.facts.Safe.{NumberedEntry, Opening}
-use Rattle.vd_crash.specs.facts.Facts.{Holds, NoDropFrom, IsShown}
+use Rattle.vd_crash.specs.facts.Facts.{Holds, NoDropFrom, IsClaimSettled}
 use Rattle.vd_crash.specs.facts.Words.{Sealing, sealed_memory}
-use Rattle.vd_crash.specs.flushes.Flushing.{Snapshot, IsWanted, IsUnderWay, IsLogged, IsCaughtUp, nothing_new, AreOpeningMarks, AreMarks}
-use Rattle.vd_crash.specs.flushes.Stage.{Progress, IsSoFar}
+use Rattle.vd_crash.specs.flushes.Flushing.{Snapshot, IsWanted, IsFlushUnderWay, IsLogged, IsCaughtUp, nothing_new, AreOpeningMarks, AreMarks, flush_ask}
+use Rattle.vd_crash.specs.flushes.Stage.{FlushProgress, IsSoFar}
 use Rattle.vd_crash.proofs.facts.Growth.{kept_grown}
 use Rattle.vd_crash.proofs.facts.Metadata.{NoMore, page_less, right_page_more}
 use Rattle.vd_crash.proofs.facts.Recovered.{settled_kept}
@@ -17,7 +17,7 @@ use Rattle.vd_crash.proofs.flushes.Wanted.{wanted_right, wanted_page, off_after_
 use Rattle.vd_crash.proofs.flushes.Sealing.{right_sealed, right_or_lost}
 
 -- At opening: a page that isn't marked is held with the mappings of the stale blocks and the kinds.
-pub marks_opened : (o : Opening) (log : List Entry) (m : Memory) (marked : ℕ → Bool) → IsAtOpening o log m → Holds o log [] m → AreOpeningMarks o m marked → AreMarks o (May o.before log) (IsShown o log [] m m.discards.reach) m.index marked
+pub marks_opened : (o : Opening) (log : List Entry) (m : Memory) (marked : ℕ → Bool) → IsAtOpening o log m → Holds o log [] m → AreOpeningMarks o m marked → AreMarks o (May o.before log) (IsClaimSettled o log [] m m.discards.reach) m.index marked
 marks_opened o log m marked opening holds held = record {
   right = λ c v within unmarked left.
       let page = held c within unmarked in
@@ -35,7 +35,7 @@ marks_opened o log m marked opening holds held = record {
       };
 }
   where
-    shown : (b : ℕ) → m.index.stale b ≡ true → IsShown o log [] m m.discards.reach (Stored b)
+    shown : (b : ℕ) → m.index.stale b ≡ true → IsClaimSettled o log [] m m.discards.reach (Stored b)
     shown b stale = let s = holds.blocks.stale_settled b stale in (settled_kept o log [] m.discards.drops m.index.table b (m.born b) m.discards.reach (holds.facts.contents_allowed b s.0) s.1, inl s.0)
 
     wanted : (t : Need) → IsDue m.index t → (chunk_in o t < o.layout.chunks) × IsWanted o (nothing_new m) t
@@ -82,16 +82,16 @@ marks_flushed o left settled x marked now right pages h = record {
 }
 
 -- what is wanted is in its page, where that is caught up
-pub caught_page : (o : Opening) (log : List Entry) (history : List NumberedEntry) (m : Memory) (call : CallId) (a n q : ℕ) (p : Progress) (t : Need) → IsSoFar o log history m call a n q p → p.paged (chunk_in o t) ≡ true
+pub caught_page : (o : Opening) (log : List Entry) (history : List NumberedEntry) (m : Memory) (call : CallId) (a n q : ℕ) (p : FlushProgress) (t : Need) → IsSoFar o log history m (flush_ask call a n) q p → p.paged (chunk_in o t) ≡ true
     → chunk_in o t < o.layout.chunks → IsWanted o p.snapshot t → IsInPage o (May o.before log) t
 caught_page o log history m call a n q p t so_far paged within wanted = record { within = within; page = λ v left. (so_far.paged (chunk_in o t) paged v left).has t refl wanted }
 
 -- the end of a flush by records: the pages of what is new are marked, or caught up
-pub marks_sealed : (o : Opening) (log : List Entry) (history : List NumberedEntry) (m : Memory) (marked : ℕ → Bool) (call : CallId) (a n q : ℕ) (p : Progress) (z : Sealing) → Holds o log history m → IsSoFar o log history m call a n q p → IsLogged o history m p.snapshot z
+pub marks_sealed : (o : Opening) (log : List Entry) (history : List NumberedEntry) (m : Memory) (marked : ℕ → Bool) (call : CallId) (a n q : ℕ) (p : FlushProgress) (z : Sealing) → Holds o log history m → IsSoFar o log history m (flush_ask call a n) q p → IsLogged o history m p.snapshot z
     → ((b : ℕ) → p.snapshot.blocks b ≡ true → (marked (o.layout.map_at (o.layout.chunk_of b)) ≡ true) ⊎ (p.paged (o.layout.chunk_of b) ≡ true))
     → ((c : ℕ) → p.snapshot.lost c ≡ true → (marked (o.layout.map_at c) ≡ true) ⊎ (p.paged c ≡ true))
-    → AreMarks o (May o.before log) (IsShown o log history m m.discards.reach) m.index marked
-    → AreMarks o (May o.before log) (IsShown o log history (sealed_memory m m.index.generation m.index.tracked m.index.sure m.index.tried m.index.cursor z) z.reach) (sealed_memory m m.index.generation m.index.tracked m.index.sure m.index.tried m.index.cursor z).index marked
+    → AreMarks o (May o.before log) (IsClaimSettled o log history m m.discards.reach) m.index marked
+    → AreMarks o (May o.before log) (IsClaimSettled o log history (sealed_memory m m.index.generation m.index.tracked m.index.sure m.index.tried m.index.cursor z) z.reach) (sealed_memory m m.index.generation m.index.tracked m.index.sure m.index.tried m.index.cursor z).index marked
 marks_sealed o log history m marked call a n q p z holds so logged pages lost_pages h = record {
   right = λ c v within unmarked left.
       let page = h.right c v within unmarked left in
@@ -125,10 +125,10 @@ marks_sealed o log history m marked call a n q p z holds so logged pages lost_pa
         ]
 
 -- A page that isn't marked needs no put, where nothing new of its chunk is logged, and the chunk wasn't discarded since the snapshot.
-pub clean_caught_up : (o : Opening) (log : List Entry) (history : List NumberedEntry) (m : Memory) (p : Snapshot) (call : CallId) (a n q : ℕ) (marked : ℕ → Bool) (c : ℕ) → Holds o log history m → IsUnderWay o log history m p call a n q
-    → AreMarks o (May o.before log) (IsShown o log history m m.discards.reach) m.index marked
+pub clean_caught_up : (o : Opening) (log : List Entry) (history : List NumberedEntry) (m : Memory) (p : Snapshot) (call : CallId) (a n q : ℕ) (marked : ℕ → Bool) (c : ℕ) → Holds o log history m → IsFlushUnderWay o log history m p (flush_ask call a n) q
+    → AreMarks o (May o.before log) (IsClaimSettled o log history m m.discards.reach) m.index marked
     → c < o.layout.chunks → marked (o.layout.map_at c) ≡ false → ((b : ℕ) → p.blocks b ≡ true → o.layout.chunk_of b ≡ c → ⊥) → p.lost c ≡ false → NoDropFrom m.discards.drops history p.begun c
-    → IsCaughtUp o (May o.before log) (IsShown o log history m p.begun) m p c
+    → IsCaughtUp o (May o.before log) (IsClaimSettled o log history m p.begun) m p c
 clean_caught_up o log history m p call a n q marked c holds way marks within unmarked none not_lost no_drop = λ v is. record {
   right = let page = marks.right c v within unmarked is in record {
     mapping = page.mapping;

@@ -7,7 +7,9 @@ use Rattle.vd_crash.specs.facts.Opened.{IsAtOpening}
 use Rattle.vd_crash.specs.facts.Words.{with_blocks, with_table, IsDropWrite, IsDiscarded, discarded_memory}
 use Rattle.vd_image.proofs.Logs.{at_push, at_pushed}
 use Rattle.vd_crash.proofs.facts.Drops.{drops_same, drop_issued}
-use Rattle.vd_crash.specs.flushes.Moves.{World, world, Keeps, entry_now, IsStep, Tells, Notes, Takes, Writes_local, Writes_whole, Copies, Becomes_local, Gives_up, Ends_write, Drops, Adopts, Puts_record, Puts_page, Puts_header, Seals_records, Seals_recycle, Runs, Stays, Goes_on}
+use Rattle.vd_crash.specs.flushes.Blocks.{issue_of, with_owed, with_pending}
+use Rattle.vd_crash.specs.flushes.Moves.{World, world, Keeps, entry_now, IsQuietStep, Tells, Notes, Takes, Adopts, IsBlockStep, Writes_local, Writes_whole, Copies, Becomes_local, Gives_up, Ends_write, Drops}
+use Rattle.vd_crash.specs.flushes.Moves.{IsFlushStep, Puts_record, Puts_page, Puts_header, Seals_records, Seals_recycle, IsStep, Keeps_contents, Moves_block, Flushes_on, Runs, Stays, Goes_on}
 use Rattle.vd_crash.proofs.facts.Moments.{safe_event, safe_entry, last_safe}
 use Rattle.vd_crash.proofs.facts.Steps.{EndsNoOwn, quiet_event, quiet_entry, no_done_ends}
 use Rattle.vd_crash.proofs.facts.Writes.{issue_fresh, issue_whole, put_copy, facts_same}
@@ -109,36 +111,59 @@ drop_keeps o log history m id first content c fresh stale owed d k within writes
     ends : EndsNoOwn d.drops (history ++ x ∷ []) (entry_now log (Done id))
     ends = drop_ends log history m id first content c fresh stale owed d is none
 
+quiet_keeps : (o : Opening) (u v : World) → IsQuietStep o u v → Keeps o u → Keeps o v
+quiet_keeps o u v (Tells e quiet) k = after_event o u.log u.history u.memory u.memory e k (quiet_event o u.log u.history u.memory e quiet k.holds)
+quiet_keeps o u v (Notes event h) k =
+    after_entry o u.log u.history u.memory u.memory event k (quiet_entry o u.log u.history u.memory (entry_now u.log event) refl h.writes_nothing (no_done_ends u.memory.discards.drops u.history (entry_now u.log event) h.no_done) h.answers k.holds)
+quiet_keeps o u v (Takes table grows is_table) k = same_logs o u.log u.history u.memory (with_table u.memory table) k (storage_taken o u.log u.history u.memory table k.holds grows is_table)
+quiet_keeps o u v (Adopts owed h) k = same_logs o u.log u.history u.memory (with_owed u.memory owed) k (adopted o u.log u.history u.memory owed k.holds h.still h.local)
+
+block_keeps : (o : Opening) (u v : World) → IsBlockStep o u v → Keeps o u → Keeps o v
+block_keeps o u v (Writes_local g h) k =
+    let after = issue_fresh o u.log u.history u.memory g.call g.first g.content g.event g.block g.storage k.holds h.local h.given h.same in
+    after_both o u.log u.history u.memory u.memory (issue_of g) g.event k after.0 after.1
+block_keeps o u v (Writes_whole g h) k =
+    let after = issue_whole o u.log u.history u.memory h.pending g.call g.first g.content g.event g.block g.storage k.holds h.not_local h.none h.in_range h.given h.put h.whole in
+    after_both o u.log u.history u.memory (with_pending u.memory h.pending) (issue_of g) g.event k after.0 after.1
+block_keeps o u v (Copies e b p h) k =
+    after_event o u.log u.history u.memory (with_pending u.memory h.pending) e k (put_copy o u.log u.history u.memory h.pending e b p k.holds h.not_local h.none h.in_range h.given h.put h.whole).0
+block_keeps o u v (Becomes_local b i d is ends h) k =
+    same_logs o u.log u.history u.memory (with_blocks u.memory h.fresh h.born u.memory.owed h.pending) k (born o u.log u.history u.memory h.fresh h.born h.pending b i d k.holds is ends h.put_fresh h.put_born h.put_pending)
+block_keeps o u v (Gives_up pending b h) k = same_logs o u.log u.history u.memory (with_pending u.memory pending) k (given_up o u.log u.history u.memory pending b k.holds h.put h.closed)
+block_keeps o u v (Ends_write call b owed h w) k =
+    after_entry o u.log u.history u.memory (with_owed u.memory owed) (Done call) k (write_done o u.log u.history u.memory owed call b k.holds h.local h.mine w.still w.only w.logged)
+block_keeps o u v (Drops h) k =
+    let d = h.drop in
+    drop_keeps o u.log u.history u.memory d.call d.first d.content d.chunk d.fresh d.stale d.owed d.discards k d.within d.writes d.discarded d.none_pending h.closed h.no_write
+
+flush_keeps : (o : Opening) (u v : World) → IsFlushStep o u v → Keeps o u → Keeps o v
+flush_keeps o u v (Puts_record h) k =
+    let f = h.flush in
+    let after = put_record o u.log u.history u.memory f.snapshot f.ask.call f.ask.entry f.ask.number f.data_at h.event h.value h.item k.holds f.way h.flushes h.room h.only h.reads h.wanted in
+    record { safe = safe_event o u.log u.history _ h.event k.safe after.facts; holds = after }
+flush_keeps o u v (Puts_page h) k =
+    let f = h.flush in
+    let after = put_page o u.log u.history u.memory f.snapshot f.ask.call f.ask.entry f.ask.number f.data_at h.event h.value h.page k.holds f.way h.flushes h.within h.only h.wanted in
+    record { safe = safe_event o u.log u.history _ h.event k.safe after.facts; holds = after }
+flush_keeps o u v (Puts_header h) k =
+    let f = h.flush in
+    let after = put_header o u.log u.history u.memory f.snapshot f.ask.call f.ask.entry f.ask.number f.data_at h.event h.value h.tried k.holds f.way h.only h.wider h.wanted h.caught_up h.header in
+    record { safe = safe_event o u.log u.history _ h.event k.safe after.facts; holds = after }
+flush_keeps o u v (Seals_records h) k = record {
+  safe = k.safe;
+  holds = (seal_records o u.log u.history u.memory h.ask.call h.ask.entry h.ask.number h.data_at h.progress h.sealing k.holds h.so_far h.logged h.sure h.slotted h.lost_slotted).0;
+}
+flush_keeps o u v (Seals_recycle h) k =
+    let f = h.flush in
+    record {
+      safe = k.safe;
+      holds = (seal_recycle o u.log u.history u.memory f.snapshot f.ask.call f.ask.entry f.ask.number f.data_at h.sealing h.tried h.value h.next k.holds f.way h.flushes h.logged h.only h.new_header.reads h.new_header.generation h.new_header.background h.caught_up h.none_tried).0;
+    }
+
 pub step_keeps : (o : Opening) (u v : World) → IsStep o u v → Keeps o u → Keeps o v
-step_keeps o u v (Tells log history m e quiet) k = after_event o log history m m e k (quiet_event o log history m e quiet k.holds)
-step_keeps o u v (Notes log history m event quiet no_done answers) k = after_entry o log history m m event k (quiet_entry o log history m (entry_now log event) refl quiet (no_done_ends m.discards.drops history (entry_now log event) no_done) answers k.holds)
-step_keeps o u v (Takes log history m table grows is_table) k =
-    same_logs o log history m (with_table m table) k (storage_taken o log history m table k.holds grows is_table)
-step_keeps o u v (Writes_local log history m id first content e b p fresh given same) k =
-    let h = issue_fresh o log history m id first content e b p k.holds fresh given same in
-    after_both o log history m m (Issue id first content) e k h.0 h.1
-step_keeps o u v (Writes_whole log history m pending id first content e b p not_fresh none in_range given put write) k =
-    let h = issue_whole o log history m pending id first content e b p k.holds not_fresh none in_range given put write in
-    after_both o log history m (with_blocks m m.fresh m.born m.owed pending) (Issue id first content) e k h.0 h.1
-step_keeps o u v (Copies log history m pending e b p not_fresh none in_range given put write) k =
-    after_event o log history m (with_blocks m m.fresh m.born m.owed pending) e k (put_copy o log history m pending e b p k.holds not_fresh none in_range given put write).0
-step_keeps o u v (Becomes_local log history m fresh since pending b i d is ends put_fresh put_born put_pending) k =
-    same_logs o log history m (with_blocks m fresh since m.owed pending) k (born o log history m fresh since pending b i d k.holds is ends put_fresh put_born put_pending)
-step_keeps o u v (Gives_up log history m pending b put closed) k = same_logs o log history m (with_blocks m m.fresh m.born m.owed pending) k (given_up o log history m pending b k.holds put closed)
-step_keeps o u v (Ends_write log history m owed call b fresh mine more only logged) k =
-    after_entry o log history m (with_blocks m m.fresh m.born owed m.pending) (Done call) k (write_done o log history m owed call b k.holds fresh mine more only logged)
-step_keeps o u v (Drops log history m id first content c fresh stale owed d within writes is calm closed none) k = drop_keeps o log history m id first content c fresh stale owed d k within writes is calm closed none
-step_keeps o u v (Adopts log history m owed more local) k = same_logs o log history m (with_blocks m m.fresh m.born owed m.pending) k (adopted o log history m owed k.holds more local)
-step_keeps o u v (Puts_record log history m snapshot call a n q e value r way flushes room only reads is) k =
-    let h = put_record o log history m snapshot call a n q e value r k.holds way flushes room only reads is in record { safe = safe_event o log history _ e k.safe h.facts; holds = h }
-step_keeps o u v (Puts_page log history m snapshot call a n q e value page way flushes room only is) k =
-    let h = put_page o log history m snapshot call a n q e value page k.holds way flushes room only is in record { safe = safe_event o log history _ e k.safe h.facts; holds = h }
-step_keeps o u v (Puts_header log history m snapshot call a n q e value tried way only wider wanted caught next) k =
-    let h = put_header o log history m snapshot call a n q e value tried k.holds way only wider wanted caught next in record { safe = safe_event o log history _ e k.safe h.facts; holds = h }
-step_keeps o u v (Seals_records log history m call a n q p z so logged sure slots lost_slots) k =
-    record { safe = k.safe; holds = (seal_records o log history m call a n q p z k.holds so logged sure slots lost_slots).0 }
-step_keeps o u v (Seals_recycle log history m snapshot call a n q z none value next way flushes logged only reads generation next_background caught empty) k =
-    record { safe = k.safe; holds = (seal_recycle o log history m snapshot call a n q z none value next k.holds way flushes logged only reads generation next_background caught empty).0 }
+step_keeps o u v (Keeps_contents step) k = quiet_keeps o u v step k
+step_keeps o u v (Moves_block step) k = block_keeps o u v step k
+step_keeps o u v (Flushes_on step) k = flush_keeps o u v step k
 
 pub run_keeps : (o : Opening) (u w : World) → Runs o u w → Keeps o u → Keeps o w
 run_keeps o u w (Stays x) k = k

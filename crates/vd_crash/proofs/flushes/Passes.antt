@@ -2,14 +2,14 @@
 use Rattle.std.proofs.Common.{ℕ, ◌≡◌, ◌<◌, ◌⊎◌, inl, inr, List, [], ◌∷◌, ◌++◌, length, Some, Option, Bool, true, arith, ap, sym, subst, ◌∙◌}
 use Rattle.vd_image.specs.Log.{Sector, CallId, Entry, Ask, Issue, Done, Broke, Seen, Reply, At, Covers, IsIssueOf, Ends, IsOpen, IsWriteInFlight}
 use Rattle.vd_crash.specs.facts.Safe.{NumberedEntry, events, Opening}
-use Rattle.vd_crash.specs.facts.Facts.{HasEntry, OwnWrites, IsShown, Holds}
+use Rattle.vd_crash.specs.facts.Facts.{HasEntry, OwnWrites, IsClaimSettled, Holds}
 use Rattle.vd_image.proofs.Logs.{at_one, at_push, at_end, at_pushed, ends_end}
 use Rattle.vd_crash.proofs.facts.Growth.{EndsMirrored}
 use Rattle.vd_crash.proofs.facts.Steps.{with_blocks}
 use Rattle.vd_crash.specs.flushes.Flushing.{Snapshot, IsRecorded, IsWrittenPage, HasPage}
 use Rattle.vd_crash.proofs.facts.Metadata.{right_more}
 use Rattle.vd_crash.specs.facts.Words.{Grows}
-use Rattle.vd_crash.specs.flushes.Passes.{IsWriting}
+use Rattle.vd_crash.specs.flushes.Passes.{IsPieceInFlight}
 use Rattle.vd_crash.proofs.facts.Ends.{write_done, done_mirrored}
 use Rattle.vd_crash.specs.facts.Memory.{Memory}
 use Rattle.vd_crash.specs.facts.Metadata.{Claim}
@@ -56,7 +56,7 @@ in_flight_ends log i call h = ends_end log i (record { event = h.event; id = cal
 
 -- other events of the store leave a pass's write in flight, and so do other calls' entries
 pub writing_event : (o : Opening) (log : List Entry) (history : List NumberedEntry) (b : ℕ) (call ticket : CallId) (j n : ℕ) (e : Entry) → (Done ticket ≡ e → ⊥) → (Broke ticket ≡ e → ⊥)
-    → IsWriting o log history b call ticket j n → IsWriting o (log ++ e ∷ []) history b call ticket j n
+    → IsPieceInFlight o log history b call ticket j n → IsPieceInFlight o (log ++ e ∷ []) history b call ticket j n
 writing_event o log history b call ticket j n e no_done no_broke h = record {
   event = h.event;
   stands = h.stands;
@@ -67,7 +67,7 @@ writing_event o log history b call ticket j n e no_done no_broke h = record {
 }
 
 pub writing_entry : (o : Opening) (log : List Entry) (history : List NumberedEntry) (b : ℕ) (call ticket : CallId) (j n : ℕ) (x : NumberedEntry) → (Done call ≡ x.event → ⊥) → (Broke call ≡ x.event → ⊥) → (IsIssueOf x.event call → ⊥)
-    → IsWriting o log history b call ticket j n → IsWriting o log (history ++ x ∷ []) b call ticket j n
+    → IsPieceInFlight o log history b call ticket j n → IsPieceInFlight o log (history ++ x ∷ []) b call ticket j n
 writing_entry o log history b call ticket j n x no_done no_broke no_issue h = record {
   event = h.event;
   block = h.block;
@@ -78,7 +78,7 @@ writing_entry o log history b call ticket j n x no_done no_broke no_issue h = re
 }
 
 -- the call's open write is this one
-pub writing_mine : (o : Opening) (log : List Entry) (history : List NumberedEntry) (drops : ℕ → Option ℕ) (b : ℕ) (call ticket : CallId) (j n : ℕ) → IsWriting o log history b call ticket j n
+pub writing_mine : (o : Opening) (log : List Entry) (history : List NumberedEntry) (drops : ℕ → Option ℕ) (b : ℕ) (call ticket : CallId) (j n : ℕ) → IsPieceInFlight o log history b call ticket j n
     → (k i s : ℕ) (v : Sector) → OwnWrites drops history k i s v → (is_open : IsOpen (events history) k) → is_open.id ≡ call → (o.layout.block_of s ≡ b) × ((d : ℕ) × Ends (log ++ Done ticket ∷ []) i d)
 writing_mine o log history drops b call ticket j n w k i s v g is_open same =
     let k_is : k ≡ j = w.only k (subst (λ (y : CallId). IsWriteInFlight (events history) k y) same (open_in_flight (events history) k is_open)) in
@@ -91,14 +91,14 @@ writing_mine o log history drops b call ticket j n w k i s v g is_open same =
 
 -- The store's Done of a pass's write, and then the guest's: the block is local (it was, or became so in between).
 pub writing_done : (o : Opening) (log : List Entry) (history : List NumberedEntry) (m : Memory) (owed : ℕ → Bool) (b : ℕ) (call ticket : CallId) (j n : ℕ)
-    → IsWriting o log history b call ticket j n
+    → IsPieceInFlight o log history b call ticket j n
     → Holds o (log ++ Done ticket ∷ []) history m → m.fresh b ≡ true
     → ((c : ℕ) → m.owed c ≡ true → owed c ≡ true) → ((c : ℕ) → owed c ≡ true → (m.owed c ≡ true) ⊎ (c ≡ b)) → (m.index.stale b ≡ true) ⊎ (owed b ≡ true)
     → Holds o (log ++ Done ticket ∷ []) (history ++ record { event = Done call; number = length (log ++ Done ticket ∷ []) } ∷ []) (with_blocks m m.fresh m.born owed m.pending)
 writing_done o log history m owed b call ticket j n w h fresh more only logged =
     write_done o (log ++ Done ticket ∷ []) history m owed call b h fresh (writing_mine o log history m.discards.drops b call ticket j n w) more only logged
 
-pub writing_mirrored : (o : Opening) (log : List Entry) (history : List NumberedEntry) (m : Memory) (b : ℕ) (call ticket : CallId) (j n : ℕ) → IsWriting o log history b call ticket j n → Holds o (log ++ Done ticket ∷ []) history m
+pub writing_mirrored : (o : Opening) (log : List Entry) (history : List NumberedEntry) (m : Memory) (b : ℕ) (call ticket : CallId) (j n : ℕ) → IsPieceInFlight o log history b call ticket j n → Holds o (log ++ Done ticket ∷ []) history m
     → (c q : ℕ) → m.index.table (o.layout.chunk_of c) ≡ Some q → EndsMirrored o (log ++ Done ticket ∷ []) history m.discards.drops c q (record { event = Done call; number = length (log ++ Done ticket ∷ []) })
 writing_mirrored o log history m b call ticket j n w h = done_mirrored o (log ++ Done ticket ∷ []) history m call b h (writing_mine o log history m.discards.drops b call ticket j n w)
 
@@ -144,10 +144,10 @@ written_grown o settled more m n snapshot c v better grows h = record {
   only = h.only;
 }
 
-pub page_push : (o : Opening) (log : List Entry) (history : List NumberedEntry) (m : Memory) (snapshot : Snapshot) (e : Entry) (by c : ℕ) → ((u : Sector) → Covers e (o.layout.map_at c) u → ⊥) → ((t : Claim) → IsShown o log history m snapshot.begun t → IsShown o (log ++ e ∷ []) history m snapshot.begun t)
+pub page_push : (o : Opening) (log : List Entry) (history : List NumberedEntry) (m : Memory) (snapshot : Snapshot) (e : Entry) (by c : ℕ) → ((u : Sector) → Covers e (o.layout.map_at c) u → ⊥) → ((t : Claim) → IsClaimSettled o log history m snapshot.begun t → IsClaimSettled o (log ++ e ∷ []) history m snapshot.begun t)
     → HasPage o log history m snapshot by c → HasPage o (log ++ e ∷ []) history m snapshot by c
 page_push o log history m snapshot e by c other still h = record {
   value = h.value;
   last = last_push log e (o.layout.map_at c) h.value by other h.last;
-  written = written_grown o (IsShown o log history m snapshot.begun) (IsShown o (log ++ e ∷ []) history m snapshot.begun) m m snapshot c h.value still (λ d p given. given) h.written;
+  written = written_grown o (IsClaimSettled o log history m snapshot.begun) (IsClaimSettled o (log ++ e ∷ []) history m snapshot.begun) m m snapshot c h.value still (λ d p given. given) h.written;
 }

@@ -3,11 +3,11 @@ use Rattle.std.proofs.Common.{ℕ, ◌≡◌, ◌+◌, ◌<◌, ◌⊎◌, inl, 
 use Rattle.vd_image.specs.Log.{Sector, CallId, Entry, Covers, Flushes, May}
 use Rattle.vd_image.specs.Image.{Mapping, Record}
 use Rattle.vd_crash.specs.facts.Safe.{NumberedEntry, Opening}
-use Rattle.vd_crash.specs.facts.Facts.{IsShown, Holds}
+use Rattle.vd_crash.specs.facts.Facts.{IsClaimSettled, Holds}
 use Rattle.vd_crash.proofs.facts.Growth.{opened_event, answered_event, FollowsGuest, kept_event}
 use Rattle.vd_crash.proofs.facts.Steps.{shown_event, pending_event, issued_event, settled_push}
 use Rattle.vd_crash.proofs.facts.Metadata.{right_more, right_page_more, metadata_same}
-use Rattle.vd_crash.specs.flushes.Flushing.{Snapshot, IsOffAfter, IsUnderWay, IsWantedMapping, IsWantedRecord, IsWantedPage, IsCaughtUp}
+use Rattle.vd_crash.specs.flushes.Flushing.{Snapshot, IsOffAfter, IsFlushUnderWay, IsWantedMapping, IsWantedRecord, IsWantedPage, IsCaughtUp, flush_ask}
 use Rattle.vd_crash.proofs.flushes.Puts.{WritesOnly, is_due, one_more, slot_put, map_put, next_header_put}
 use Rattle.vd_crash.specs.facts.Words.{with_index}
 use Rattle.vd_crash.proofs.flushes.Wanted.{shown_index, shown_less, wanted_left, wanted_facts, wanted_page, wanted_written, due_wanted, caught_in_page}
@@ -30,7 +30,7 @@ only_no_place o e a v only no_place p s u within covers = no_place p s within (o
 pub put_event : (o : Opening) (log : List Entry) (history : List NumberedEntry) (m : Memory) (e : Entry) (a : ℕ) (v : Sector) (sure : Bool) (tried : ℕ → Bool) (cursor : ℕ)
     → Holds o log history m → WritesOnly e a v → ((p s : ℕ) → p < o.layout.storage → o.layout.place p s ≡ a → ⊥)
     → ((b : ℕ) → tried b ≡ true → (m.index.off_base b ≡ true) ⊎ (m.owed b ≡ true) ⊎ (m.discards.lost (o.layout.chunk_of b) ≡ true))
-    → IsMetadata o (May o.before (log ++ e ∷ [])) (IsShown o (log ++ e ∷ []) history m m.discards.reach) (with_index m sure tried cursor).index
+    → IsMetadata o (May o.before (log ++ e ∷ [])) (IsClaimSettled o (log ++ e ∷ []) history m m.discards.reach) (with_index m sure tried cursor).index
     → Holds o (log ++ e ∷ []) history (with_index m sure tried cursor)
 put_event o log history m e a v sure tried cursor h only no_place logged metadata = record {
   apart = h.apart;
@@ -42,7 +42,7 @@ put_event o log history m e a v sure tried cursor h only no_place logged metadat
     zeros = h.facts.zeros;
     storage_one_to_one = h.facts.storage_one_to_one;
     contents_allowed = λ b fresh reach. kept_event o log history m.discards.drops e m.index.table b reach (m.born b) (λ p given. follows b p given) (h.facts.contents_allowed b fresh reach);
-    metadata = metadata_same o (May o.before (log ++ e ∷ [])) (IsShown o (log ++ e ∷ []) history m m.discards.reach) (IsShown o (log ++ e ∷ []) history (with_index m sure tried cursor) m.discards.reach) (with_index m sure tried cursor).index
+    metadata = metadata_same o (May o.before (log ++ e ∷ [])) (IsClaimSettled o (log ++ e ∷ []) history m m.discards.reach) (IsClaimSettled o (log ++ e ∷ []) history (with_index m sure tried cursor) m.discards.reach) (with_index m sure tried cursor).index
         (shown_index o (log ++ e ∷ []) history m sure tried cursor m.discards.reach) metadata;
   };
   blocks = record {
@@ -72,72 +72,72 @@ put_event o log history m e a v sure tried cursor h only no_place logged metadat
 
 -- the put of a record
 pub put_record : (o : Opening) (log : List Entry) (history : List NumberedEntry) (m : Memory) (p : Snapshot) (call : CallId) (a n q : ℕ) (e : Entry) (v : Sector) (r : Record)
-    → Holds o log history m → IsUnderWay o log history m p call a n q → Flushes log q → m.index.cursor < o.layout.slots → WritesOnly e (o.layout.slot_at m.index.cursor) v
+    → Holds o log history m → IsFlushUnderWay o log history m p (flush_ask call a n) q → Flushes log q → m.index.cursor < o.layout.slots → WritesOnly e (o.layout.slot_at m.index.cursor) v
     → o.format.record_of v ≡ Some r → IsWantedRecord o m p r
     → Holds o (log ++ e ∷ []) history (with_index m m.index.sure m.index.tried (m.index.cursor + 1))
 put_record o log history m p call a n q e v r h way flushes room only reads is =
     put_event o log history m e (o.layout.slot_at m.index.cursor) v m.index.sure m.index.tried (m.index.cursor + 1) h only (λ s t within same. h.apart.place_slot s t m.index.cursor within room same) h.blocks.tried
-    (slot_put o (May o.before (log ++ e ∷ [])) (May o.before log) (IsShown o log history m m.discards.reach) (IsShown o (log ++ e ∷ []) history m m.discards.reach) m.index v r h.apart room (one_more o log e (o.layout.slot_at m.index.cursor) v only)
+    (slot_put o (May o.before (log ++ e ∷ [])) (May o.before log) (IsClaimSettled o log history m m.discards.reach) (IsClaimSettled o (log ++ e ∷ []) history m m.discards.reach) m.index v r h.apart room (one_more o log e (o.layout.slot_at m.index.cursor) v only)
     reads is.current item (λ t due. wanted_facts o m p r t is (due_wanted o log history m p call a n q t h way (is_due m.index t due)).1) still h.facts.metadata)
   where
     none : WritesNoPlace o e
     none = only_no_place o e (o.layout.slot_at m.index.cursor) v only (λ s t within same. h.apart.place_slot s t m.index.cursor within room same)
 
-    still : (t : Claim) → IsShown o log history m m.discards.reach t → IsShown o (log ++ e ∷ []) history m m.discards.reach t
+    still : (t : Claim) → IsClaimSettled o log history m m.discards.reach t → IsClaimSettled o (log ++ e ∷ []) history m m.discards.reach t
     still = shown_event o log history m e (no_place_follows o log history m e h.facts.storage_one_to_one none) m.discards.reach
 
-    left : (c : ℕ) (w : Mapping) → IsWantedMapping o m p c w → IsRight o (IsShown o log history m p.begun) m.index.table c w
+    left : (c : ℕ) (w : Mapping) → IsWantedMapping o m p c w → IsRight o (IsClaimSettled o log history m p.begun) m.index.table c w
     left c w wanted = wanted_left o log history m p call a n q c w h way flushes wanted
 
-    item : IsRecordLeft o (May o.before (log ++ e ∷ [])) (IsShown o (log ++ e ∷ []) history m m.discards.reach) (record m.index { cursor = m.index.cursor + 1 }) m.index.cursor r
+    item : IsRecordLeft o (May o.before (log ++ e ∷ [])) (IsClaimSettled o (log ++ e ∷ []) history m m.discards.reach) (record m.index { cursor = m.index.cursor + 1 }) m.index.cursor r
     item = record {
       grammar = record {
         well_formed = is.well_formed;
         rising = is.rising;
         facts = λ place fact stands. let f = is.facts place fact stands in (f.0, (left fact.chunk fact.mapping f.1).grammar);
       };
-      right = λ place fact stands. inl (right_more o (IsShown o log history m p.begun) (IsShown o (log ++ e ∷ []) history m m.discards.reach) m.index.table m.index.table fact.chunk fact.mapping
+      right = λ place fact stands. inl (right_more o (IsClaimSettled o log history m p.begun) (IsClaimSettled o (log ++ e ∷ []) history m m.discards.reach) m.index.table m.index.table fact.chunk fact.mapping
           (λ t shown. still t (shown_less o log history m p.begun m.discards.reach way.reach t shown)) (λ d s given. given) (left fact.chunk fact.mapping (is.facts place fact stands).1));
     }
 
 -- the put of a page of the map
 pub put_page : (o : Opening) (log : List Entry) (history : List NumberedEntry) (m : Memory) (p : Snapshot) (call : CallId) (a n q : ℕ) (e : Entry) (v : Sector) (page : ℕ)
-    → Holds o log history m → IsUnderWay o log history m p call a n q → Flushes log q → page < o.layout.chunks → WritesOnly e (o.layout.map_at page) v
+    → Holds o log history m → IsFlushUnderWay o log history m p (flush_ask call a n) q → Flushes log q → page < o.layout.chunks → WritesOnly e (o.layout.map_at page) v
     → ((c : ℕ) → c < o.layout.chunks → o.layout.map_at c ≡ o.layout.map_at page → IsWantedPage o m p c v)
     → Holds o (log ++ e ∷ []) history (with_index m m.index.sure m.index.tried m.index.cursor)
 put_page o log history m p call a n q e v page h way flushes room only is =
     put_event o log history m e (o.layout.map_at page) v m.index.sure m.index.tried m.index.cursor h only (λ s t within same. h.apart.place_map s t page within room same) h.blocks.tried
-    (map_put o (May o.before (log ++ e ∷ [])) (May o.before log) (IsShown o log history m m.discards.reach) (IsShown o (log ++ e ∷ []) history m m.discards.reach) m.index v page h.apart room (one_more o log e (o.layout.map_at page) v only)
-    (λ c within same. right_page_more o (IsShown o log history m p.begun) (IsShown o (log ++ e ∷ []) history m m.discards.reach) m.index.table m.index.table c v (λ t shown. still t (shown_less o log history m p.begun m.discards.reach way.reach t shown)) (λ d s given. given) (right c within same))
+    (map_put o (May o.before (log ++ e ∷ [])) (May o.before log) (IsClaimSettled o log history m m.discards.reach) (IsClaimSettled o (log ++ e ∷ []) history m m.discards.reach) m.index v page h.apart room (one_more o log e (o.layout.map_at page) v only)
+    (λ c within same. right_page_more o (IsClaimSettled o log history m p.begun) (IsClaimSettled o (log ++ e ∷ []) history m m.discards.reach) m.index.table m.index.table c v (λ t shown. still t (shown_less o log history m p.begun m.discards.reach way.reach t shown)) (λ d s given. given) (right c within same))
     (λ t within same kept. wanted_page o m p t v (is (chunk_in o t) within same) (due_wanted o log history m p call a n q t h way kept).1)
     still h.facts.metadata)
   where
     none : WritesNoPlace o e
     none = only_no_place o e (o.layout.map_at page) v only (λ s t within same. h.apart.place_map s t page within room same)
 
-    still : (t : Claim) → IsShown o log history m m.discards.reach t → IsShown o (log ++ e ∷ []) history m m.discards.reach t
+    still : (t : Claim) → IsClaimSettled o log history m m.discards.reach t → IsClaimSettled o (log ++ e ∷ []) history m m.discards.reach t
     still = shown_event o log history m e (no_place_follows o log history m e h.facts.storage_one_to_one none) m.discards.reach
 
-    right : (c : ℕ) → c < o.layout.chunks → o.layout.map_at c ≡ o.layout.map_at page → IsRightPage o (IsShown o log history m p.begun) m.index.table c v
+    right : (c : ℕ) → c < o.layout.chunks → o.layout.map_at c ≡ o.layout.map_at page → IsRightPage o (IsClaimSettled o log history m p.begun) m.index.table c v
     right c within same = (wanted_written o log history m p call a n q c v h way flushes (is c within same)).right
 
 -- the put of a header of the next generation
 pub put_header : (o : Opening) (log : List Entry) (history : List NumberedEntry) (m : Memory) (p : Snapshot) (call : CallId) (a n q : ℕ) (e : Entry) (v : Sector) (tried : ℕ → Bool)
-    → Holds o log history m → IsUnderWay o log history m p call a n q → WritesOnly e o.layout.header_at v
+    → Holds o log history m → IsFlushUnderWay o log history m p (flush_ask call a n) q → WritesOnly e o.layout.header_at v
     → ((b : ℕ) → m.index.tried b ≡ true → tried b ≡ true) → ((b : ℕ) → tried b ≡ true → IsOffAfter o m p b)
-    → ((c : ℕ) → c < o.layout.chunks → IsCaughtUp o (May o.before log) (IsShown o log history m p.begun) m p c)
+    → ((c : ℕ) → c < o.layout.chunks → IsCaughtUp o (May o.before log) (IsClaimSettled o log history m p.begun) m p c)
     → IsHeaderLeft o (May o.before log) (with_index m false tried m.index.cursor).index v
     → Holds o (log ++ e ∷ []) history (with_index m false tried m.index.cursor)
 put_header o log history m p call a n q e v tried h way only wider wanted caught next =
     put_event o log history m e o.layout.header_at v false tried m.index.cursor h only (λ s t within same. h.apart.place_header s t within same) (λ b t. logged b (wanted b t))
-    (next_header_put o (May o.before (log ++ e ∷ [])) (May o.before log) (IsShown o log history m m.discards.reach) (IsShown o (log ++ e ∷ []) history m m.discards.reach) m.index v tried h.apart (one_more o log e o.layout.header_at v only)
-    (λ c u within left. right_page_more o (IsShown o log history m p.begun) (IsShown o log history m m.discards.reach) m.index.table m.index.table c u (shown_less o log history m p.begun m.discards.reach way.reach) (λ d s given. given) (caught c within u left).right)
+    (next_header_put o (May o.before (log ++ e ∷ [])) (May o.before log) (IsClaimSettled o log history m m.discards.reach) (IsClaimSettled o (log ++ e ∷ []) history m m.discards.reach) m.index v tried h.apart (one_more o log e o.layout.header_at v only)
+    (λ c u within left. right_page_more o (IsClaimSettled o log history m p.begun) (IsClaimSettled o log history m m.discards.reach) m.index.table m.index.table c u (shown_less o log history m p.begun m.discards.reach way.reach) (λ d s given. given) (caught c within u left).right)
     (λ t due. caught_in_page o log history m p t caught (due_wanted o log history m p call a n q t h way (is_due m.index t due))) wider next still h.facts.metadata)
   where
     none : WritesNoPlace o e
     none = only_no_place o e o.layout.header_at v only (λ s t within same. h.apart.place_header s t within same)
 
-    still : (t : Claim) → IsShown o log history m m.discards.reach t → IsShown o (log ++ e ∷ []) history m m.discards.reach t
+    still : (t : Claim) → IsClaimSettled o log history m m.discards.reach t → IsClaimSettled o (log ++ e ∷ []) history m m.discards.reach t
     still = shown_event o log history m e (no_place_follows o log history m e h.facts.storage_one_to_one none) m.discards.reach
 
     logged : (b : ℕ) → IsOffAfter o m p b → (m.index.off_base b ≡ true) ⊎ (m.owed b ≡ true) ⊎ (m.discards.lost (o.layout.chunk_of b) ≡ true)

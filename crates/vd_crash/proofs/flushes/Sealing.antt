@@ -4,13 +4,13 @@ use Rattle.std.proofs.lemmas.Bool.{cases_lt}
 use Rattle.vd_image.specs.Log.{Sector, CallId, Entry, Flush, Fine, Ask, Reply, Flushes, May, IsOpen}
 use Rattle.vd_image.specs.Image.{Header, Mapping, Record}
 use Rattle.vd_crash.specs.facts.Safe.{NumberedEntry, events, Opening}
-use Rattle.vd_crash.specs.facts.Facts.{HasEntry, OwnWrites, NoDropFrom, IsShown, IsSettled, IsWrittenBefore, AreZeros, Holds}
+use Rattle.vd_crash.specs.facts.Facts.{HasEntry, OwnWrites, NoDropFrom, IsClaimSettled, IsSettled, IsWrittenBefore, AreZeros, Holds}
 use Rattle.vd_image.proofs.Logs.{at_one}
 use Rattle.vd_crash.proofs.facts.Growth.{kept_grown, answered_more}
 use Rattle.vd_crash.proofs.facts.Steps.{quiet_entry, no_done_ends}
 use Rattle.vd_crash.proofs.facts.Recovered.{is_false, by_bool}
-use Rattle.vd_crash.specs.flushes.Flushing.{Snapshot, IsWanted, IsOffAfter, IsUnderWay, IsCaughtUp, IsSealed, IsLogged}
-use Rattle.vd_crash.specs.flushes.Stage.{Progress, IsSoFar}
+use Rattle.vd_crash.specs.flushes.Flushing.{Snapshot, IsWanted, IsOffAfter, IsFlushUnderWay, IsCaughtUp, IsSealed, IsLogged, flush_ask}
+use Rattle.vd_crash.specs.flushes.Stage.{FlushProgress, IsSoFar}
 use Rattle.vd_crash.specs.facts.Words.{Sealing, sealed_memory}
 use Rattle.vd_crash.proofs.flushes.Wanted.{off_after_wanted, due_wanted, caught_in_page}
 use Rattle.vd_crash.proofs.flushes.Synced.{named_in_slots}
@@ -20,11 +20,11 @@ use Rattle.vd_format.specs.Background.{background}
 
 -- the end of a flush, whatever the metadata becomes
 pub seal : (o : Opening) (log : List Entry) (history : List NumberedEntry) (m : Memory) (p : Snapshot) (call : CallId) (a n q : ℕ) (generation tracked : ℕ) (sure : Bool) (tried : ℕ → Bool) (cursor : ℕ) (z : Sealing)
-    → Holds o log history m → IsUnderWay o log history m p call a n q → Flushes log q → IsLogged o history m p z
+    → Holds o log history m → IsFlushUnderWay o log history m p (flush_ask call a n) q → Flushes log q → IsLogged o history m p z
     → ((b : ℕ) → tried b ≡ true → m.index.tried b ≡ true)
     → ((s : ℕ) → s < o.layout.size → z.off_base (o.layout.block_of s) ≡ false → background o.base o.zeros tracked s ≡ o.disk s)
-    → IsMetadata o (May o.before log) (IsShown o log history (sealed_memory m generation tracked sure tried cursor z) z.reach) (sealed_memory m generation tracked sure tried cursor z).index
-    → Holds o log history (sealed_memory m generation tracked sure tried cursor z) × IsSealed o log history m.discards.drops z.stale z.off_base z.reach call a n
+    → IsMetadata o (May o.before log) (IsClaimSettled o log history (sealed_memory m generation tracked sure tried cursor z) z.reach) (sealed_memory m generation tracked sure tried cursor z).index
+    → Holds o log history (sealed_memory m generation tracked sure tried cursor z) × IsSealed o log history m.discards.drops z.stale z.off_base z.reach (flush_ask call a n)
 seal o log history m p call a n q generation tracked sure tried cursor z h way flushes logged fewer background metadata = (
   record {
     apart = h.apart;
@@ -158,7 +158,7 @@ not_false false y h e = refl
 -- is released it has no block.
 pub right_sealed : (o : Opening) (log : List Entry) (history : List NumberedEntry) (m : Memory) (p : Snapshot) (generation tracked : ℕ) (sure : Bool) (tried : ℕ → Bool) (cursor : ℕ) (z : Sealing) (c : ℕ) (w : Mapping)
     → IsLogged o history m p z → (p.lost c ≡ true → (b : ℕ) → w.has b ≡ true → p.wanted b ≡ true)
-    → IsRight o (IsShown o log history m p.begun) m.index.table c w → IsRight o (IsShown o log history (sealed_memory m generation tracked sure tried cursor z) z.reach) z.table c w
+    → IsRight o (IsClaimSettled o log history m p.begun) m.index.table c w → IsRight o (IsClaimSettled o log history (sealed_memory m generation tracked sure tried cursor z) z.reach) z.table c w
 right_sealed o log history m p generation tracked sure tried cursor z c w logged only right = record {
   grammar = right.grammar;
   storage_agrees = λ s has. let b = right.grammar.has_block s has in still b.0 b.1 s (right.storage_agrees s has);
@@ -184,9 +184,9 @@ by_storage (Some s) = inr (s, refl)
 
 -- What is right stays so, or it has a block of a chunk whose discard is logged.
 pub right_or_lost : (o : Opening) (log : List Entry) (history : List NumberedEntry) (m : Memory) (p : Snapshot) (call : CallId) (a n q : ℕ) (generation tracked : ℕ) (sure : Bool) (tried : ℕ → Bool) (cursor : ℕ) (z : Sealing) (c : ℕ) (w : Mapping)
-    → IsUnderWay o log history m p call a n q → IsLogged o history m p z
-    → IsRight o (IsShown o log history m m.discards.reach) m.index.table c w
-    → IsRight o (IsShown o log history (sealed_memory m generation tracked sure tried cursor z) z.reach) z.table c w ⊎ ((b : ℕ) × (o.layout.chunk_of b ≡ c) × (p.lost (o.layout.chunk_of b) ≡ true))
+    → IsFlushUnderWay o log history m p (flush_ask call a n) q → IsLogged o history m p z
+    → IsRight o (IsClaimSettled o log history m m.discards.reach) m.index.table c w
+    → IsRight o (IsClaimSettled o log history (sealed_memory m generation tracked sure tried cursor z) z.reach) z.table c w ⊎ ((b : ℕ) × (o.layout.chunk_of b ≡ c) × (p.lost (o.layout.chunk_of b) ≡ true))
 right_or_lost o log history m p call a n q generation tracked sure tried cursor z c w way logged right = elim (by_bool (p.lost c)) [
   | inl lost ↦ elim (by_storage w.storage) [
     | inl none ↦ inl (record {
@@ -214,10 +214,10 @@ right_or_lost o log history m p call a n q generation tracked sure tried cursor 
 ]
 
 -- the end of a flush by records, or with nothing new
-pub seal_records : (o : Opening) (log : List Entry) (history : List NumberedEntry) (m : Memory) (call : CallId) (a n q : ℕ) (p : Progress) (z : Sealing)
-    → Holds o log history m → IsSoFar o log history m call a n q p → IsLogged o history m p.snapshot z → m.index.sure ≡ true
+pub seal_records : (o : Opening) (log : List Entry) (history : List NumberedEntry) (m : Memory) (call : CallId) (a n q : ℕ) (p : FlushProgress) (z : Sealing)
+    → Holds o log history m → IsSoFar o log history m (flush_ask call a n) q p → IsLogged o history m p.snapshot z → m.index.sure ≡ true
     → ((b : ℕ) → p.snapshot.blocks b ≡ true → p.slotted b ≡ true) → ((b : ℕ) → p.snapshot.lost (o.layout.chunk_of b) ≡ true → p.slotted b ≡ true)
-    → Holds o log history (sealed_memory m m.index.generation m.index.tracked m.index.sure m.index.tried m.index.cursor z) × IsSealed o log history m.discards.drops z.stale z.off_base z.reach call a n
+    → Holds o log history (sealed_memory m m.index.generation m.index.tracked m.index.sure m.index.tried m.index.cursor z) × IsSealed o log history m.discards.drops z.stale z.off_base z.reach (flush_ask call a n)
 seal_records o log history m call a n q p z h so logged sure slots lost_slots =
     seal o log history m p.snapshot call a n q m.index.generation m.index.tracked m.index.sure m.index.tried m.index.cursor z h so.way so.flushes logged (λ b t. t)
     (λ s within not_off. h.blocks.background_same s within (was_false (o.layout.block_of s) not_off))
@@ -293,11 +293,11 @@ seal_records o log history m call a n q p z h so logged sure slots lost_slots =
 
 -- the end of a recycle: the new header alone may be left, and the pages have all that is wanted
 pub seal_recycle : (o : Opening) (log : List Entry) (history : List NumberedEntry) (m : Memory) (p : Snapshot) (call : CallId) (a n q : ℕ) (z : Sealing) (none : ℕ → Bool) (v : Sector) (next : Header)
-    → Holds o log history m → IsUnderWay o log history m p call a n q → Flushes log q → IsLogged o history m p z
+    → Holds o log history m → IsFlushUnderWay o log history m p (flush_ask call a n) q → Flushes log q → IsLogged o history m p z
     → ((u : Sector) → May o.before log o.layout.header_at u → v ≡ u) → o.format.header_of v ≡ Ok next → next.generation ≡ m.index.generation + 1
     → ((s : ℕ) → s < o.layout.size → m.index.off_base (o.layout.block_of s) ≡ false → (background o.base o.zeros next.tracked s ≡ o.disk s) ⊎ (m.index.tried (o.layout.block_of s) ≡ true))
-    → ((c : ℕ) → c < o.layout.chunks → IsCaughtUp o (May o.before log) (IsShown o log history m p.begun) m p c) → ((b : ℕ) → none b ≡ false)
-    → Holds o log history (sealed_memory m (m.index.generation + 1) next.tracked true none 0 z) × IsSealed o log history m.discards.drops z.stale z.off_base z.reach call a n
+    → ((c : ℕ) → c < o.layout.chunks → IsCaughtUp o (May o.before log) (IsClaimSettled o log history m p.begun) m p c) → ((b : ℕ) → none b ≡ false)
+    → Holds o log history (sealed_memory m (m.index.generation + 1) next.tracked true none 0 z) × IsSealed o log history m.discards.drops z.stale z.off_base z.reach (flush_ask call a n)
 seal_recycle o log history m p call a n q z none v next h way flushes logged only reads generation next_background caught empty =
     seal o log history m p call a n q (m.index.generation + 1) next.tracked true none 0 z h way flushes logged (λ b t. absurd (let e = empty b in cc))
     (λ s within not_off. elim (next_background s within (was_false (o.layout.block_of s) not_off)) [
@@ -350,7 +350,7 @@ seal_recycle o log history m p call a n q z none v next h way flushes logged onl
 
 -- the answer of a flush that is over
 pub flush_answered : (o : Opening) (log : List Entry) (history : List NumberedEntry) (m : Memory) (call : CallId) (a n : ℕ)
-    → Holds o log history m → IsSealed o log history m.discards.drops m.index.stale m.index.off_base m.discards.reach call a n → ((b k : ℕ) → HasEntry history b k (Ask call Flush) → b ≡ a)
+    → Holds o log history m → IsSealed o log history m.discards.drops m.index.stale m.index.off_base m.discards.reach (flush_ask call a n) → ((b k : ℕ) → HasEntry history b k (Ask call Flush) → b ≡ a)
     → Holds o log (history ++ record { event = Reply call Fine; number = length log } ∷ []) m
 flush_answered o log history m call a n h is_sealed one =
     quiet_entry o log history m (record { event = Reply call Fine; number = length log }) refl (λ s v covers. covers) (no_done_ends m.discards.drops history (record { event = Reply call Fine; number = length log }) (λ id same. absurd cc))

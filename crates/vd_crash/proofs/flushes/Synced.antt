@@ -3,7 +3,7 @@ use Rattle.std.proofs.Common.{ℕ, ◌≡◌, ◌+◌, ◌<◌, ◌≤◌, inl, 
 use Rattle.std.proofs.lemmas.Bool.{cases_lt}
 use Rattle.vd_image.specs.Log.{Sector, Entry, Done, Covers, Writes, Flushes, IsSure, May, IsOpen}
 use Rattle.vd_crash.specs.facts.Safe.{NumberedEntry, Opening}
-use Rattle.vd_crash.specs.facts.Facts.{IsShown}
+use Rattle.vd_crash.specs.facts.Facts.{IsClaimSettled}
 use Rattle.vd_image.proofs.Logs.{writes_push, writes_pushed, ends_push, ends_end, sure_by, may_since, writes_one}
 use Rattle.vd_crash.specs.flushes.Flushing.{IsLast, Snapshot, IsRecorded, IsWrittenPage, HasPage, IsCaughtUp}
 use Rattle.vd_crash.specs.facts.Memory.{Memory}
@@ -65,5 +65,5 @@ named_in_slots o left generation cursor first t h have = record {
 }
 
 -- after a sync: a page of the map
-pub caught_up : (o : Opening) (log : List Entry) (history : List NumberedEntry) (m : Memory) (p : Snapshot) (by q c : ℕ) → HasPage o log history m p by c → Flushes log q → by ≤ q → IsCaughtUp o (May o.before log) (IsShown o log history m p.begun) m p c
-caught_up o log history m p by q c h flushes order = λ v left. subst (λ (y : Sector). IsWrittenPage o (IsShown o log history m p.begun) m p c y) (only_last o.before log (o.layout.map_at c) h.value v by q h.last flushes order left) h.written
+pub caught_up : (o : Opening) (log : List Entry) (history : List NumberedEntry) (m : Memory) (p : Snapshot) (by q c : ℕ) → HasPage o log history m p by c → Flushes log q → by ≤ q → IsCaughtUp o (May o.before log) (IsClaimSettled o log history m p.begun) m p c
+caught_up o log history m p by q c h flushes order = λ v left. subst (λ (y : Sector). IsWrittenPage o (IsClaimSettled o log history m p.begun) m p c y) (only_last o.before log (o.layout.map_at c) h.value v by q h.last flushes order left) h.written

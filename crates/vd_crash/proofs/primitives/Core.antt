@@ -3,8 +3,8 @@ use Rattle.std.proofs.Common.{ℕ, ◌≡◌, ◌≤◌, ◌⊎◌, inl, inr, Li
 use Rattle.vd_image.specs.Log.{Asked, Sector, CallId, Entry, Flush, Ask, Done, Broke, Covers}
 use Rattle.vd_image.specs.Image.{Header, IsApart}
 use Rattle.vd_crash.specs.facts.Safe.{NumberedEntry, Opening}
-use Rattle.vd_crash.specs.facts.Facts.{IsShown}
-use Rattle.vd_crash.specs.flushes.Stage.{Progress}
+use Rattle.vd_crash.specs.facts.Facts.{IsClaimSettled}
+use Rattle.vd_crash.specs.flushes.Stage.{FlushProgress}
 use Rattle.vd_crash.specs.facts.Words.{Grows, with_blocks, IsDiscarded, discarded_memory}
 use Rattle.vd_crash.specs.primitives.Core.{IsAsking, AsksNone, Stage, Resting, Sending, Working, Putting, Syncing, Puts_next, Has_next, Syncs_next, Is_next, IsNext, StageHolds, StageTicket}
 use Rattle.vd_image.proofs.Logs.{at_push, at_pushed, flushes_push, length_push}
@@ -42,7 +42,7 @@ stage_event o log history m (Putting call a n q p sector i v ticket) e apart pla
   so_far_event o log history m call a n q p e apart places follows h.0,
   putting_push log e sector v ticket i (λ k. other ticket refl (inl k)) (λ k. other ticket refl (inr k)) (λ u covers. let w = places sector u covers in h.2 w.0 w.1 w.2 w.3) h.1,
   h.2,
-  λ c within same. written_grown o (IsShown o log history m p.snapshot.begun) (IsShown o (log ++ e ∷ []) history m p.snapshot.begun) m m p.snapshot c v (shown_event o log history m e follows p.snapshot.begun) (λ d s given. given) (h.3 c within same),
+  λ c within same. written_grown o (IsClaimSettled o log history m p.snapshot.begun) (IsClaimSettled o (log ++ e ∷ []) history m p.snapshot.begun) m m p.snapshot c v (shown_event o log history m e follows p.snapshot.begun) (λ d s given. given) (h.3 c within same),
 )
 stage_event o log history m (Syncing call a n q p r ticket) e apart places follows other asks h = (so_far_event o log history m call a n q p e apart places follows h.0, asking_push log e r ticket (λ request. asks ticket request refl) h.1, h.2)
 stage_event o log history m (Puts_next call a n q p i v next ticket) e apart places follows other asks h = (
@@ -57,7 +57,7 @@ stage_event o log history m (Syncs_next call a n q p by v next r ticket) e apart
 stage_event o log history m (Is_next call a n q p by v next r) e apart places follows other asks h =
     (so_far_event o log history m call a n q p e apart places follows h.0, last_push log e o.layout.header_at v by (no_header o e apart places) h.1, h.2, flushes_push log e r h.3, h.4)
 
-next_beside : (o : Opening) (m : Memory) (table : ℕ → Option ℕ) (stale fresh : ℕ → Bool) (born : ℕ → ℕ) (owed : ℕ → Bool) (pending : ℕ → Option ℕ) (d : Discards) (p : Progress) (v : Sector) (next : Header) → IsNext o m p v next → IsNext o (beside_memory m table stale fresh born owed pending d) p v next
+next_beside : (o : Opening) (m : Memory) (table : ℕ → Option ℕ) (stale fresh : ℕ → Bool) (born : ℕ → ℕ) (owed : ℕ → Bool) (pending : ℕ → Option ℕ) (d : Discards) (p : FlushProgress) (v : Sector) (next : Header) → IsNext o m p v next → IsNext o (beside_memory m table stale fresh born owed pending d) p v next
 next_beside o m table stale fresh born owed pending d p v next h = record { reads = h.reads; generation = h.generation; background = h.background; paged = h.paged }
 
 -- after a step of another pass that leaves the store's log
@@ -70,7 +70,7 @@ stage_beside o log history later m (Putting call a n q p sector i v ticket) tabl
   so_far_beside o log history later m table stale fresh born owed pending d call a n q p beside h.0,
   h.1,
   h.2,
-  λ c within same. written_grown o (IsShown o log history m p.snapshot.begun) (IsShown o log later (beside_memory m table stale fresh born owed pending d) p.snapshot.begun) m (beside_memory m table stale fresh born owed pending d) p.snapshot c v
+  λ c within same. written_grown o (IsClaimSettled o log history m p.snapshot.begun) (IsClaimSettled o log later (beside_memory m table stale fresh born owed pending d) p.snapshot.begun) m (beside_memory m table stale fresh born owed pending d) p.snapshot c v
       (shown_beside o log history later m table stale fresh born owed pending d beside p.snapshot.begun h.0.way.begun) beside.grows (h.3 c within same),
 )
 stage_beside o log history later m (Syncing call a n q p r ticket) table stale fresh born owed pending d beside h = (so_far_beside o log history later m table stale fresh born owed pending d call a n q p beside h.0, h.1, h.2)

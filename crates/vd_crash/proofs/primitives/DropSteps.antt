@@ -2,7 +2,7 @@
 use Rattle.std.proofs.Common.{ℕ, ◌≡◌, ◌<◌, List, [], ◌∷◌, ◌++◌, length, Some, None, Bool, refl, sym, subst}
 use Rattle.vd_image.specs.Log.{Sector, CallId, Entry, Issue, Done, IsOpen, May}
 use Rattle.vd_crash.specs.facts.Safe.{NumberedEntry, events, Opening}
-use Rattle.vd_crash.specs.facts.Facts.{OwnWrites, IsShown, Holds}
+use Rattle.vd_crash.specs.facts.Facts.{OwnWrites, IsClaimSettled, Holds}
 use Rattle.vd_crash.specs.facts.Words.{IsDropWrite, IsDiscarded, discarded_memory}
 use Rattle.vd_crash.proofs.facts.Growth.{EndsMirrored}
 use Rattle.vd_crash.proofs.facts.Steps.{next_ordinary, shown_entry}
@@ -68,17 +68,17 @@ pub marks_drop : (o : Opening) (log : List Entry) (history : List NumberedEntry)
     → ((k : ℕ) → HasCall (flights k) id → ⊥) → ((k b : ℕ) → HasBlock (flights k) b → o.layout.chunk_of b ≡ c → ⊥) → ((b : ℕ) → o.layout.chunk_of b ≡ c → m.pending b ≡ None)
     → MarksHold o log history m marked → MarksHold o log ((history ++ entry_now log (Issue id first content) ∷ []) ++ entry_now log (Done id) ∷ []) (discarded_memory m fresh stale owed d) marked
 marks_drop o log history m marked flights stage id first content c fresh stale owed d core within writes is calls blocks calm h =
-    marks_taken o (May o.before log) (IsShown o log history m m.discards.reach) (IsShown o log ((history ++ entry_now log (Issue id first content) ∷ []) ++ entry_now log (Done id) ∷ []) n d.reach) m.index n.index marked (λ e p given. given) shown fewer h
+    marks_taken o (May o.before log) (IsClaimSettled o log history m m.discards.reach) (IsClaimSettled o log ((history ++ entry_now log (Issue id first content) ∷ []) ++ entry_now log (Done id) ∷ []) n d.reach) m.index n.index marked (λ e p given. given) shown fewer h
   where
     n : Memory
     n = discarded_memory m fresh stale owed d
 
-    shown : (t : Claim) → IsShown o log history m m.discards.reach t → IsShown o log ((history ++ entry_now log (Issue id first content) ∷ []) ++ entry_now log (Done id) ∷ []) n d.reach t
+    shown : (t : Claim) → IsClaimSettled o log history m m.discards.reach t → IsClaimSettled o log ((history ++ entry_now log (Issue id first content) ∷ []) ++ entry_now log (Done id) ∷ []) n d.reach t
     shown t before =
         let after = after_drop o log history m flights stage id first content c fresh stale owed d core within writes is calls blocks calm in
-        let issued : IsShown o log (history ++ entry_now log (Issue id first content) ∷ []) n m.discards.reach t = shown_drop o log history m n id first content (drops_same m.discards.drops d.drops (length history) c is.drops) (λ e p given. given)
+        let issued : IsClaimSettled o log (history ++ entry_now log (Issue id first content) ∷ []) n m.discards.reach t = shown_drop o log history m n id first content (drops_same m.discards.drops d.drops (length history) c is.drops) (λ e p given. given)
         (λ e zeros. updated_more m.discards.zeros d.zeros c e is.zeros zeros) (drop_known o log history m id first content c fresh stale owed d is) core.holds.facts.opening.within m.discards.reach core.holds.blocks.reach t before in
-        subst (λ (r : ℕ). IsShown o log ((history ++ entry_now log (Issue id first content) ∷ []) ++ entry_now log (Done id) ∷ []) n r t) (sym is.reach)
+        subst (λ (r : ℕ). IsClaimSettled o log ((history ++ entry_now log (Issue id first content) ∷ []) ++ entry_now log (Done id) ∷ []) n r t) (sym is.reach)
         (shown_entry o log (history ++ entry_now log (Issue id first content) ∷ []) n (entry_now log (Done id)) (next_ordinary o d.drops (history ++ entry_now log (Issue id first content) ∷ []) after.issued.facts.discards) core.holds.facts.opening.within refl after.ends m.discards.reach t issued)
 
     fewer : (t : Need) → IsDue n.index t → IsDue m.index t

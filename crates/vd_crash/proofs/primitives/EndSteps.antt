@@ -9,8 +9,8 @@ use Rattle.vd_crash.proofs.facts.Writes.{no_ends}
 use Rattle.vd_crash.proofs.flushes.Stage.{quiet_follows}
 use Rattle.vd_crash.proofs.flushes.Passes.{writing_mirrored, in_flight_pushed, in_flight_ends, open_in_flight, writing_done, writing_broke}
 use Rattle.vd_crash.specs.flushes.Stage.{Flight, Idle, Writing, Copying, Answering, FlightHolds, HasTicket, HasBlock, HasCall, HasWrite, AreDistinct, AreFlights, IsOtherCall}
-use Rattle.vd_crash.specs.facts.Words.{IsQuiet, with_blocks, IsUpdated}
-use Rattle.vd_crash.specs.flushes.Moves.{world, entry_now, Tells, Notes}
+use Rattle.vd_crash.specs.facts.Words.{WritesNothing, with_blocks, IsUpdated}
+use Rattle.vd_crash.specs.flushes.Moves.{world, entry_now, Tells, Notes, Keeps_contents}
 use Rattle.vd_crash.specs.primitives.Core.{Stage, StageTicket, IsCore}
 use Rattle.vd_image.proofs.Logs.{at_end, at_below, at_one, length_push}
 use Rattle.vd_crash.proofs.facts.Growth.{EndsMirrored}
@@ -95,7 +95,7 @@ stage_ticket stage ticket t e none first out second = none (subst (λ (y : CallI
 
 -- what is left to show once the logs and the memory have all facts: the other passes and the flush
 end_core : (o : Opening) (log : List Entry) (history : List NumberedEntry) (m : Memory) (flights new : ℕ → Flight) (stage : Stage) (k b j n : ℕ) (call ticket : CallId) (e event : Entry) (fresh : ℕ → Bool) (born_at : ℕ → ℕ) (owed : ℕ → Bool) (pending : ℕ → Option ℕ)
-    → IsCore o log history m flights stage → flights k ≡ Writing b j n call ticket → IsUpdated flights new k Idle → IsQuiet e → ((d q : ℕ) → m.index.table (o.layout.chunk_of d) ≡ Some q → EndsMirrored o (log ++ e ∷ []) history m.discards.drops d q (entry_now (log ++ e ∷ []) event))
+    → IsCore o log history m flights stage → flights k ≡ Writing b j n call ticket → IsUpdated flights new k Idle → WritesNothing e → ((d q : ℕ) → m.index.table (o.layout.chunk_of d) ≡ Some q → EndsMirrored o (log ++ e ∷ []) history m.discards.drops d q (entry_now (log ++ e ∷ []) event))
     → (Done ticket ≡ e) ⊎ (Broke ticket ≡ e) → (Done call ≡ event) ⊎ (Broke call ≡ event) → ((c : CallId) → IsIssueOf event c → ⊥)
     → ((d : ℕ) → m.fresh d ≡ true → fresh d ≡ true) → ((d : ℕ) → m.owed d ≡ true → owed d ≡ true) → ((d : ℕ) → m.fresh d ≡ true → born_at d ≡ m.born d) → ((d : ℕ) → (d ≡ b → ⊥) → pending d ≡ m.pending d)
     → IsSafe o (log ++ e ∷ []) (history ++ entry_now (log ++ e ∷ []) event ∷ []) → Holds o (log ++ e ∷ []) (history ++ entry_now (log ++ e ∷ []) event ∷ []) (with_blocks m fresh born_at owed pending)
@@ -142,7 +142,7 @@ pub core_done : (o : Opening) (log : List Entry) (history : List NumberedEntry) 
     → IsCore o (log ++ Done ticket ∷ []) (history ++ entry_now (log ++ Done ticket ∷ []) (Done call) ∷ []) (with_blocks m m.fresh m.born owed m.pending) new stage
 core_done o log history m owed flights new stage k b j n call ticket c is put fresh more only logged =
     let w = mine_of o log history m flights k (Writing b j n call ticket) c.in_flight is in
-    let one = step_keeps o (world log history m) (world (log ++ Done ticket ∷ []) history m) (Tells log history m (Done ticket) (λ s v covers. covers)) (kept o log history m flights stage c) in
+    let one = step_keeps o (world log history m) (world (log ++ Done ticket ∷ []) history m) (Keeps_contents (Tells (Done ticket) (λ s v covers. covers))) (kept o log history m flights stage c) in
     let holds = writing_done o log history m owed b call ticket j n w.0 one.holds fresh more only logged in
     end_core o log history m flights new stage k b j n call ticket (Done ticket) (Done call) m.fresh m.born owed m.pending c is put (λ s v covers. covers) (writing_mirrored o log history m b call ticket j n w.0 one.holds) (inl refl) (inl refl) (λ d issue. issue)
     (λ d known. known) more (λ d known. refl) (λ d other. refl)
@@ -156,7 +156,7 @@ pub core_done_whole : (o : Opening) (log : List Entry) (history : List NumberedE
     → IsCore o (log ++ Done ticket ∷ []) (history ++ entry_now (log ++ Done ticket ∷ []) (Done call) ∷ []) (with_blocks m fresh born_at owed pending) new stage
 core_done_whole o log history m fresh born_at owed pending flights new stage k b j n call ticket c is put at put_fresh put_born put_pending more only logged =
     let w = mine_of o log history m flights k (Writing b j n call ticket) c.in_flight is in
-    let one = step_keeps o (world log history m) (world (log ++ Done ticket ∷ []) history m) (Tells log history m (Done ticket) (λ s v covers. covers)) (kept o log history m flights stage c) in
+    let one = step_keeps o (world log history m) (world (log ++ Done ticket ∷ []) history m) (Keeps_contents (Tells (Done ticket) (λ s v covers. covers))) (kept o log history m flights stage c) in
     let two = born o (log ++ Done ticket ∷ []) history m fresh born_at pending b n (length log) one.holds at (in_flight_ends log n ticket w.0.store) put_fresh put_born put_pending in
     let holds = writing_done o log history (with_blocks m fresh born_at m.owed pending) owed b call ticket j n w.0 two put_fresh.same more only logged in
     end_core o log history m flights new stage k b j n call ticket (Done ticket) (Done call) fresh born_at owed pending c is put (λ s v covers. covers) (writing_mirrored o log history m b call ticket j n w.0 one.holds) (inl refl) (inl refl) (λ d issue. issue)
@@ -176,9 +176,9 @@ pub core_broke : (o : Opening) (log : List Entry) (history : List NumberedEntry)
     → IsCore o log history m flights stage → flights k ≡ Writing b j n call ticket → IsUpdated flights new k Idle
     → IsCore o (log ++ Broke ticket ∷ []) (history ++ entry_now (log ++ Broke ticket ∷ []) (Broke call) ∷ []) (with_blocks m m.fresh m.born m.owed m.pending) new stage
 core_broke o log history m flights new stage k b j n call ticket c is put =
-    let one = step_keeps o (world log history m) (world (log ++ Broke ticket ∷ []) history m) (Tells log history m (Broke ticket) (λ s v covers. covers)) (kept o log history m flights stage c) in
+    let one = step_keeps o (world log history m) (world (log ++ Broke ticket ∷ []) history m) (Keeps_contents (Tells (Broke ticket) (λ s v covers. covers))) (kept o log history m flights stage c) in
     let two = step_keeps o (world (log ++ Broke ticket ∷ []) history m) (world (log ++ Broke ticket ∷ []) (history ++ entry_now (log ++ Broke ticket ∷ []) (Broke call) ∷ []) m)
-    (Notes (log ++ Broke ticket ∷ []) history m (Broke call) (λ s v covers. covers) (λ id same. cc) (λ id a i asked same. absurd cc)) one in
+    (Keeps_contents (Notes (Broke call) (record { writes_nothing = λ s v covers. covers; no_done = λ id same. cc; answers = λ id a i asked same. absurd cc }))) one in
     end_core o log history m flights new stage k b j n call ticket (Broke ticket) (Broke call) m.fresh m.born m.owed m.pending c is put (λ s v covers. covers) (λ d q given. no_ends o (log ++ Broke ticket ∷ []) history m.discards.drops (entry_now (log ++ Broke ticket ∷ []) (Broke call)) (λ id same. absurd cc) d q) (inr refl) (inr refl) (λ d issue. issue)
     (λ d known. known) (λ d known. known) (λ d known. refl) (λ d other. refl) two.safe two.holds
 
@@ -187,9 +187,9 @@ pub core_broke_whole : (o : Opening) (log : List Entry) (history : List Numbered
     → IsCore o log history m flights stage → flights k ≡ Writing b j n call ticket → IsUpdated flights new k Idle → IsUpdated m.pending pending b None
     → IsCore o (log ++ Broke ticket ∷ []) (history ++ entry_now (log ++ Broke ticket ∷ []) (Broke call) ∷ []) (with_blocks m m.fresh m.born m.owed pending) new stage
 core_broke_whole o log history m pending flights new stage k b j n call ticket c is put put_pending =
-    let one = step_keeps o (world log history m) (world (log ++ Broke ticket ∷ []) history m) (Tells log history m (Broke ticket) (λ s v covers. covers)) (kept o log history m flights stage c) in
+    let one = step_keeps o (world log history m) (world (log ++ Broke ticket ∷ []) history m) (Keeps_contents (Tells (Broke ticket) (λ s v covers. covers))) (kept o log history m flights stage c) in
     let two = step_keeps o (world (log ++ Broke ticket ∷ []) history m) (world (log ++ Broke ticket ∷ []) (history ++ entry_now (log ++ Broke ticket ∷ []) (Broke call) ∷ []) m)
-    (Notes (log ++ Broke ticket ∷ []) history m (Broke call) (λ s v covers. covers) (λ id same. cc) (λ id a i asked same. absurd cc)) one in
+    (Keeps_contents (Notes (Broke call) (record { writes_nothing = λ s v covers. covers; no_done = λ id same. cc; answers = λ id a i asked same. absurd cc }))) one in
     let three = given_up o (log ++ Broke ticket ∷ []) (history ++ entry_now (log ++ Broke ticket ∷ []) (Broke call) ∷ []) m pending b two.holds put_pending
     (writing_broke o log history m.discards.drops b call (length (log ++ Broke ticket ∷ [])) mine) in
     end_core o log history m flights new stage k b j n call ticket (Broke ticket) (Broke call) m.fresh m.born m.owed pending c is put (λ s v covers. covers) (λ d q given. no_ends o (log ++ Broke ticket ∷ []) history m.discards.drops (entry_now (log ++ Broke ticket ∷ []) (Broke call)) (λ id same. absurd cc) d q) (inr refl) (inr refl) (λ d issue. issue)
@@ -209,7 +209,7 @@ core_broke_whole o log history m pending flights new stage k b j n call ticket c
 
 -- the end of a copy: what is left to show
 copy_core : (o : Opening) (log : List Entry) (history : List NumberedEntry) (m : Memory) (flights new : ℕ → Flight) (stage : Stage) (k b i : ℕ) (ticket : CallId) (e : Entry) (fresh : ℕ → Bool) (born_at : ℕ → ℕ) (pending : ℕ → Option ℕ)
-    → IsCore o log history m flights stage → flights k ≡ Copying b i ticket → IsUpdated flights new k Idle → IsQuiet e → (Done ticket ≡ e) ⊎ (Broke ticket ≡ e)
+    → IsCore o log history m flights stage → flights k ≡ Copying b i ticket → IsUpdated flights new k Idle → WritesNothing e → (Done ticket ≡ e) ⊎ (Broke ticket ≡ e)
     → ((d : ℕ) → m.fresh d ≡ true → fresh d ≡ true) → ((d : ℕ) → m.fresh d ≡ true → born_at d ≡ m.born d) → ((d : ℕ) → (d ≡ b → ⊥) → pending d ≡ m.pending d)
     → IsSafe o (log ++ e ∷ []) history → Holds o (log ++ e ∷ []) history (with_blocks m fresh born_at m.owed pending)
     → IsCore o (log ++ e ∷ []) history (with_blocks m fresh born_at m.owed pending) new stage
@@ -248,7 +248,7 @@ pub core_copied : (o : Opening) (log : List Entry) (history : List NumberedEntry
     → IsCore o (log ++ Done ticket ∷ []) history (with_blocks m fresh born_at m.owed pending) new stage
 core_copied o log history m fresh born_at pending flights new stage k b i ticket c is put put_fresh put_born put_pending =
     let w = mine_of o log history m flights k (Copying b i ticket) c.in_flight is in
-    let one = step_keeps o (world log history m) (world (log ++ Done ticket ∷ []) history m) (Tells log history m (Done ticket) (λ s v covers. covers)) (kept o log history m flights stage c) in
+    let one = step_keeps o (world log history m) (world (log ++ Done ticket ∷ []) history m) (Keeps_contents (Tells (Done ticket) (λ s v covers. covers))) (kept o log history m flights stage c) in
     let two = born o (log ++ Done ticket ∷ []) history m fresh born_at pending b i (length log) one.holds w.1 (in_flight_ends log i ticket w.0) put_fresh put_born put_pending in
     copy_core o log history m flights new stage k b i ticket (Done ticket) fresh born_at pending c is put (λ s v covers. covers) (inl refl)
     (more_fresh w.1) (λ d known. put_born.other d (not_b w.1 d known)) put_pending.other one.safe two
@@ -266,7 +266,7 @@ pub core_copy_broke : (o : Opening) (log : List Entry) (history : List NumberedE
     → IsCore o log history m flights stage → flights k ≡ Copying b i ticket → IsUpdated flights new k Idle → IsUpdated m.pending pending b None
     → IsCore o (log ++ Broke ticket ∷ []) history (with_blocks m m.fresh m.born m.owed pending) new stage
 core_copy_broke o log history m pending flights new stage k b i ticket c is put put_pending =
-    let one = step_keeps o (world log history m) (world (log ++ Broke ticket ∷ []) history m) (Tells log history m (Broke ticket) (λ s v covers. covers)) (kept o log history m flights stage c) in
+    let one = step_keeps o (world log history m) (world (log ++ Broke ticket ∷ []) history m) (Keeps_contents (Tells (Broke ticket) (λ s v covers. covers))) (kept o log history m flights stage c) in
     let two = given_up o (log ++ Broke ticket ∷ []) history m pending b one.holds put_pending closed in
     copy_core o log history m flights new stage k b i ticket (Broke ticket) m.fresh m.born pending c is put (λ s v covers. covers) (inr refl) (λ d known. known) (λ d known. refl) put_pending.other one.safe two
   where

@@ -3,10 +3,10 @@ use Rattle.std.proofs.Common.{ℕ, ◌≡◌, ◌+◌, ◌<◌, ◌≤◌, ◌�
 use Rattle.vd_image.specs.Log.{Sector, CallId, Entry, Flush, Fine, Ask, Done, Reply, Covers, IsIssueOf, Flushes, May}
 use Rattle.vd_image.specs.Image.{Header}
 use Rattle.vd_crash.specs.facts.Safe.{NumberedEntry, Opening}
-use Rattle.vd_crash.specs.facts.Facts.{HasEntry, Holds, IsShown}
-use Rattle.vd_crash.specs.flushes.Stage.{Flight, Idle, Answering, FlightHolds, HasTicket, HasWrite, IsPageToPut, IsOtherCall, Progress, IsSoFar, IsLoggedBy}
-use Rattle.vd_crash.specs.facts.Words.{IsQuiet, IsUpdated, Sealing, WritesOnly, with_index, sealed_memory}
-use Rattle.vd_crash.specs.flushes.Moves.{world, entry_now, Tells}
+use Rattle.vd_crash.specs.facts.Facts.{HasEntry, Holds, IsClaimSettled}
+use Rattle.vd_crash.specs.flushes.Stage.{Flight, Idle, Answering, FlightHolds, HasTicket, HasWrite, IsPageToPut, IsOtherCall, FlushProgress, IsSoFar, IsLoggedBy}
+use Rattle.vd_crash.specs.facts.Words.{WritesNothing, IsUpdated, Sealing, WritesOnly, with_index, sealed_memory}
+use Rattle.vd_crash.specs.flushes.Moves.{world, entry_now, Tells, Keeps_contents}
 use Rattle.vd_crash.specs.primitives.Core.{IsAsking, Stage, StageHolds, StageTicket, IsCore, Resting, Sending, Working, Putting, Syncing, Puts_next, Has_next, Syncs_next, Is_next, IsNext}
 use Rattle.vd_image.proofs.Logs.{at_push, at_end, at_below, at_pushed, length_push}
 use Rattle.vd_crash.proofs.facts.Moments.{safe_event, safe_entry}
@@ -17,7 +17,7 @@ use Rattle.vd_crash.proofs.facts.Steps.{next_ordinary, shown_event}
 use Rattle.vd_crash.proofs.facts.Writes.{no_ends}
 use Rattle.vd_crash.proofs.flushes.Stage.{under_way_event, quiet_follows, so_far_event, so_far_done, so_far_begun, so_far_synced, so_far_sealed, so_far_recycled, so_far_header}
 use Rattle.vd_crash.proofs.flushes.Passes.{written_grown}
-use Rattle.vd_crash.specs.flushes.Flushing.{Snapshot, snapshot_of, IsOffAfter, IsSealed, IsCaughtUp, IsLogged}
+use Rattle.vd_crash.specs.flushes.Flushing.{Snapshot, snapshot_of, IsOffAfter, IsSealed, IsCaughtUp, IsLogged, flush_ask}
 use Rattle.vd_crash.proofs.flushes.Evidence.{putting, put_done}
 use Rattle.vd_crash.proofs.primitives.IssueSteps.{issue_no_end, tickets_set}
 use Rattle.vd_crash.proofs.primitives.EndSteps.{idle_distinct}
@@ -48,13 +48,13 @@ put_ends_none flights ticket other k t has (inl same) = other k (subst (λ (y : 
 put_ends_none flights ticket other k t has (inr same) = cc
 
 -- a quiet event by which the stage goes on
-quiet_step : (o : Opening) (log : List Entry) (history : List NumberedEntry) (m : Memory) (flights : ℕ → Flight) (old new : Stage) (e : Entry) → IsCore o log history m flights old → IsQuiet e → EndsNone flights e
+quiet_step : (o : Opening) (log : List Entry) (history : List NumberedEntry) (m : Memory) (flights : ℕ → Flight) (old new : Stage) (e : Entry) → IsCore o log history m flights old → WritesNothing e → EndsNone flights e
     → (Holds o (log ++ e ∷ []) history m → StageHolds o (log ++ e ∷ []) history m new) → ((k : ℕ) (t : CallId) → HasTicket (flights k) t → StageTicket new t → ⊥) → IsCore o (log ++ e ∷ []) history m flights new
 quiet_step o log history m flights old new e c quiet none next tickets =
-    let k = step_keeps o (world log history m) (world (log ++ e ∷ []) history m) (Tells log history m e quiet) (kept o log history m flights old c) in
+    let k = step_keeps o (world log history m) (world (log ++ e ∷ []) history m) (Keeps_contents (Tells e quiet)) (kept o log history m flights old c) in
     record { safe = k.safe; holds = k.holds; in_flight = flights_event o log history m flights e none c.in_flight; so_far = next k.holds; tickets = tickets }
 
-quiet_so_far : (o : Opening) (log : List Entry) (history : List NumberedEntry) (m : Memory) (call : CallId) (a n q : ℕ) (p : Progress) (e : Entry) → Holds o log history m → IsQuiet e → IsSoFar o log history m call a n q p → IsSoFar o (log ++ e ∷ []) history m call a n q p
+quiet_so_far : (o : Opening) (log : List Entry) (history : List NumberedEntry) (m : Memory) (call : CallId) (a n q : ℕ) (p : FlushProgress) (e : Entry) → Holds o log history m → WritesNothing e → IsSoFar o log history m (flush_ask call a n) q p → IsSoFar o (log ++ e ∷ []) history m (flush_ask call a n) q p
 quiet_so_far o log history m call a n q p e holds quiet h = so_far_event o log history m call a n q p e holds.apart (λ s v covers. absurd (quiet s v covers)) (quiet_follows o log history m e quiet) h
 
 flushes_end : (log : List Entry) (q : ℕ) (ticket : CallId) → IsAsking log q ticket → Flushes (log ++ Reply ticket Fine ∷ []) q
@@ -83,7 +83,7 @@ core_begin o log history m flights call ticket a n c asked =
 
 -- its data flush is answered well
 pub core_data_flushed : (o : Opening) (log : List Entry) (history : List NumberedEntry) (m : Memory) (flights : ℕ → Flight) (call ticket : CallId) (a n q : ℕ) (snapshot : Snapshot) (paged : ℕ → Bool) → IsCore o log history m flights (Sending call a n q snapshot ticket)
-    → ((c : ℕ) → paged c ≡ true → (c < o.layout.chunks) × IsCaughtUp o (May o.before (log ++ Reply ticket Fine ∷ [])) (IsShown o (log ++ Reply ticket Fine ∷ []) history m snapshot.begun) m snapshot c)
+    → ((c : ℕ) → paged c ≡ true → (c < o.layout.chunks) × IsCaughtUp o (May o.before (log ++ Reply ticket Fine ∷ [])) (IsClaimSettled o (log ++ Reply ticket Fine ∷ []) history m snapshot.begun) m snapshot c)
     → IsCore o (log ++ Reply ticket Fine ∷ []) history m flights (Working call a n q (nothing_put snapshot m.index.cursor paged))
 core_data_flushed o log history m flights call ticket a n q snapshot paged c clean =
     let w = c.so_far.0 in
@@ -92,15 +92,15 @@ core_data_flushed o log history m flights call ticket a n q snapshot paged c cle
     (under_way_event o log history m snapshot call a n q (Reply ticket Fine) m.index.sure m.index.tried m.index.cursor (quiet_follows o log history m (Reply ticket Fine) (λ s v covers. covers)) w.tried w) (flushes_end log q ticket c.so_far.1) refl refl (λ b. (refl, refl, refl)) clean) (λ k t has out. out)
 
 -- any failure ends the flush, and nothing else changes
-pub core_fails : (o : Opening) (log : List Entry) (history : List NumberedEntry) (m : Memory) (flights : ℕ → Flight) (stage : Stage) (e : Entry) → IsCore o log history m flights stage → IsQuiet e → EndsNone flights e
+pub core_fails : (o : Opening) (log : List Entry) (history : List NumberedEntry) (m : Memory) (flights : ℕ → Flight) (stage : Stage) (e : Entry) → IsCore o log history m flights stage → WritesNothing e → EndsNone flights e
     → IsCore o (log ++ e ∷ []) history m flights Resting
 core_fails o log history m flights stage e c quiet none = quiet_step o log history m flights stage Resting e c quiet none (λ holds. tt) (λ k t has out. out)
 
 -- a put, whose facts stand
-pub core_put : (o : Opening) (log : List Entry) (history : List NumberedEntry) (m : Memory) (flights : ℕ → Flight) (call ticket : CallId) (asked n q : ℕ) (p : Progress) (e : Entry) (a : ℕ) (v : Sector) (cursor : ℕ)
-    → IsCore o log history m flights (Working call asked n q p) → Holds o (log ++ e ∷ []) history (with_index m m.index.sure m.index.tried cursor) × IsSoFar o (log ++ e ∷ []) history (with_index m m.index.sure m.index.tried cursor) call asked n q p → WritesNoPlace o e
+pub core_put : (o : Opening) (log : List Entry) (history : List NumberedEntry) (m : Memory) (flights : ℕ → Flight) (call ticket : CallId) (asked n q : ℕ) (p : FlushProgress) (e : Entry) (a : ℕ) (v : Sector) (cursor : ℕ)
+    → IsCore o log history m flights (Working call asked n q p) → Holds o (log ++ e ∷ []) history (with_index m m.index.sure m.index.tried cursor) × IsSoFar o (log ++ e ∷ []) history (with_index m m.index.sure m.index.tried cursor) (flush_ask call asked n) q p → WritesNoPlace o e
     → ((k : ℕ) → HasTicket (flights k) ticket → ⊥) → IsIssueOf e ticket → Covers e a v
-    → ((place s : ℕ) → place < o.layout.storage → o.layout.place place s ≡ a → ⊥) → IsPageToPut o (IsShown o log history m p.snapshot.begun) m p.snapshot a v
+    → ((place s : ℕ) → place < o.layout.storage → o.layout.place place s ≡ a → ⊥) → IsPageToPut o (IsClaimSettled o log history m p.snapshot.begun) m p.snapshot a v
     → IsCore o (log ++ e ∷ []) history (with_index m m.index.sure m.index.tried cursor) flights (Putting call asked n q p a (length log) v ticket)
 core_put o log history m flights call ticket asked n q p e a v cursor c after none new_ticket issues covers no_place right = record {
   safe = safe_event o log history (with_index m m.index.sure m.index.tried cursor) e c.safe after.0.facts;
@@ -111,14 +111,14 @@ core_put o log history m flights call ticket asked n q p e a v cursor c after no
     after.1,
     putting log e a v ticket covers issues,
     no_place,
-    λ d within same. written_grown o (IsShown o log history m p.snapshot.begun) (IsShown o (log ++ e ∷ []) history (with_index m m.index.sure m.index.tried cursor) p.snapshot.begun) m (with_index m m.index.sure m.index.tried cursor) p.snapshot d v
+    λ d within same. written_grown o (IsClaimSettled o log history m p.snapshot.begun) (IsClaimSettled o (log ++ e ∷ []) history (with_index m m.index.sure m.index.tried cursor) p.snapshot.begun) m (with_index m m.index.sure m.index.tried cursor) p.snapshot d v
         (λ t shown. shown_index o (log ++ e ∷ []) history m m.index.sure m.index.tried cursor p.snapshot.begun t (shown_event o log history m e (no_place_follows o log history m e c.holds.facts.storage_one_to_one none) p.snapshot.begun t shown)) (λ g s given. given) (right d within same),
   );
   tickets = λ k t has out. new_ticket k (subst (λ (y : CallId). HasTicket (flights k) y) (sym out) has);
 }
 
 -- a put is done
-pub core_put_done : (o : Opening) (log : List Entry) (history : List NumberedEntry) (m : Memory) (flights : ℕ → Flight) (call ticket : CallId) (b_at n q i a : ℕ) (v : Sector) (p : Progress) (recorded written : ℕ → Bool)
+pub core_put_done : (o : Opening) (log : List Entry) (history : List NumberedEntry) (m : Memory) (flights : ℕ → Flight) (call ticket : CallId) (b_at n q i a : ℕ) (v : Sector) (p : FlushProgress) (recorded written : ℕ → Bool)
     → IsCore o log history m flights (Putting call b_at n q p a i v ticket) → IsLoggedBy o m a v recorded written p
     → IsCore o (log ++ Done ticket ∷ []) history m flights (Working call b_at n q (record { snapshot = p.snapshot; first = p.first; by = length log + 1; recorded = recorded; written = written; slotted = p.slotted; paged = p.paged }))
 core_put_done o log history m flights call ticket b_at n q i a v p recorded written c logged =
@@ -127,14 +127,14 @@ core_put_done o log history m flights call ticket b_at n q i a v p recorded writ
     (λ holds. so_far_done o log history m call ticket b_at n q i a v p recorded written c.holds c.so_far.0 c.so_far.1 c.so_far.3 logged) (λ k t has out. out)
 
 -- a sync is asked
-pub core_sync : (o : Opening) (log : List Entry) (history : List NumberedEntry) (m : Memory) (flights : ℕ → Flight) (call ticket : CallId) (a n q : ℕ) (p : Progress) → IsCore o log history m flights (Working call a n q p)
+pub core_sync : (o : Opening) (log : List Entry) (history : List NumberedEntry) (m : Memory) (flights : ℕ → Flight) (call ticket : CallId) (a n q : ℕ) (p : FlushProgress) → IsCore o log history m flights (Working call a n q p)
     → IsCore o (log ++ Ask ticket Flush ∷ []) history m flights (Syncing call a n q p (length log) ticket)
 core_sync o log history m flights call ticket a n q p c =
     quiet_step o log history m flights (Working call a n q p) (Syncing call a n q p (length log) ticket) (Ask ticket Flush) c (λ s v covers. covers) (ask_ends_none flights ticket)
     (λ holds. (quiet_so_far o log history m call a n q p (Ask ticket Flush) c.holds (λ s v covers. covers) c.so_far, asking_end log ticket, c.so_far.within)) (λ k t has out. out)
 
 -- and answered well: what was put is so in every image
-pub core_synced : (o : Opening) (log : List Entry) (history : List NumberedEntry) (m : Memory) (flights : ℕ → Flight) (call ticket : CallId) (a n q r : ℕ) (p : Progress) (slotted paged : ℕ → Bool) → IsCore o log history m flights (Syncing call a n q p r ticket)
+pub core_synced : (o : Opening) (log : List Entry) (history : List NumberedEntry) (m : Memory) (flights : ℕ → Flight) (call ticket : CallId) (a n q r : ℕ) (p : FlushProgress) (slotted paged : ℕ → Bool) → IsCore o log history m flights (Syncing call a n q p r ticket)
     → ((b : ℕ) → slotted b ≡ true → (p.slotted b ≡ true) ⊎ (p.recorded b ≡ true)) → ((c : ℕ) → paged c ≡ true → (p.paged c ≡ true) ⊎ (p.written c ≡ true))
     → IsCore o (log ++ Reply ticket Fine ∷ []) history m flights (Working call a n q (record { snapshot = p.snapshot; first = p.first; by = p.by; recorded = p.recorded; written = p.written; slotted = slotted; paged = paged }))
 core_synced o log history m flights call ticket a n q r p slotted paged c slots pages =
@@ -144,7 +144,7 @@ core_synced o log history m flights call ticket a n q r p slotted paged c slots 
     (flushes_end log r ticket c.so_far.1) c.so_far.2 slots pages) (λ k t has out. out)
 
 -- the next header is put
-pub core_put_next : (o : Opening) (log : List Entry) (history : List NumberedEntry) (m : Memory) (flights : ℕ → Flight) (call ticket : CallId) (a n q : ℕ) (p : Progress) (e : Entry) (v : Sector) (next : Header) (tried : ℕ → Bool)
+pub core_put_next : (o : Opening) (log : List Entry) (history : List NumberedEntry) (m : Memory) (flights : ℕ → Flight) (call ticket : CallId) (a n q : ℕ) (p : FlushProgress) (e : Entry) (v : Sector) (next : Header) (tried : ℕ → Bool)
     → IsCore o log history m flights (Working call a n q p) → ((k : ℕ) → HasTicket (flights k) ticket → ⊥) → IsIssueOf e ticket → WritesOnly e o.layout.header_at v → Covers e o.layout.header_at v
     → ((b : ℕ) → m.index.tried b ≡ true → tried b ≡ true) → ((b : ℕ) → tried b ≡ true → IsOffAfter o m p.snapshot b)
     → IsHeaderLeft o (May o.before log) (with_index m false tried m.index.cursor).index v → IsNext o (with_index m false tried m.index.cursor) p v next
@@ -161,21 +161,21 @@ core_put_next o log history m flights call ticket a n q p e v next tried c new_t
     }
 
 -- it is done
-pub core_next_done : (o : Opening) (log : List Entry) (history : List NumberedEntry) (m : Memory) (flights : ℕ → Flight) (call ticket : CallId) (a n q i : ℕ) (p : Progress) (v : Sector) (next : Header) → IsCore o log history m flights (Puts_next call a n q p i v next ticket)
+pub core_next_done : (o : Opening) (log : List Entry) (history : List NumberedEntry) (m : Memory) (flights : ℕ → Flight) (call ticket : CallId) (a n q i : ℕ) (p : FlushProgress) (v : Sector) (next : Header) → IsCore o log history m flights (Puts_next call a n q p i v next ticket)
     → IsCore o (log ++ Done ticket ∷ []) history m flights (Has_next call a n q p (length log + 1) v next)
 core_next_done o log history m flights call ticket a n q i p v next c =
     quiet_step o log history m flights (Puts_next call a n q p i v next ticket) (Has_next call a n q p (length log + 1) v next) (Done ticket) c (λ s u covers. covers) (put_ends_none flights ticket (λ k has. c.tickets k ticket has refl))
     (λ holds. (quiet_so_far o log history m call a n q p (Done ticket) c.holds (λ s u covers. covers) c.so_far.0, put_done log o.layout.header_at v ticket i c.so_far.1, c.so_far.2, (let l = length_push log (Done ticket) in omega arith))) (λ k t has out. out)
 
 -- its sync is asked
-pub core_sync_next : (o : Opening) (log : List Entry) (history : List NumberedEntry) (m : Memory) (flights : ℕ → Flight) (call ticket : CallId) (a n q by : ℕ) (p : Progress) (v : Sector) (next : Header) → IsCore o log history m flights (Has_next call a n q p by v next)
+pub core_sync_next : (o : Opening) (log : List Entry) (history : List NumberedEntry) (m : Memory) (flights : ℕ → Flight) (call ticket : CallId) (a n q by : ℕ) (p : FlushProgress) (v : Sector) (next : Header) → IsCore o log history m flights (Has_next call a n q p by v next)
     → IsCore o (log ++ Ask ticket Flush ∷ []) history m flights (Syncs_next call a n q p by v next (length log) ticket)
 core_sync_next o log history m flights call ticket a n q by p v next c =
     quiet_step o log history m flights (Has_next call a n q p by v next) (Syncs_next call a n q p by v next (length log) ticket) (Ask ticket Flush) c (λ s u covers. covers) (ask_ends_none flights ticket)
     (λ holds. (quiet_so_far o log history m call a n q p (Ask ticket Flush) c.holds (λ s u covers. covers) c.so_far.0, last_push log (Ask ticket Flush) o.layout.header_at v by (λ u covers. covers) c.so_far.1, c.so_far.2, asking_end log ticket, c.so_far.3)) (λ k t has out. out)
 
 -- and answered well
-pub core_next_synced : (o : Opening) (log : List Entry) (history : List NumberedEntry) (m : Memory) (flights : ℕ → Flight) (call ticket : CallId) (a n q by r : ℕ) (p : Progress) (v : Sector) (next : Header) → IsCore o log history m flights (Syncs_next call a n q p by v next r ticket)
+pub core_next_synced : (o : Opening) (log : List Entry) (history : List NumberedEntry) (m : Memory) (flights : ℕ → Flight) (call ticket : CallId) (a n q by r : ℕ) (p : FlushProgress) (v : Sector) (next : Header) → IsCore o log history m flights (Syncs_next call a n q p by v next r ticket)
     → IsCore o (log ++ Reply ticket Fine ∷ []) history m flights (Is_next call a n q p by v next r)
 core_next_synced o log history m flights call ticket a n q by r p v next c =
     quiet_step o log history m flights (Syncs_next call a n q p by v next r ticket) (Is_next call a n q p by v next r) (Reply ticket Fine) c (λ s u covers. covers) (reply_ends_none flights ticket)
@@ -184,7 +184,7 @@ core_next_synced o log history m flights call ticket a n q by r p v next c =
 -- the end of a flush: pass k, which asked for it, owes its answer
 seal_core : (o : Opening) (log : List Entry) (history : List NumberedEntry) (m : Memory) (generation tracked : ℕ) (sure : Bool) (tried : ℕ → Bool) (cursor : ℕ) (z : Sealing) (flights new : ℕ → Flight) (stage : Stage) (k : ℕ) (call : CallId) (a n : ℕ) (p : Snapshot) → IsCore o log history m flights stage → flights k ≡ Idle → IsUpdated flights new k (Answering call a n)
     → IsLogged o history m p z → m.discards.reach ≤ p.begun
-    → Holds o log history (sealed_memory m generation tracked sure tried cursor z) → IsSealed o log history m.discards.drops z.stale z.off_base z.reach call a n → IsCore o log history (sealed_memory m generation tracked sure tried cursor z) new Resting
+    → Holds o log history (sealed_memory m generation tracked sure tried cursor z) → IsSealed o log history m.discards.drops z.stale z.off_base z.reach (flush_ask call a n) → IsCore o log history (sealed_memory m generation tracked sure tried cursor z) new Resting
 seal_core o log history m generation tracked sure tried cursor z flights new stage k call a n p c idle put logged further holds over = record {
   safe = c.safe;
   holds = holds;
@@ -199,7 +199,7 @@ seal_core o log history m generation tracked sure tried cursor z flights new sta
   tickets = λ l t has out. out;
 }
   where
-    more : (id : CallId) (b i : ℕ) → IsSealed o log history m.discards.drops m.index.stale m.index.off_base m.discards.reach id b i → IsSealed o log history m.discards.drops z.stale z.off_base z.reach id b i
+    more : (id : CallId) (b i : ℕ) → IsSealed o log history m.discards.drops m.index.stale m.index.off_base m.discards.reach (flush_ask id b i) → IsSealed o log history m.discards.drops z.stale z.off_base z.reach (flush_ask id b i)
     more id b i was = record {
       asked = was.asked;
       flushed = was.flushed;
@@ -207,7 +207,7 @@ seal_core o log history m generation tracked sure tried cursor z flights new sta
       logged = λ d j w. let g = was.logged d j w in ((logged.off_is d).1 (inl g.0), elim g.1 [ inl stale ↦ inl (logged.stale_still d stale) | inr dropped ↦ inr dropped ]);
     }
 
-pub core_seal_records : (o : Opening) (log : List Entry) (history : List NumberedEntry) (m : Memory) (flights new : ℕ → Flight) (k : ℕ) (call : CallId) (a n q : ℕ) (p : Progress) (z : Sealing)
+pub core_seal_records : (o : Opening) (log : List Entry) (history : List NumberedEntry) (m : Memory) (flights new : ℕ → Flight) (k : ℕ) (call : CallId) (a n q : ℕ) (p : FlushProgress) (z : Sealing)
     → IsCore o log history m flights (Working call a n q p) → flights k ≡ Idle → IsUpdated flights new k (Answering call a n) → IsLogged o history m p.snapshot z → m.index.sure ≡ true
     → ((b : ℕ) → p.snapshot.blocks b ≡ true → p.slotted b ≡ true) → ((b : ℕ) → p.snapshot.lost (o.layout.chunk_of b) ≡ true → p.slotted b ≡ true)
     → IsCore o log history (sealed_memory m m.index.generation m.index.tracked m.index.sure m.index.tried m.index.cursor z) new Resting
@@ -215,7 +215,7 @@ core_seal_records o log history m flights new k call a n q p z c idle put logged
     let h = so_far_sealed o log history m call a n q p z c.holds c.so_far logged sure all lost in
     seal_core o log history m m.index.generation m.index.tracked m.index.sure m.index.tried m.index.cursor z flights new (Working call a n q p) k call a n p.snapshot c idle put logged c.so_far.way.reach h.0 h.1
 
-pub core_seal_recycle : (o : Opening) (log : List Entry) (history : List NumberedEntry) (m : Memory) (flights new : ℕ → Flight) (k : ℕ) (call : CallId) (a n q by r : ℕ) (p : Progress) (v : Sector) (next : Header) (z : Sealing) (none : ℕ → Bool)
+pub core_seal_recycle : (o : Opening) (log : List Entry) (history : List NumberedEntry) (m : Memory) (flights new : ℕ → Flight) (k : ℕ) (call : CallId) (a n q by r : ℕ) (p : FlushProgress) (v : Sector) (next : Header) (z : Sealing) (none : ℕ → Bool)
     → IsCore o log history m flights (Is_next call a n q p by v next r) → flights k ≡ Idle → IsUpdated flights new k (Answering call a n) → IsLogged o history m p.snapshot z → ((b : ℕ) → none b ≡ false)
     → IsCore o log history (sealed_memory m (m.index.generation + 1) next.tracked true none 0 z) new Resting
 core_seal_recycle o log history m flights new k call a n q by r p v next z none c idle put logged empty =
@@ -227,7 +227,7 @@ pub core_answer : (o : Opening) (log : List Entry) (history : List NumberedEntry
     → ((b i : ℕ) → HasEntry history b i (Ask call Flush) → b ≡ a)
     → IsCore o log (history ++ entry_now log (Reply call Fine) ∷ []) m new stage
 core_answer o log history m flights new stage k call a n c is put one =
-    let over : IsSealed o log history m.discards.drops m.index.stale m.index.off_base m.discards.reach call a n = subst (λ (g : Flight). FlightHolds o log history m g) is (c.in_flight.each k) in
+    let over : IsSealed o log history m.discards.drops m.index.stale m.index.off_base m.discards.reach (flush_ask call a n) = subst (λ (g : Flight). FlightHolds o log history m g) is (c.in_flight.each k) in
     let holds = flush_answered o log history m call a n c.holds over one in
     let x = entry_now log (Reply call Fine) in
     record {

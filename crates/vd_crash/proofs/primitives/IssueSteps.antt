@@ -3,10 +3,10 @@ use Rattle.std.proofs.Common.{ℕ, ◌≡◌, ◌<◌, ◌⊎◌, inl, inr, List
 use Rattle.std.proofs.lemmas.Bool.{cases_eq}
 use Rattle.vd_image.specs.Log.{Asked, Sector, CallId, Entry, Ask, Issue, Done, Broke, At, Covers, IsIssueOf, IsWriteInFlight}
 use Rattle.vd_crash.specs.facts.Safe.{NumberedEntry, events, Opening}
-use Rattle.vd_crash.specs.flushes.Passes.{IsWriting}
+use Rattle.vd_crash.specs.flushes.Passes.{IsPieceInFlight}
 use Rattle.vd_crash.specs.flushes.Stage.{Flight, Idle, Writing, Copying, HasTicket, HasBlock, HasCall, HasWrite, AreFlights, FlightHolds, Answering, IsOtherCall}
 use Rattle.vd_crash.specs.facts.Words.{with_blocks, IsSameWrite, IsUpdated, IsWholeWrite, no_write}
-use Rattle.vd_crash.specs.flushes.Moves.{world, entry_now, Writes_local, Writes_whole, Copies}
+use Rattle.vd_crash.specs.flushes.Moves.{world, entry_now, Writes_local, Writes_whole, Copies, Moves_block}
 use Rattle.vd_crash.specs.primitives.Core.{Stage, StageTicket, IsCore}
 use Rattle.vd_image.proofs.Logs.{at_push, at_end, at_below, at_pushed, at_one, length_push}
 use Rattle.vd_crash.proofs.facts.Metadata.{WritesPlaces}
@@ -93,7 +93,7 @@ none_open o log history m flights call j h new flight = let has = h.owned j call
 -- the facts on the write that pass k has issued
 issue_writing : (o : Opening) (log : List Entry) (history : List NumberedEntry) (m : Memory) (flights : ℕ → Flight) (stage : Stage) (k b : ℕ) (id ticket : CallId) (first : ℕ) (content : List Sector) (e : Entry)
     → AreFlights o log history m flights → MayIssue flights stage k b id ticket → IsIssueOf e ticket → ((s : ℕ) (v : Sector) → Covers (Issue id first content) s v → o.layout.block_of s ≡ b)
-    → IsWriting o (log ++ e ∷ []) (history ++ entry_now log (Issue id first content) ∷ []) b id ticket (length history) (length log)
+    → IsPieceInFlight o (log ++ e ∷ []) (history ++ entry_now log (Issue id first content) ∷ []) b id ticket (length history) (length log)
 issue_writing o log history m flights stage k b id ticket first content e all may issues block = record {
   event = Issue id first content;
   stands = at_end history (entry_now log (Issue id first content));
@@ -113,7 +113,7 @@ pub core_issue : (o : Opening) (log : List Entry) (history : List NumberedEntry)
     → m.fresh b ≡ true → m.index.table (o.layout.chunk_of b) ≡ Some p → IsSameWrite o (Issue id first content) e b p
     → IsCore o (log ++ e ∷ []) (history ++ entry_now log (Issue id first content) ∷ []) m new stage
 core_issue o log history m flights new stage k b p id ticket first content e c may put issues fresh given same =
-    let k2 = step_keeps o (world log history m) (world (log ++ e ∷ []) (history ++ x ∷ []) m) (Writes_local log history m id first content e b p fresh given same) (kept o log history m flights stage c) in
+    let k2 = step_keeps o (world log history m) (world (log ++ e ∷ []) (history ++ x ∷ []) m) (Moves_block (Writes_local (record { call = id; first = first; content = content; event = e; block = b; storage = p }) (record { local = fresh; given = given; same = same }))) (kept o log history m flights stage c) in
     record {
       safe = k2.safe;
       holds = k2.holds;
@@ -149,7 +149,8 @@ pub core_issue_whole : (o : Opening) (log : List Entry) (history : List Numbered
     → m.fresh b ≡ false → m.pending b ≡ None → b < o.layout.blocks → m.index.table (o.layout.chunk_of b) ≡ Some p → IsUpdated m.pending pending b (Some (length log)) → IsWholeWrite o m.discards (Issue id first content) e b p
     → IsCore o (log ++ e ∷ []) (history ++ entry_now log (Issue id first content) ∷ []) (with_blocks m m.fresh m.born m.owed pending) new stage
 core_issue_whole o log history m pending flights new stage k b p id ticket first content e c may put issues not_fresh none in_range given put_pending write =
-    let k2 = step_keeps o (world log history m) (world (log ++ e ∷ []) (history ++ x ∷ []) n) (Writes_whole log history m pending id first content e b p not_fresh none in_range given put_pending write) (kept o log history m flights stage c) in
+    let k2 = step_keeps o (world log history m) (world (log ++ e ∷ []) (history ++ x ∷ []) n) (Moves_block (Writes_whole (record { call = id; first = first; content = content; event = e; block = b; storage = p })
+    (record { pending = pending; not_local = not_fresh; none = none; in_range = in_range; given = given; put = put_pending; whole = write }))) (kept o log history m flights stage c) in
     record {
       safe = k2.safe;
       holds = k2.holds;
@@ -198,7 +199,7 @@ pub core_copy : (o : Opening) (log : List Entry) (history : List NumberedEntry) 
     → m.fresh b ≡ false → m.pending b ≡ None → b < o.layout.blocks → m.index.table (o.layout.chunk_of b) ≡ Some p → IsUpdated m.pending pending b (Some (length log)) → IsWholeWrite o m.discards no_write e b p
     → IsCore o (log ++ e ∷ []) history (with_blocks m m.fresh m.born m.owed pending) new stage
 core_copy o log history m pending flights new stage k b p ticket e c idle block ticket_new stage_new put issues not_fresh none in_range given put_pending write =
-    let k2 = step_keeps o (world log history m) (world (log ++ e ∷ []) history n) (Copies log history m pending e b p not_fresh none in_range given put_pending write) (kept o log history m flights stage c) in
+    let k2 = step_keeps o (world log history m) (world (log ++ e ∷ []) history n) (Moves_block (Copies e b p (record { pending = pending; not_local = not_fresh; none = none; in_range = in_range; given = given; put = put_pending; whole = write }))) (kept o log history m flights stage c) in
     record {
       safe = k2.safe;
       holds = k2.holds;

@@ -3,7 +3,7 @@ use Rattle.std.proofs.Common.{ℕ, ◌≡◌, ◌+◌, ◌<◌, inl, inr, List, 
 use Rattle.vd_image.specs.Log.{Sector, CallId, Entry, Covers, IsIssueOf}
 use Rattle.vd_image.specs.Image.{Header, Record}
 use Rattle.vd_crash.specs.facts.Safe.{NumberedEntry, Opening}
-use Rattle.vd_crash.specs.flushes.Stage.{Flight, HasTicket, Progress}
+use Rattle.vd_crash.specs.flushes.Stage.{Flight, HasTicket, FlushProgress}
 use Rattle.vd_crash.specs.facts.Words.{with_blocks, WritesOnly, with_index}
 use Rattle.vd_crash.specs.primitives.Core.{IsCore, Resting, Working, Putting, Puts_next}
 use Rattle.vd_crash.proofs.flushes.Flights.{flights_memory}
@@ -18,7 +18,7 @@ use Rattle.vd_crash.proofs.flushes.Putting.{only_no_place}
 use Rattle.vd_crash.proofs.flushes.Wanted.{wanted_written, off_after_wanted, caught_in_page}
 
 -- the put of a record
-pub does_put_record : (o : Opening) (log : List Entry) (history : List NumberedEntry) (m : Memory) (flights : ℕ → Flight) (call ticket : CallId) (a n q : ℕ) (p : Progress) (e : Entry) (v : Sector) (r : Record) → IsCore o log history m flights (Working call a n q p)
+pub does_put_record : (o : Opening) (log : List Entry) (history : List NumberedEntry) (m : Memory) (flights : ℕ → Flight) (call ticket : CallId) (a n q : ℕ) (p : FlushProgress) (e : Entry) (v : Sector) (r : Record) → IsCore o log history m flights (Working call a n q p)
     → ((k : ℕ) → HasTicket (flights k) ticket → ⊥) → IsIssueOf e ticket → m.index.cursor < o.layout.slots → WritesOnly e (o.layout.slot_at m.index.cursor) v → Covers e (o.layout.slot_at m.index.cursor) v
     → o.format.record_of v ≡ Some r → IsWantedRecord o m p.snapshot r
     → IsCore o (log ++ e ∷ []) history (with_index m m.index.sure m.index.tried (m.index.cursor + 1)) flights (Putting call a n q p (o.layout.slot_at m.index.cursor) (length log) v ticket)
@@ -27,7 +27,7 @@ does_put_record o log history m flights call ticket a n q p e v r c new issues r
     (so_far_record o log history m call a n q p e v r c.holds c.so_far room only reads item) (only_no_place o e (o.layout.slot_at m.index.cursor) v only (λ s t within same. c.holds.apart.place_slot s t m.index.cursor within room same)) new issues covers (λ place s within same. c.holds.apart.place_slot place s m.index.cursor within room same)
     (λ d within same. absurd (c.holds.apart.map_slot d m.index.cursor within room same))
 
-pub does_put_page : (o : Opening) (log : List Entry) (history : List NumberedEntry) (m : Memory) (flights : ℕ → Flight) (call ticket : CallId) (a n q : ℕ) (p : Progress) (e : Entry) (v : Sector) (page : ℕ) → IsCore o log history m flights (Working call a n q p)
+pub does_put_page : (o : Opening) (log : List Entry) (history : List NumberedEntry) (m : Memory) (flights : ℕ → Flight) (call ticket : CallId) (a n q : ℕ) (p : FlushProgress) (e : Entry) (v : Sector) (page : ℕ) → IsCore o log history m flights (Working call a n q p)
     → ((k : ℕ) → HasTicket (flights k) ticket → ⊥) → IsIssueOf e ticket → page < o.layout.chunks → WritesOnly e (o.layout.map_at page) v → Covers e (o.layout.map_at page) v
     → ((c : ℕ) → c < o.layout.chunks → o.layout.map_at c ≡ o.layout.map_at page → IsWantedPage o m p.snapshot c v)
     → ((c : ℕ) → p.written c ≡ true → o.layout.map_at c ≡ o.layout.map_at page → ⊥)
@@ -37,7 +37,7 @@ does_put_page o log history m flights call ticket a n q p e v page c new issues 
     (so_far_page o log history m call a n q p e v page c.holds c.so_far room only pages once) (only_no_place o e (o.layout.map_at page) v only (λ s t within same. c.holds.apart.place_map s t page within room same)) new issues covers (λ place s within same. c.holds.apart.place_map place s page within room same)
     (λ d within same. wanted_written o log history m p.snapshot call a n q d v c.holds c.so_far.way c.so_far.flushes (pages d within same))
 
-pub does_put_header : (o : Opening) (log : List Entry) (history : List NumberedEntry) (m : Memory) (flights : ℕ → Flight) (call ticket : CallId) (a n q : ℕ) (p : Progress) (e : Entry) (v : Sector) (next : Header) (tried : ℕ → Bool) → IsCore o log history m flights (Working call a n q p)
+pub does_put_header : (o : Opening) (log : List Entry) (history : List NumberedEntry) (m : Memory) (flights : ℕ → Flight) (call ticket : CallId) (a n q : ℕ) (p : FlushProgress) (e : Entry) (v : Sector) (next : Header) (tried : ℕ → Bool) → IsCore o log history m flights (Working call a n q p)
     → ((k : ℕ) → HasTicket (flights k) ticket → ⊥) → IsIssueOf e ticket → WritesOnly e o.layout.header_at v → Covers e o.layout.header_at v → IsNextHeader o m p v next tried
     → IsCore o (log ++ e ∷ []) history (with_index m false tried m.index.cursor) flights (Puts_next call a n q p (length log) v next ticket)
 does_put_header o log history m flights call ticket a n q p e v next tried c new issues only covers h =

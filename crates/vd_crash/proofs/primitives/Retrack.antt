@@ -7,7 +7,7 @@ use Rattle.vd_image.specs.Image.{Header, geometry_of}
 use Rattle.vd_crash.specs.facts.Safe.{NumberedEntry, Opening}
 use Rattle.vd_crash.specs.facts.Facts.{Holds}
 use Rattle.vd_crash.specs.flushes.Flushing.{IsOffAfter}
-use Rattle.vd_crash.specs.flushes.Stage.{Progress}
+use Rattle.vd_crash.specs.flushes.Stage.{FlushProgress}
 use Rattle.vd_crash.specs.primitives.Primitives.{IsNextHeader}
 use Rattle.vd_crash.specs.facts.Memory.{Memory}
 use Rattle.vd_format.specs.Background.{background}
@@ -25,7 +25,7 @@ above base zeros tracked s more = elim (leb_tells (suc s) tracked) [
 ]
 
 -- a recycle that leaves the tracked part
-pub same_tracked : (o : Opening) (log : List Entry) (history : List NumberedEntry) (m : Memory) (p : Progress) (v : Sector) (next : Header) → Holds o log history m
+pub same_tracked : (o : Opening) (log : List Entry) (history : List NumberedEntry) (m : Memory) (p : FlushProgress) (v : Sector) (next : Header) → Holds o log history m
     → o.format.header_of v ≡ Ok next → geometry_of next ≡ o.layout.geometry → next.generation ≡ m.index.generation + 1 → next.tracked ≡ m.index.tracked
     → ((b : ℕ) → m.index.tried b ≡ true → IsOffAfter o m p.snapshot b) → ((c : ℕ) → c < o.layout.chunks → p.paged c ≡ true) → IsNextHeader o m p v next m.index.tried
 same_tracked o log history m p v next h reads geometry generation tracked wanted paged = record {
@@ -40,7 +40,7 @@ same_tracked o log history m p v next h reads geometry generation tracked wanted
 
 -- A recycle that lowers it over sectors that are zero in the base or whose block is wanted: what is tried is the snapshot and
 -- what was tried before.
-pub lower_tracked : (o : Opening) (log : List Entry) (history : List NumberedEntry) (m : Memory) (p : Progress) (v : Sector) (next : Header) (tried : ℕ → Bool) → Holds o log history m
+pub lower_tracked : (o : Opening) (log : List Entry) (history : List NumberedEntry) (m : Memory) (p : FlushProgress) (v : Sector) (next : Header) (tried : ℕ → Bool) → Holds o log history m
     → o.format.header_of v ≡ Ok next → geometry_of next ≡ o.layout.geometry → next.generation ≡ m.index.generation + 1 → next.tracked ≤ m.index.tracked
     → ((s : ℕ) → s < o.layout.size → next.tracked ≤ s → s < m.index.tracked → (o.base s ≡ o.zeros) ⊎ IsOffAfter o m p.snapshot (o.layout.block_of s))
     → ((b : ℕ) → m.index.tried b ≡ true → tried b ≡ true) → ((b : ℕ) → (p.snapshot.blocks b ≡ true) ⊎ (p.snapshot.lost (o.layout.chunk_of b) ≡ true) → tried b ≡ true) → ((b : ℕ) → tried b ≡ true → IsOffAfter o m p.snapshot b)

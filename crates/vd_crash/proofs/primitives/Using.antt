@@ -1,13 +1,14 @@
 -- What a core may take out of the word that it keeps.
-use Rattle.std.proofs.Common.{ℕ, ◌≡◌, ◌+◌, ◌<◌, ◌≤◌, ◌⊎◌, inl, inr, List, length, Bool, true, false, Some, Ok, refl}
+use Rattle.std.proofs.Common.{ℕ, ◌≡◌, ◌+◌, ◌<◌, ◌⊎◌, inl, inr, List, length, Bool, true, false, Some, Ok, refl, subst}
 use Rattle.vd_image.specs.Log.{Sector, CallId, Entry}
 use Rattle.vd_image.specs.Image.{Header, geometry_of}
 use Rattle.vd_crash.specs.facts.Safe.{NumberedEntry, Opening}
 use Rattle.vd_crash.specs.facts.Facts.{NoDropFrom, IsLastDrop, IsDroppedAfter, IsWrittenBefore}
-use Rattle.vd_crash.specs.flushes.Flushing.{IsOffAfter, IsDroppedFrom}
+use Rattle.vd_crash.specs.flushes.Flushing.{IsDroppedFrom}
 use Rattle.vd_crash.proofs.facts.Recovered.{is_false}
-use Rattle.vd_crash.specs.flushes.Stage.{Flight, Progress}
-use Rattle.vd_crash.specs.primitives.Core.{Working}
+use Rattle.vd_crash.specs.flushes.Stage.{Flight, FlushProgress}
+use Rattle.vd_crash.specs.primitives.Core.{Stage, Working}
+use Rattle.vd_crash.specs.primitives.FlushSteps.{IsWorking, IsRecycleHeader, MayLowerTracked}
 use Rattle.vd_crash.specs.primitives.Primitives.{State, state, IsNextHeader}
 use Rattle.vd_crash.specs.primitives.Keeping.{KeepsCrashSafety}
 use Rattle.vd_crash.proofs.primitives.Retrack.{same_tracked, lower_tracked}
@@ -54,12 +55,16 @@ pub kept_local : (o : Opening) (s : State) (b : ℕ) → KeepsCrashSafety o s �
 unfolding KeepsCrashSafety
 kept_local o s b kept fresh = let k = kept.core.holds.facts.contents_allowed b fresh 0 in (k.in_range, (k.storage, k.given))
 
+-- a core whose flush has nothing in flight, with its stage written out
+kept_at : (o : Opening) (s : State) (w : IsWorking s) → KeepsCrashSafety o s → KeepsCrashSafety o (state s.log s.history s.memory s.marked s.flights (Working w.call w.entry w.number w.data_at w.progress))
+kept_at o s w kept = subst (λ (x : Stage). KeepsCrashSafety o (state s.log s.history s.memory s.marked s.flights x)) w.stage kept
+
 -- What a flush has set out to write exists, its chunk has storage, and it is local unless its chunk was discarded since.
-pub kept_wanted : (o : Opening) (log : List Entry) (history : List NumberedEntry) (m : Memory) (marked : ℕ → Bool) (flights : ℕ → Flight) (call : CallId) (a n q : ℕ) (p : Progress) (b : ℕ)
-    → KeepsCrashSafety o (state log history m marked flights (Working call a n q p)) → p.snapshot.wanted b ≡ true
-    → (b < o.layout.blocks) × ((s : ℕ) × (m.index.table (o.layout.chunk_of b) ≡ Some s)) × ((m.fresh b ≡ true) ⊎ IsDroppedFrom m.discards.drops history p.snapshot.begun (o.layout.chunk_of b))
+pub kept_wanted : (o : Opening) (s : State) (w : IsWorking s) (b : ℕ) → KeepsCrashSafety o s → w.progress.snapshot.wanted b ≡ true
+    → (b < o.layout.blocks) × ((p : ℕ) × (s.memory.index.table (o.layout.chunk_of b) ≡ Some p)) × ((s.memory.fresh b ≡ true) ⊎ IsDroppedFrom s.memory.discards.drops s.history w.progress.snapshot.begun (o.layout.chunk_of b))
 unfolding KeepsCrashSafety
-kept_wanted o log history m marked flights call a n q p b kept wanted =
+kept_wanted o s w b was wanted =
+    let kept = kept_at o s w was in
     let way = kept.core.so_far.way in
     let k = way.kept b wanted in (
       k.in_range,
@@ -74,19 +79,22 @@ kept_wanted o log history m marked flights call a n q p b kept wanted =
     )
 
 -- the next header of a recycle that leaves the tracked part
-pub kept_same_tracked : (o : Opening) (log : List Entry) (history : List NumberedEntry) (m : Memory) (marked : ℕ → Bool) (flights : ℕ → Flight) (call : CallId) (a n q : ℕ) (p : Progress) (v : Sector) (next : Header)
+pub kept_same_tracked : (o : Opening) (log : List Entry) (history : List NumberedEntry) (m : Memory) (marked : ℕ → Bool) (flights : ℕ → Flight) (call : CallId) (a n q : ℕ) (p : FlushProgress) (v : Sector) (next : Header)
     → KeepsCrashSafety o (state log history m marked flights (Working call a n q p)) → o.format.header_of v ≡ Ok next → geometry_of next ≡ o.layout.geometry → next.generation ≡ m.index.generation + 1 → next.tracked ≡ m.index.tracked
     → ((c : ℕ) → c < o.layout.chunks → p.paged c ≡ true) → IsNextHeader o m p v next m.index.tried
 unfolding KeepsCrashSafety
 kept_same_tracked o log history m marked flights call a n q p v next kept reads geometry generation tracked paged =
     same_tracked o log history m p v next kept.core.holds reads geometry generation tracked kept.core.so_far.way.tried paged
 
+-- the same, of any core whose flush has nothing in flight
+pub kept_recycle : (o : Opening) (s : State) (w : IsWorking s) (v : Sector) (next : Header) → KeepsCrashSafety o s → IsRecycleHeader o s.memory w.progress v next → next.tracked ≡ s.memory.index.tracked
+    → IsNextHeader o s.memory w.progress v next s.memory.index.tried
+kept_recycle o s w v next kept h tracked =
+    kept_same_tracked o s.log s.history s.memory s.marked s.flights w.call w.entry w.number w.data_at w.progress v next (kept_at o s w kept) h.reads h.geometry h.generation tracked h.paged
+
 -- and that of one which lowers it over sectors that are zero in the base or whose block is logged
-pub kept_lower_tracked : (o : Opening) (log : List Entry) (history : List NumberedEntry) (m : Memory) (marked : ℕ → Bool) (flights : ℕ → Flight) (call : CallId) (a n q : ℕ) (p : Progress) (v : Sector) (next : Header) (tried : ℕ → Bool)
-    → KeepsCrashSafety o (state log history m marked flights (Working call a n q p)) → o.format.header_of v ≡ Ok next → geometry_of next ≡ o.layout.geometry → next.generation ≡ m.index.generation + 1 → next.tracked ≤ m.index.tracked
-    → ((s : ℕ) → s < o.layout.size → next.tracked ≤ s → s < m.index.tracked → (o.base s ≡ o.zeros) ⊎ IsOffAfter o m p.snapshot (o.layout.block_of s))
-    → ((b : ℕ) → m.index.tried b ≡ true → tried b ≡ true) → ((b : ℕ) → (p.snapshot.blocks b ≡ true) ⊎ (p.snapshot.lost (o.layout.chunk_of b) ≡ true) → tried b ≡ true) → ((b : ℕ) → tried b ≡ true → IsOffAfter o m p.snapshot b)
-    → ((c : ℕ) → c < o.layout.chunks → p.paged c ≡ true) → IsNextHeader o m p v next tried
+pub kept_lower_tracked : (o : Opening) (s : State) (w : IsWorking s) (v : Sector) (next : Header) (tried : ℕ → Bool) → KeepsCrashSafety o s → IsRecycleHeader o s.memory w.progress v next
+    → MayLowerTracked o s.memory w.progress.snapshot next tried → IsNextHeader o s.memory w.progress v next tried
 unfolding KeepsCrashSafety
-kept_lower_tracked o log history m marked flights call a n q p v next tried kept reads geometry generation lower zero wider all wanted paged =
-    lower_tracked o log history m p v next tried kept.core.holds reads geometry generation lower zero wider all wanted paged
+kept_lower_tracked o s w v next tried kept h may =
+    lower_tracked o s.log s.history s.memory w.progress v next tried kept.core.holds h.reads h.geometry h.generation may.lower may.zero may.wider may.all may.wanted h.paged

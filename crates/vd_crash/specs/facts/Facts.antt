@@ -145,9 +145,9 @@ abbrev pub IsKnown : Opening → List NumberedEntry → (ℕ → Option ℕ) →
 IsKnown o history drops fresh b = (fresh b ≡ true) ⊎ ((k : ℕ) × (n : ℕ) × IsDrop drops history k n (o.layout.chunk_of b))
 
 -- a crash can't lose what the claim rests on, but for discards that aren't among the first `reach` entries
-abbrev pub IsShown : Opening → List Entry → List NumberedEntry → Memory → ℕ → Claim → Type 0
-IsShown o log history m reach (Stored b) = IsKept o log history m.discards.drops m.index.table b reach 0 × IsKnown o history m.discards.drops m.fresh b
-IsShown o log history m reach (Zero c) = m.discards.zeros c ≡ true
+abbrev pub IsClaimSettled : Opening → List Entry → List NumberedEntry → Memory → ℕ → Claim → Type 0
+IsClaimSettled o log history m reach (Stored b) = IsKept o log history m.discards.drops m.index.table b reach 0 × IsKnown o history m.discards.drops m.fresh b
+IsClaimSettled o log history m reach (Zero c) = m.discards.zeros c ≡ true
 
 -- a flush that was asked since then was answered well
 abbrev pub IsFlushedSince : List Entry → ℕ → Type 0
@@ -203,7 +203,7 @@ pub record CrashFacts (o : Opening) (log : List Entry) (history : List NumberedE
   pub storage_one_to_one : IsTable o.layout.storage m.index.table
   -- what may be left of a local block is allowed, once it is settled
   pub contents_allowed : (b : ℕ) → m.fresh b ≡ true → IsFresh o log history m.discards.drops m.index.table b (m.born b)
-  pub metadata : IsMetadata o (May o.before log) (IsShown o log history m m.discards.reach) m.index
+  pub metadata : IsMetadata o (May o.before log) (IsClaimSettled o log history m m.discards.reach) m.index
 
 -- a store write of the whole block is under way, and the block isn't fresh
 pub record IsPending (o : Opening) (log : List Entry) (history : List NumberedEntry) (drops : ℕ → Option ℕ) (table : ℕ → Option ℕ) (b i : ℕ) : Type 0 where

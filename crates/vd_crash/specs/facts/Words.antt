@@ -17,8 +17,8 @@ abbrev pub Grows : (ℕ → Option ℕ) → (ℕ → Option ℕ) → Type 0
 Grows old new = (c p : ℕ) → old c ≡ Some p → new c ≡ Some p
 
 -- the event writes nothing
-abbrev pub IsQuiet : Entry → Type 0
-IsQuiet e = (s : ℕ) (v : Sector) → Covers e s v → ⊥
+abbrev pub WritesNothing : Entry → Type 0
+WritesNothing e = (s : ℕ) (v : Sector) → Covers e s v → ⊥
 
 -- an event of the guest that covers no sector, as a copy has it
 abbrev pub no_write : Entry

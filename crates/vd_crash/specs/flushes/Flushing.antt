@@ -3,7 +3,7 @@ use Rattle.std.specs.Prelude.{ℕ, ◌≡◌, ◌<◌, ◌≤◌, ◌⊎◌, ◌
 use Rattle.vd_image.specs.Log.{Sector, CallId, Entry, Flush, Ask, At, Writes, Ends, Flushes}
 use Rattle.vd_crash.specs.facts.Safe.{NumberedEntry, Opening}
 use Rattle.vd_image.specs.Image.{Mapping, Fact, Record, IsCurrent}
-use Rattle.vd_crash.specs.facts.Facts.{HasEntry, IsDrop, IsDroppedAfter, NoDropFrom, IsWrittenBefore, IsBehind, IsKept, IsShown}
+use Rattle.vd_crash.specs.facts.Facts.{HasEntry, IsDrop, IsDroppedAfter, NoDropFrom, IsWrittenBefore, IsBehind, IsKept, IsClaimSettled}
 use Rattle.vd_crash.specs.facts.Words.{Sealing}
 use Rattle.vd_crash.specs.facts.Memory.{Index, Memory}
 use Rattle.vd_crash.specs.facts.Metadata.{Claim, Left, IsRightPage, RecordNames, Need, Local, Off_base, chunk_in, PageHas, IsInPage, IsDue}
@@ -62,11 +62,24 @@ pub record IsLogged (o : Opening) (history : List NumberedEntry) (m : Memory) (p
   pub reach : z.reach ≡ p.begun
   pub table : (c : ℕ) → (z.table c ≡ m.index.table c) ⊎ IsReleased o m p z.table c
 
--- The flush that this entry asks for is under way: its snapshot, and its data flush at q.
-pub record IsUnderWay (o : Opening) (log : List Entry) (history : List NumberedEntry) (m : Memory) (p : Snapshot) (call : CallId) (a n q : ℕ) : Type 0 where
-  pub asked : HasEntry history a n (Ask call Flush)
-  pub order : n ≤ q
-  pub after : a ≤ p.begun
+-- a guest's flush: the call that asks for it, the entry that is its ask, and that entry's number
+pub record FlushAsk : Type 0 where
+  pub call : CallId
+  pub entry : ℕ
+  pub number : ℕ
+
+abbrev pub flush_ask : CallId → ℕ → ℕ → FlushAsk
+flush_ask call entry number = record { call = call; entry = entry; number = number }
+
+-- the guest asked for it
+abbrev pub AsksFlush : List NumberedEntry → FlushAsk → Type 0
+AsksFlush history f = HasEntry history f.entry f.number (Ask f.call Flush)
+
+-- The guest's flush is under way: its snapshot, and its data flush at q.
+pub record IsFlushUnderWay (o : Opening) (log : List Entry) (history : List NumberedEntry) (m : Memory) (p : Snapshot) (f : FlushAsk) (q : ℕ) : Type 0 where
+  pub asked : AsksFlush history f
+  pub order : f.number ≤ q
+  pub after : f.entry ≤ p.begun
   pub begun : p.begun ≤ length history
   pub reach : m.discards.reach ≤ p.begun
   -- what it writes is kept, once the data flush is answered well
@@ -85,8 +98,8 @@ pub record IsUnderWay (o : Opening) (log : List Entry) (history : List NumberedE
   -- its own are still owed since the same moment, unless their chunk was discarded
   pub owed : (b : ℕ) → p.blocks b ≡ true → ((m.owed b ≡ true) × (m.born b ≤ q)) ⊎ IsDroppedFrom m.discards.drops history p.begun (o.layout.chunk_of b)
   -- so are all blocks with a write before it was asked
-  pub covered : (b j : ℕ) → IsWrittenBefore o m.discards.drops history a b j → ((m.index.stale b ≡ true) ⊎ (p.blocks b ≡ true)) ⊎ IsDroppedAfter m.discards.drops history j (o.layout.chunk_of b)
-  pub covered_off : (b j : ℕ) → IsWrittenBefore o m.discards.drops history a b j → IsOffAfter o m p b
+  pub covered : (b j : ℕ) → IsWrittenBefore o m.discards.drops history f.entry b j → ((m.index.stale b ≡ true) ⊎ (p.blocks b ≡ true)) ⊎ IsDroppedAfter m.discards.drops history j (o.layout.chunk_of b)
+  pub covered_off : (b j : ℕ) → IsWrittenBefore o m.discards.drops history f.entry b j → IsOffAfter o m p b
   pub tried : (b : ℕ) → m.index.tried b ≡ true → IsOffAfter o m p b
 
 -- The mapping that the flush writes of a chunk: the kind and the wanted blocks of its snapshot, with the storage where there are any.
@@ -129,18 +142,18 @@ pub record IsWrittenPage (o : Opening) (settled : Claim → Type 0) (m : Memory)
 pub record HasPage (o : Opening) (log : List Entry) (history : List NumberedEntry) (m : Memory) (p : Snapshot) (by chunk : ℕ) : Type 0 where
   pub value : Sector
   pub last : IsLast log (o.layout.map_at chunk) value by
-  pub written : IsWrittenPage o (IsShown o log history m p.begun) m p chunk value
+  pub written : IsWrittenPage o (IsClaimSettled o log history m p.begun) m p chunk value
 
 -- every content that may be left of the chunk's page of the map is such a page
 abbrev pub IsCaughtUp : Opening → Left → (Claim → Type 0) → Memory → Snapshot → ℕ → Type 0
 IsCaughtUp o left settled m p chunk = (v : Sector) → left (o.layout.map_at chunk) v → IsWrittenPage o settled m p chunk v
 
--- the flush of this entry is over: it had a store flush of its own, its blocks are stale, and its discards show in every image
-pub record IsSealed (o : Opening) (log : List Entry) (history : List NumberedEntry) (drops : ℕ → Option ℕ) (stale off_base : ℕ → Bool) (reach : ℕ) (call : CallId) (a n : ℕ) : Type 0 where
-  pub asked : HasEntry history a n (Ask call Flush)
-  pub flushed : (q : ℕ) × Flushes log q × (n ≤ q)
-  pub logged : (b j : ℕ) → IsWrittenBefore o drops history a b j → IsBehind o drops history stale off_base b j
-  pub reached : a ≤ reach
+-- the guest's flush is over: it had a store flush of its own, its blocks are stale, and its discards show in every image
+pub record IsSealed (o : Opening) (log : List Entry) (history : List NumberedEntry) (drops : ℕ → Option ℕ) (stale off_base : ℕ → Bool) (reach : ℕ) (f : FlushAsk) : Type 0 where
+  pub asked : AsksFlush history f
+  pub flushed : (q : ℕ) × Flushes log q × (f.number ≤ q)
+  pub logged : (b j : ℕ) → IsWrittenBefore o drops history f.entry b j → IsBehind o drops history stale off_base b j
+  pub reached : f.entry ≤ reach
 
 -- what a flush takes when it begins
 abbrev pub snapshot_of : Memory → List NumberedEntry → Snapshot
