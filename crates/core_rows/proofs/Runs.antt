@@ -18,7 +18,7 @@ use Rattle.vd_passes.proofs.Lists.{some-inj, get-set-same, get-set-other, length
 use Rattle.vd_core.specs.declared.outcome.Step.{Step}
 use Rattle.vd_core.specs.declared.outcome.Step.TheVariants.{Again, Late, Busy, Ended}
 use Rattle.vd_core.specs.View.{View}
-use Rattle.vd_core.specs.Asking.{AskEnds, ask_state}
+use Rattle.vd_machine.specs.Asking.{AskEnds, ask_state}
 use Rattle.vd_core.specs.Opening.{AreNew}
 use Rattle.vd_core.specs.Moves.{Drives, work}
 use Rattle.vd_core.proofs.Serving.{asks-write, write-stays, write-other}

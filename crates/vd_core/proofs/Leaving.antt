@@ -11,7 +11,7 @@ use Rattle.vd_passes.specs.Passes.{has_region, region_of}
 use Rattle.vd_passes.specs.Steps.{IsAt}
 use Rattle.vd_passes.proofs.Lists.{some-inj}
 use Rattle.vd_core.specs.declared.outcome.Step.TheVariants.{Busy}
-use Rattle.vd_core.specs.Entering.{IsKeptOut}
+use Rattle.vd_machine.specs.Entering.{IsKeptOut}
 
 region-held : (has : Bool) (r region : Region) → (if has then Some r else None) ≡ Some region → has ≡ true
 region-held true r region is = refl

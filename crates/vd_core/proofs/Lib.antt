@@ -1,10 +1,6 @@
 pub mod Sent
 pub mod Agreeing
-pub mod Claiming
 pub mod Copied
-pub mod Ended
-pub mod Entered
-pub mod Entries
 pub mod Keeping
 pub mod Known
 pub mod Leaving
@@ -13,14 +9,10 @@ pub mod LocalSteps
 pub mod Moving
 pub mod Opened
 pub mod NewPasses
-pub mod Picked
-pub mod Placed
 pub mod Reserving
 pub mod Rooming
 pub mod Securing
-pub mod Seen
 pub mod Serving
-pub mod Settled
 pub mod Showing
 pub mod Starting
 pub mod StartingDisk

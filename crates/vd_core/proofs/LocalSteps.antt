@@ -24,7 +24,7 @@ use Rattle.vd_passes.specs.Coherent.{IsCoherent}
 use Rattle.vd_passes.specs.Steps.{IsAt, Replies, Issues, EndsWrite, WriteSettled, Sees, EndsRead, LookSettled, BaseLookSettled}
 use Rattle.vd_passes.proofs.Lists.{some-inj}
 use Rattle.std.proofs.lemmas.List.{append_assoc}
-use Rattle.vd_core.specs.Asking.{ask_state, AskEnds}
+use Rattle.vd_machine.specs.Asking.{ask_state, AskEnds}
 use Rattle.vd_core.specs.Local.{AreLocalBy}
 use Rattle.vd_core.proofs.Local.{entry-local, same-local, done-local}
 use Rattle.vd_format.specs.Background.{zero_sector}

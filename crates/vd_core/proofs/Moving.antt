@@ -23,9 +23,10 @@ use Rattle.vd_passes.proofs.Lists.{some-inj}
 use Rattle.vd_passes.proofs.Needing.{pieces-left, pieces-behind, pieces-last}
 use Rattle.vd_core.specs.declared.outcome.Step.{Step}
 use Rattle.vd_core.specs.declared.outcome.Step.TheVariants.{Again, Busy, Ended}
-use Rattle.vd_core.specs.Fetching.{FetchesIn}
-use Rattle.vd_core.specs.Outcomes.{outcome_of, step_of}
-use Rattle.vd_core.proofs.Ended.{set-there}
+use Rattle.vd_machine.specs.Fetching.{FetchesIn}
+use Rattle.vd_machine.specs.Outcomes.{outcome_of}
+use Rattle.vd_core.specs.Outcomes.{step_of}
+use Rattle.vd_machine.proofs.Ended.{set-there}
 use Rattle.vd_core.specs.Moves.{steps_in_phase, steps_left, Moves, work, Drives, IsInPhase}
 use Rattle.vd_format.specs.Background.{zero_sector}
 

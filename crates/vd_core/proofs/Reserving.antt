@@ -7,9 +7,9 @@ use Rattle.vd_passes.specs.declared.pass.Pass.{Pass}
 use Rattle.vd_passes.specs.Needs.{HasRoom}
 use Rattle.vd_passes.proofs.Lists.{at-set}
 use Rattle.vd_passes.proofs.Needing.{sum-set, rooms-set}
-use Rattle.vd_core.specs.Adding.{AddsEntries}
+use Rattle.vd_machine.specs.Adding.{AddsEntries}
 use Rattle.vd_core.specs.Kept.{RoomIsReserved}
-use Rattle.vd_core.proofs.Rooming.{last-extended}
+use Rattle.vd_machine.proofs.Entries.{last-extended}
 
 pub room-shared : {block : ℕ} {passes : List Pass} {history : HistoryState} {spare : Room} {events : ℕ} {p p' : Pass} {passes' : List Pass} {more : List ℕ} {sectors : ℕ} {history' : HistoryState} → RoomIsReserved block passes history spare events → (i : ℕ)
     → slice_get passes i ≡ Some p → passes' ≡ slice_set passes i p' → AddsEntries more sectors history history' → HasRoom block p' → (spare' : Room)

@@ -7,12 +7,9 @@ use Rattle.vd_passes.specs.declared.pass.Pass.{Pass}
 use Rattle.vd_passes.specs.Needs.{HasRoom}
 use Rattle.vd_passes.proofs.Lists.{at-set}
 use Rattle.vd_passes.proofs.Needing.{Uses, sum-part, sum-uses, rooms-set}
-use Rattle.vd_core.specs.Adding.{CanAdd, AddsEntries}
+use Rattle.vd_machine.specs.Adding.{CanAdd, AddsEntries}
 use Rattle.vd_core.specs.Kept.{RoomIsReserved}
-
-pub last_number-append : (from : ℕ) (ns more : List ℕ) → last_number from (ns ++ more) ≡ last_number (last_number from ns) more
-last_number-append from [] more = refl
-last_number-append from (n ∷ ns) more = last_number-append n ns more
+use Rattle.vd_machine.proofs.Entries.{last-extended}
 
 last-least : (from : ℕ) (ns : List ℕ) → IsRising from ns → from ≤ last_number from ns
 last-least from [] rising = omega arith
@@ -22,11 +19,6 @@ last-least from (n ∷ ns) rising = let rest = last-least n ns rising.1 in let f
 pub rising-below : (from : ℕ) (ns : List ℕ) (m : ℕ) → IsRising from ns → last_number from ns ≤ m → AllByRecursion (λ (n : ℕ). n ≤ m) ns
 rising-below from [] m rising below = tt
 rising-below from (n ∷ ns) m rising below = ((let least = last-least n ns rising.1 in omega (arith, least, below)), rising-below n ns m rising.1 below)
-
--- the last number after a step
-pub last-extended : {more : List ℕ} {sectors : ℕ} {history history' : HistoryState} → AddsEntries more sectors history history' → last_number history'.opened history'.numbers ≡ last_number (last_number history.opened history.numbers) more
-last-extended {more} {sectors} {history} {history'} extends =
-    ap (λ (o : ℕ). last_number o history'.numbers) extends.opened ∙ ap (last_number history.opened) extends.numbers ∙ last_number-append history.opened history.numbers more
 
 module _ {block : ℕ} {passes : List Pass} {history : HistoryState} {spare : Room} {events : ℕ} (roomy : RoomIsReserved block passes history spare events) where
   -- One more entry of a pass can be added, in the room that it has reserved.

@@ -19,7 +19,7 @@ use Rattle.vd_passes.specs.declared.pass.Fault.{Fault}
 use Rattle.vd_passes.specs.declared.pass.Fault.TheVariants as fault
 use Rattle.vd_passes.specs.Passes.{answer_by, answer_of}
 use Rattle.vd_passes.proofs.Answered.{fresh-entries}
-use Rattle.vd_core.specs.Asking.{run_from, run_count, Claims}
+use Rattle.vd_machine.specs.Asking.{run_from, run_count, Claims}
 use Rattle.vd_core.specs.Storing.{touches, is_answered_full, gives_storage, is_counted, AreFullsCaused, IsStoredBy}
 use Rattle.vd_core.proofs.StoringCounts.{none-full, full-same, SameFull, all-where-none, is_touched, counted-is, touched-same, touched-more, fulls-one}
 

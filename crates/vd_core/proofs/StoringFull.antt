@@ -28,7 +28,7 @@ use Rattle.vd_passes.specs.Steps.{Asks, AsksFull}
 use Rattle.vd_passes.proofs.Lists.{some-inj}
 use Rattle.vd_passes.proofs.Tracks.{same-itself}
 use Rattle.vd_passes.proofs.Answered.{IsOfAnother, fresh-entries}
-use Rattle.vd_core.specs.Asking.{run_from, run_count, Claims}
+use Rattle.vd_machine.specs.Asking.{run_from, run_count, Claims}
 use Rattle.vd_core.specs.Storing.{touches, is_answered_full, is_counted, IsFullCaused, AreFullsCaused, IsStoredBy}
 use Rattle.vd_core.proofs.StoringCounts.{get-right, full-more, full-same, SameFull, is_touched, counted-same, fulls-before}
 use Rattle.vd_core.proofs.Storing.{same-where, kept-count, ask-stored}

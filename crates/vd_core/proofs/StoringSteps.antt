@@ -19,7 +19,7 @@ use Rattle.vd_passes.specs.declared.pass.Fault.TheVariants as fault
 use Rattle.vd_passes.specs.Passes.{call_id as own}
 use Rattle.vd_passes.specs.Coherent.{IsCoherent}
 use Rattle.vd_passes.specs.Steps.{Replies, Issues, EndsWrite, WriteSettled, Sees, EndsRead, LookSettled, BaseLookSettled}
-use Rattle.vd_core.specs.Asking.{ask_state, CanAsk, AskEnds}
+use Rattle.vd_machine.specs.Asking.{ask_state, CanAsk, AskEnds}
 use Rattle.vd_core.specs.Storing.{IsStoredBy}
 use Rattle.vd_core.proofs.Storing.{LeavesStorage, answer-leaves, entry-stored, same-stored}
 use Rattle.vd_core.proofs.StoringFull.{asks-stored, asks_full-stored}

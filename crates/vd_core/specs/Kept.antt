@@ -20,7 +20,7 @@ use Rattle.vd_image.specs.Layouts.{layout_of}
 use Rattle.vd_image.specs.Decoders.{format_of}
 use Rattle.vd_crash.specs.facts.CrashSafe.{IsCrashSafe}
 use Rattle.vd_keeper.specs.Keeping.{KeeperState}
-use Rattle.vd_metadata.specs.Attending.{KeeperAgrees}
+use Rattle.vd_machine.specs.Attending.{KeeperAgrees}
 use Rattle.vd_passes.specs.declared.shape.Shape.{Shape}
 use Rattle.vd_passes.specs.declared.pass.Pass.{Pass}
 use Rattle.vd_passes.specs.Places.{place_of}

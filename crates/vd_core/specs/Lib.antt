@@ -1,13 +1,8 @@
-pub mod Adding
 pub mod Outcomes
-pub mod Issuing
-pub mod Fetching
 pub mod Looking
-pub mod Entering
 pub mod View
 pub mod Stepping
 pub mod Kept
-pub mod Asking
 pub mod Opening
 pub mod Moves
 pub mod Storing

@@ -9,8 +9,8 @@ use Rattle.vd_passes.specs.declared.pass.Pass.{Pass}
 use Rattle.vd_passes.specs.declared.pass.Phase.TheVariants.{Held}
 use Rattle.vd_passes.specs.Laying.{count_below}
 use Rattle.vd_passes.specs.Steps.{IsAt, SeesZeros}
-use Rattle.vd_core.specs.Adding.{AddsEntries}
-use Rattle.vd_core.specs.Outcomes.{read_numbers_of, read_sectors_of}
+use Rattle.vd_machine.specs.Adding.{AddsEntries}
+use Rattle.vd_machine.specs.Outcomes.{read_numbers_of, read_sectors_of}
 use Rattle.vd_core.specs.View.{View}
 use Rattle.vd_core.specs.Stepping.{LooksInStore, LooksInBase, SettlesStoreLook, SettlesBaseLook}
 

@@ -5,9 +5,14 @@ use Rattle.vd_device.specs.declared.store.Store as store
 use Rattle.vd_device.specs.declared.base.Base as base
 use Rattle.vd_device.specs.declared.settled.Settled.{Settled}
 use Rattle.vd_keeper.specs.declared.stage.Route.{Route}
-use Rattle.vd_metadata.specs.Flushing.{meta_state, BeginsFlush, PutsNext, SyncsPuts, SettlesMeta}
+use Rattle.vd_machine.specs.Flushing.{meta_state, BeginsFlush, PutsNext, SyncsPuts, SettlesMeta}
 use Rattle.vd_passes.specs.Steps.{FetchSettled, Issues, WriteSettled, Looks, LooksAtBase, LookSettled, BaseLookSettled}
+use Rattle.vd_machine.specs.Asking.{AskState, ask_state}
 use Rattle.vd_core.specs.View.{View}
+
+-- what an ask works on
+abbrev pub ask_state_of : {S B : Type 0} → View S B → AskState
+ask_state_of c = ask_state c.shape c.table c.passes c.history c.spare
 
 module _ {S B : Type 0} (g : store.Ghosts S) where
   -- the pass has issued its piece of this content, and the store's write is in flight

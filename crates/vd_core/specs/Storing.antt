@@ -8,7 +8,7 @@ use Rattle.vd_law.specs.Entries.{Asked, Write, Entry, Ask, Reply, same_call}
 use Rattle.vd_format.specs.declared.map.Entry.{Entry as MapEntry}
 use Rattle.vd_table.specs.Tables.{TableState}
 use Rattle.vd_passes.specs.declared.shape.Shape.{Shape}
-use Rattle.vd_core.specs.Asking.{run_from, run_count}
+use Rattle.vd_machine.specs.Asking.{run_from, run_count}
 
 -- the chunk is one of those of a write's range
 abbrev pub touches : Shape → Asked → (chunk : ℕ) → Bool

@@ -1,6 +1,6 @@
 //! The steps of a flush: what was owed is logged, and made durable.
 
-ghost use Rattle.std.specs.Prelude.{ℕ, ◌≡◌, ◌≢◌, None, Some, slice_get};
+ghost use Rattle.std.specs.Prelude.{ℕ, ◌≡◌, ◌≢◌, ◌<◌, None, Some, slice_get};
 ghost use Rattle.vd_device.specs.declared.settled.Settled.{Settled as AnySettled};
 ghost use Rattle.vd_device.specs.Calls.{IsCaused};
 ghost use Rattle.vd_keeper.specs.declared.stage.Stage.TheVariants.{Puts, Syncs, Seals};
@@ -10,19 +10,23 @@ ghost use Rattle.vd_passes.specs.declared.pass.Pass.{Pass as AnyPass};
 ghost use Rattle.vd_passes.specs.declared.pass.Phase.TheVariants.{Idle};
 ghost use Rattle.vd_passes.specs.Causes.{OfStore, HasNextTicket};
 ghost use Rattle.vd_passes.specs.Steps.{IsAt};
-ghost use Rattle.vd_metadata.specs.Flushing.{IsWornOut, SealsFlush};
+ghost use Rattle.vd_machine.specs.Flushing.{place_of_put, put_sector, IsWornOut, SealsFlush};
 ghost use Rattle.vd_core.specs.Stepping.{FlushBegins, FlushPuts, FlushSyncs, FlushSettles};
 ghost use Rattle.vd_core.specs.declared.flushing.Begun.TheVariants.{Going, Busy, Worn};
 ghost use Rattle.vd_device.specs.Stores.{KeepsStore};
-ghost use Rattle.vd_core.specs.Outcomes.{outcome_of, step_of};
-ghost use Rattle.vd_core.specs.Flushing.{HasAskedFlush, IsBetween, IsAway, still_flushing, flusher_after};
+ghost use Rattle.vd_machine.specs.Outcomes.{outcome_of};
+ghost use Rattle.vd_core.specs.Outcomes.{step_of};
+ghost use Rattle.vd_format.specs.Headers.{IsValid};
+ghost use Rattle.vd_format.specs.Layouts.{storage_start};
+ghost use Rattle.vd_core.specs.Flushing.{HasAskedFlush, IsBetween, IsAway, flusher_after};
 
-use crate::outcome::{Step, step_of};
+use crate::outcome::Step;
 use crate::state::Core;
-use vd_device::{Base, Store};
-use vd_keeper::Route;
-use vd_metadata as metadata;
-use vd_metadata::Outcome;
+use vd_device::{Base, Settled, Store};
+use vd_header::{Header, layout_of};
+use vd_keeper::{Put, Route};
+use vd_law::entry::Sector;
+use vd_passes::pass::Fault;
 
 /// How the beginning of a flush was answered.
 #[derive(Clone, Copy, PartialEq, Eq, Drop)]
@@ -35,13 +39,18 @@ pub enum Begun {
     Worn,
 }
 
-/// The pass whose flush is under way after a settle: none, where it has failed.
-fn still_flushing(flusher: Option<u32>, outcome: Outcome) -> Option<u32>
-    ensures { result ≡ still_flushing outcome flusher }
+/// The sector of the store that is written, and its content.
+fn placed(header: &Header, put: Put) -> (u64, Sector)
+    requires valid { IsValid header.now }
+    requires inside { place_of_put header.now put < storage_start header.now }
+    ensures at { result.0 ≡ place_of_put header.now put }
+    ensures sector { result.1 ≡ put_sector put }
 {
-    match outcome {
-        Outcome::Done | Outcome::Late => flusher,
-        Outcome::Failed => None,
+    let layout = layout_of(header);
+    match put {
+        Put::Record { slot, sector } => (layout.slots_at + u64::from(slot), sector),
+        Put::Page { at, sector } => (layout.spare_at + at, sector),
+        Put::Head { sector } => (0, sector),
     }
 }
 
@@ -69,19 +78,16 @@ impl<S: Store, B: Base> Core<S, B> {
         if let Some(by) = self.flusher {
             return Begun::Busy { by };
         }
-        let going = metadata::begin(
-            &mut self.store,
-            &mut self.keeper,
-            &mut self.passes,
-            pass as usize,
-            route,
-        );
-        if going {
-            self.flusher = Some(pass);
-            Begun::Going
-        } else {
-            Begun::Worn
+        if !self.keeper.begin(route) {
+            let fault = Fault::Worn(self.keeper.header().generation);
+            self.passes[pass as usize].end_flush(Some(fault));
+            return Begun::Worn;
         }
+        // Before any record or sector of the map is put: only a block whose data is durable is ever logged.
+        let ticket = self.store.submit_flush();
+        self.passes[pass as usize].begin_meta(ticket);
+        self.flusher = Some(pass);
+        Begun::Going
     }
 
     /// Submits what the flush under way puts next: a record, a sector of the map or the header.
@@ -98,13 +104,11 @@ impl<S: Store, B: Base> Core<S, B> {
           opening = self.new.opening;
         } }
     {
-        metadata::put(
-            &mut self.store,
-            &mut self.keeper,
-            &self.state.table,
-            &mut self.passes,
-            pass as usize,
-        );
+        let header = self.keeper.header();
+        let put = self.keeper.put(&self.state.table);
+        let (at, sector) = placed(&header, put);
+        let ticket = self.store.submit_write(at, &[sector]);
+        self.passes[pass as usize].begin_meta(ticket);
     }
 
     /// Submits the store's flush of what was put.
@@ -116,7 +120,9 @@ impl<S: Store, B: Base> Core<S, B> {
         ensures keeps { KeepsStore S.Store self.old.store self.new.store }
         ensures others { self.new ≡ record self.old { store = self.new.store; passes = self.new.passes; opening = self.new.opening } }
     {
-        metadata::sync(&mut self.store, &mut self.passes, pass as usize);
+        // Sectors of the map are durable before the header that counts on them, and records and the header before the seal.
+        let ticket = self.store.submit_flush();
+        self.passes[pass as usize].begin_meta(ticket);
     }
 
     /// Settles the call of the flush under way that is in flight. Where it failed the flush is given up: what was owed is owed still,
@@ -135,14 +141,23 @@ impl<S: Store, B: Base> Core<S, B> {
           opening = self.new.opening;
         } }
     {
-        let outcome = metadata::settle(
-            &mut self.store,
-            &mut self.keeper,
-            &mut self.passes,
-            pass as usize,
-        );
-        self.flusher = still_flushing(self.flusher, outcome);
-        step_of(outcome)
+        let ticket = self.passes[pass as usize].take_ticket();
+        match self.store.settle(ticket, &mut []) {
+            Settled::Done => {
+                self.keeper.settled(true);
+                Step::Again
+            }
+            Settled::NotYet(ticket) => {
+                self.passes[pass as usize].put_ticket(ticket);
+                Step::Late
+            }
+            Settled::Failed(number) => {
+                self.keeper.settled(false);
+                self.passes[pass as usize].fail(Fault::Store(number));
+                self.flusher = None;
+                Step::Again
+            }
+        }
     }
 
     /// Ends the flush under way: every image has its blocks from now on, and its pass is ready.
@@ -152,7 +167,8 @@ impl<S: Store, B: Base> Core<S, B> {
         ensures seals { SealsFlush pass self.old.keeping self.new.keeping self.old.passes self.new.passes }
         ensures others { self.new ≡ record self.old { keeping = self.new.keeping; flusher = None; passes = self.new.passes } }
     {
-        metadata::seal(&mut self.keeper, &mut self.passes, pass as usize);
+        self.keeper.seal();
+        self.passes[pass as usize].end_flush(None);
         self.flusher = None;
     }
 

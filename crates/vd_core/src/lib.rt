@@ -1,13 +1,7 @@
 //! The core of a disk: passes whose steps keep one legal history over a store and a base.
 #![tactic(auto)]
 
-mod adding;
-mod asking;
-mod entering;
-mod fetching;
 mod flushing;
-mod issuing;
-mod looking;
 mod opening;
 mod outcome;
 mod reads;

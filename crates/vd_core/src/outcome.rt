@@ -4,7 +4,7 @@ ghost use Rattle.std.specs.Prelude.{◌≡◌, ◌<◌, length};
 ghost use Rattle.vd_core.specs.Outcomes.{step_of, regions_after_end, regions_after_failure};
 
 use vd_law::entry::Answer;
-use vd_metadata::Outcome;
+use vd_machine::Outcome;
 use vd_regions::regions::Regions;
 
 /// What a step of a pass tells its caller.
@@ -48,15 +48,5 @@ pub(crate) fn release_failed(regions: &mut Regions, pass: u32, outcome: Outcome)
             regions.free(pass);
             Step::Again
         }
-    }
-}
-
-/// What the step tells its caller.
-pub(crate) fn step_of(outcome: Outcome) -> Step
-    ensures { result ≡ step_of outcome }
-{
-    match outcome {
-        Outcome::Late => Step::Late,
-        Outcome::Done | Outcome::Failed => Step::Again,
     }
 }

@@ -7,19 +7,21 @@ ghost use Rattle.vd_passes.specs.declared.pass.Phase.TheVariants.{Looking};
 ghost use Rattle.vd_passes.specs.Laying.{count_below};
 ghost use Rattle.vd_passes.specs.Steps.{IsAt, SeesZeros};
 ghost use Rattle.vd_core.specs.Stepping.{LooksInStore, LooksInBase, SettlesStoreLook, SettlesBaseLook};
-ghost use Rattle.vd_core.specs.Adding.{AddsEntries};
+ghost use Rattle.vd_machine.specs.Adding.{AddsEntries};
 ghost use Rattle.vd_device.specs.Stores.{KeepsStore};
 ghost use Rattle.vd_device.specs.Bases.{KeepsBase};
 ghost use Rattle.vd_passes.specs.Causes.{OfStore, OfBase, HasNextTicket};
-ghost use Rattle.vd_core.specs.Outcomes.{outcome_of, read_numbers_of, read_sectors_of, step_of};
+ghost use Rattle.vd_machine.specs.Outcomes.{outcome_of, read_numbers_of, read_sectors_of};
+ghost use Rattle.vd_core.specs.Outcomes.{step_of};
 ghost use Rattle.vd_core.specs.Looking.{IsReader, LooksSomewhere, SettlesLook};
 
-use crate::fetching::below;
-use crate::looking::{look_at_base, look_at_store, see_zeros, settle_base_look, settle_store_look};
 use crate::outcome::{Step, release};
 use crate::state::Core;
 use vd_device::{Base, Store};
 use vd_law::entry::Sector;
+use vd_machine::{
+    below, look_at_base, look_at_store, see_zeros, settle_base_look, settle_store_look,
+};
 
 impl<S: Store, B: Base> Core<S, B> {
     /// The look at a piece whose block is fresh.

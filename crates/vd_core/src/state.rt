@@ -4,7 +4,7 @@ ghost use Rattle.std.specs.Prelude.{◌≡◌, ◌<◌, ◌↔◌, IsTrue, true,
 ghost use Rattle.vd_format.specs.Headers.{IsValid};
 ghost use Rattle.vd_image.specs.Image.{geometry_of};
 ghost use Rattle.vd_passes.specs.declared.pass.Phase.TheVariants.{Flushing};
-ghost use Rattle.vd_metadata.specs.Attending.{KeeperAgrees};
+ghost use Rattle.vd_machine.specs.Attending.{KeeperAgrees};
 ghost use Rattle.vd_core.specs.History.{IsHistoryOf};
 ghost use Rattle.vd_passes.specs.Passes.{has_region};
 ghost use Rattle.vd_core.specs.Moves.{IsInPhase};

@@ -7,23 +7,22 @@ ghost use Rattle.vd_passes.specs.declared.pass.Phase.TheVariants.{Asked, Held, F
 ghost use Rattle.vd_passes.specs.Passes.{region_of};
 ghost use Rattle.vd_passes.specs.Steps.{IsAt, HasAskedWrite};
 ghost use Rattle.vd_core.specs.Stepping.{SettlesFetch, IssuesPiece, SettlesWrite};
-ghost use Rattle.vd_core.specs.Adding.{AddsEntries};
-ghost use Rattle.vd_core.specs.Outcomes.{outcome_of, numbers_of, step_of};
+ghost use Rattle.vd_machine.specs.Adding.{AddsEntries};
+ghost use Rattle.vd_machine.specs.Outcomes.{outcome_of, numbers_of};
+ghost use Rattle.vd_core.specs.Outcomes.{step_of};
 ghost use Rattle.vd_device.specs.Stores.{KeepsStore};
 ghost use Rattle.vd_device.specs.Bases.{KeepsBase};
 ghost use Rattle.vd_device.specs.Disks.{IsRunning};
 ghost use Rattle.vd_passes.specs.Causes.{OfStore, OfBase, HasNextTicket};
-ghost use Rattle.vd_core.specs.Entering.{IsKeptOut, EntersBlock};
-ghost use Rattle.vd_core.specs.Fetching.{FetchesBlock};
-ghost use Rattle.vd_core.specs.Issuing.{IsWritable, keeper_after_write};
+ghost use Rattle.vd_machine.specs.Entering.{IsKeptOut, EntersBlock};
+ghost use Rattle.vd_machine.specs.Fetching.{FetchesBlock};
+ghost use Rattle.vd_machine.specs.Issuing.{IsWritable, keeper_after_write};
 
-use crate::entering::enter_block;
-use crate::fetching::{fetch_block, settle_block};
-use crate::issuing::{issue_piece, settle_write};
 use crate::outcome::{Step, release, release_failed};
 use crate::state::Core;
 use vd_device::{Base, Store};
 use vd_law::entry::Sector;
+use vd_machine::{enter_block, fetch_block, issue_piece, settle_block, settle_write};
 use vd_regions::regions::Busy;
 
 impl<S: Store, B: Base> Core<S, B> {

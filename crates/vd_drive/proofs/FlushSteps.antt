@@ -17,18 +17,18 @@ use Rattle.vd_passes.specs.declared.pass.Phase.TheVariants.{Asked, Ready}
 use Rattle.vd_passes.specs.declared.pass.Fault.TheVariants as fault
 use Rattle.vd_passes.specs.Passes.{after_meta, after_fault, after_flush, after_reply}
 use Rattle.vd_passes.specs.Steps.{Replies}
-use Rattle.vd_metadata.specs.Attending.{KeeperAgrees}
-use Rattle.vd_metadata.specs.Flushing.{meta_state, BeginsFlush, IsWornOut, PutsNext, SyncsPuts, SettlesMeta, SealsFlush, outcome_of}
-use Rattle.vd_metadata.specs.Measures.{flush_steps}
-use Rattle.vd_metadata.proofs.Members.{same-member, set-here}
-use Rattle.vd_metadata.proofs.Attended.{is-flusher, sealed-flushing}
-use Rattle.vd_metadata.proofs.Measuring.{begin-lowers, worn-lowers, put-lowers, sync-lowers, done-lowers, failed-lowers, seal-lowers}
+use Rattle.vd_machine.specs.Attending.{KeeperAgrees}
+use Rattle.vd_machine.specs.Flushing.{meta_state, BeginsFlush, IsWornOut, PutsNext, SyncsPuts, SettlesMeta, SealsFlush, outcome_of}
+use Rattle.vd_machine.specs.Measures.{flush_steps}
+use Rattle.vd_machine.proofs.Members.{same-member, set-here}
+use Rattle.vd_machine.proofs.Attended.{is-flusher, sealed-flushing}
+use Rattle.vd_machine.proofs.Measuring.{begin-lowers, worn-lowers, put-lowers, sync-lowers, done-lowers, failed-lowers, seal-lowers}
 use Rattle.vd_core.specs.declared.outcome.Step.{Step}
 use Rattle.vd_core.specs.declared.outcome.Step.TheVariants.{Again, Busy, Ended}
 use Rattle.vd_core.specs.Flushing.{flusher_after}
 use Rattle.vd_core.specs.Outcomes.{step_of}
 use Rattle.vd_drive.specs.Driving.{DrivesFlush, flush_work}
-use Rattle.vd_core.proofs.Ended.{set-there}
+use Rattle.vd_machine.proofs.Ended.{set-there}
 use Rattle.vd_core.proofs.Moving.{quiet, adds, same-room}
 
 module _ {i : ℕ} {flusher flusher' : Option ℕ} where

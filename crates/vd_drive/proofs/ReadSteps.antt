@@ -10,7 +10,8 @@ use Rattle.vd_passes.specs.declared.pass.Pass.{Pass}
 use Rattle.vd_passes.specs.declared.pass.Phase.TheVariants.{Held, Looking}
 use Rattle.vd_passes.specs.declared.pass.Fault.TheVariants as fault
 use Rattle.vd_core.specs.declared.outcome.Step.TheVariants.{Again}
-use Rattle.vd_core.specs.Outcomes.{outcome_of, step_of}
+use Rattle.vd_machine.specs.Outcomes.{outcome_of}
+use Rattle.vd_core.specs.Outcomes.{step_of}
 use Rattle.vd_core.specs.View.{View}
 use Rattle.vd_core.specs.Looking.{LooksSomewhere, SettlesLook}
 use Rattle.vd_core.specs.Moves.{Drives, work, IsInPhase}

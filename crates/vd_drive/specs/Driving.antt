@@ -6,7 +6,7 @@ use Rattle.vd_keeper.specs.Keeping.{KeeperState}
 use Rattle.vd_passes.specs.declared.pass.Pass.{Pass}
 use Rattle.vd_passes.specs.declared.pass.Phase.TheVariants.{Idle, Asked, Flushing, Ready}
 use Rattle.vd_passes.specs.Passes.{call_id, answer_of}
-use Rattle.vd_metadata.specs.Measures.{flush_steps}
+use Rattle.vd_machine.specs.Measures.{flush_steps}
 use Rattle.vd_core.specs.declared.outcome.Step.{Step}
 use Rattle.vd_core.specs.declared.outcome.Step.TheVariants.{Again, Late, Busy, Ended}
 use Rattle.vd_core.specs.View.{View}

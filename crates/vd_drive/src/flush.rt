@@ -5,9 +5,9 @@ ghost use Rattle.vd_device.specs.Stores.{IsTold, KeepsStore};
 ghost use Rattle.vd_passes.specs.declared.pass.Phase.TheVariants.{Idle, Flushing};
 ghost use Rattle.vd_passes.specs.Steps.{IsAt};
 ghost use Rattle.vd_core.specs.declared.outcome.Step.TheVariants.{Late};
-ghost use Rattle.vd_metadata.specs.Attending.{KeeperAgrees};
 ghost use Rattle.vd_drive.specs.Driving.{DrivesFlush, flush_work_of};
 ghost use Rattle.vd_law.specs.Counts.{Rose};
+ghost use Rattle.vd_machine.specs.Attending.{KeeperAgrees};
 
 use vd_core::{Begun, Core, Step};
 use vd_device::{Base, Store};

@@ -37,7 +37,6 @@ use Rattle.vd_passes.specs.declared.shape.Shape.{Shape}
 use Rattle.vd_passes.specs.Causes.{Device, OfStore, OfBase, AreCaused}
 use Rattle.vd_passes.specs.Tracing.{AreTraced, IsTicketOf, FailsBetween}
 use Rattle.vd_core.specs.View.{View}
-use Rattle.vd_core.specs.Asking.{Suffices}
 use Rattle.vd_core.specs.Start.{ToldAtOpening, opening_at, IsStart, WasSafe}
 use Rattle.vd_core.specs.Storing.{AreFullsCaused}
 use Rattle.vd_core.specs.Showing.{EndsFlushed, MayHold, ShowsCould}
@@ -58,6 +57,7 @@ use Rattle.vd_run.proofs.SafeLaws.{flush_reads, was_safe}
 use Rattle.vd_run.proofs.LaterLaws.{safe_later}
 use Rattle.vd_format.specs.Background.{zero_sector, base_at}
 use Rattle.vd_lists.proofs.Lists.{slice_get_front}
+use Rattle.vd_machine.specs.Asking.{Suffices}
 
 -- a valid disk is whole blocks
 pub whole_disk : (h : Header) → IsValid h → h.block * blocks_of h ≡ h.size

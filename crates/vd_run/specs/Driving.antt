@@ -8,7 +8,7 @@ use Rattle.vd_passes.specs.declared.shape.Shape.{Shape}
 use Rattle.vd_passes.specs.declared.pass.Pass.{Pass}
 use Rattle.vd_passes.specs.Needs.{need_of}
 use Rattle.vd_core.specs.View.{View}
-use Rattle.vd_core.specs.Asking.{HasSize, Suffices}
+use Rattle.vd_machine.specs.Asking.{HasSize, Suffices}
 use Rattle.vd_run.specs.Serving.{IsResting, requests_in}
 
 -- The request can be served: it is in order, and the spare room suffices for it.

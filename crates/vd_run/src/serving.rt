@@ -8,10 +8,10 @@ ghost use Rattle.vd_law.specs.Entries.{Read, Write, Flush};
 ghost use Rattle.vd_device.specs.Stores.{KeepsStore};
 ghost use Rattle.vd_device.specs.Bases.{KeepsBase};
 ghost use Rattle.vd_passes.specs.Needs.{need_of as pass_need_of};
-ghost use Rattle.vd_core.specs.Asking.{Suffices};
 ghost use Rattle.vd_run.specs.Serving.{IsServable, IsResting, IsUnused, IsServed, AddsAnsweredFlush, Closes};
 ghost use Rattle.vd_run.specs.Driving.{CanServe, Serves, IsSameDisk, with_flush};
 ghost use Rattle.vd_device.specs.Patients.{patient_store, patient_base};
+ghost use Rattle.vd_machine.specs.Asking.{Suffices};
 
 use vd_core::{Core, Step};
 use vd_device::{Base, Patient, Store};

@@ -38,13 +38,13 @@ use Rattle.vd_passes.specs.declared.pass.Phase.TheVariants.{Asked}
 use Rattle.vd_passes.specs.declared.pass.Fault.TheVariants.{Worn}
 use Rattle.vd_passes.specs.Passes.{call_id, after_meta, after_flush}
 use Rattle.vd_passes.specs.Steps.{meta_entry}
-use Rattle.vd_metadata.specs.Flushing.{meta_state, BeginsFlush, IsWornOut}
 use Rattle.vd_safety.specs.Mirrors.{bit_of, IsStageOf, IsBegunOf, IsOfHeader, HasSafeMirror}
 use Rattle.vd_safety.proofs.Records.{by-header}
 use Rattle.vd_safety.proofs.Marked.{chunk-among, chunk-inside, page-among, still-marked}
 use Rattle.vd_safety.proofs.Updates.{updated-same}
 use Rattle.vd_safety.proofs.Flying.{is_bare, flights-set, idle-flight}
 use Rattle.vd_safety.proofs.Stepping.{IsFlushing, keeps-at, stage-by, moved, flights-after, secured-as}
+use Rattle.vd_machine.specs.Flushing.{meta_state, BeginsFlush, IsWornOut}
 
 -- ---- the way of a flush
 

@@ -40,7 +40,6 @@ use Rattle.vd_passes.specs.declared.pass.Pass.{Pass}
 use Rattle.vd_passes.specs.declared.pass.Phase.TheVariants.{Flushing}
 use Rattle.vd_passes.specs.Passes.{call_id, after_meta}
 use Rattle.vd_passes.specs.Steps.{meta_entry}
-use Rattle.vd_metadata.specs.Flushing.{meta_state, PutsNext, place_of_put, put_sector}
 use Rattle.vd_safety.specs.Mirrors.{bit_of, IsBegunOf, IsProgressOf, Nowhere, InRecordOf, InPageOf, IsStageBy, Mirrors, HasSafeMirror}
 use Rattle.vd_safety.proofs.Records.{IsMemoryOf}
 use Rattle.vd_safety.proofs.Slots.{record-wanted, record-names, logged-more}
@@ -50,6 +49,7 @@ use Rattle.vd_safety.proofs.Updates.{bit-is, bit-set-same, bit-set-other}
 use Rattle.vd_safety.proofs.Flying.{is_bare}
 use Rattle.vd_safety.proofs.Stepping.{IsFlushing, flusher-is, flusher-as, keeps-at, ticket-new, stage-at, stage-by, moved, flights-after, secured-as}
 use Rattle.vd_safety.proofs.Putting.{one-writes, one-covers, puts-data, puts-syncs, puts-seals, puts-possible, puts-due, records-recycle, records-plain, plain-recycle, slot-left, kept-apart, kept-first, slot-at, map-at, header-at, same-chunks, same-slots, same-map, map-same}
+use Rattle.vd_machine.specs.Flushing.{meta_state, PutsNext, place_of_put, put_sector}
 
 -- what a flush was begun with, after a put
 begun-put : (k k' : KeeperState) → IsBegunOf k → k.stage ≡ Puts → k'.stage ≡ Puts → (is_recycle k'.way ≡ false → (k'.sure ≡ k.sure) × (k'.marked ≡ k.marked) × (k'.put ≡ k.put) × (k'.head ≡ k.head)) → k'.header ≡ k.header → k'.way ≡ k.way → k'.snapshot ≡ k.snapshot

@@ -2,7 +2,7 @@
 use Rattle.std.proofs.Common.{◌≡◌, inl, inr, ℕ, zero, suc, ◌+◌, ◌-◌, ◌/◌, ◌<◌, ◌≤◌, Bool, true, false, List, [], ◌∷◌, length, Some, None, slice_get, sym, refl, ap, ◌∙◌, arith, subst}
 use Rattle.vd_law.specs.declared.entry.Sector.{Sector}
 use Rattle.vd_law.specs.declared.entry.CallId.{CallId}
-use Rattle.vd_law.specs.Entries.{Issue}
+use Rattle.vd_law.specs.Entries.{Issue, Entry}
 use Rattle.vd_format.specs.declared.header.Header.{Header}
 use Rattle.vd_format.specs.Layouts.{chunks_of, slots_start, map_start}
 use Rattle.vd_table.specs.Tables.{TableState}
@@ -14,7 +14,6 @@ use Rattle.vd_crash.specs.flushes.Stage.{Flight, FlushProgress}
 use Rattle.vd_crash.specs.primitives.Core.{Working}
 use Rattle.vd_crash.specs.primitives.Primitives.{State, state}
 use Rattle.vd_crash.specs.primitives.Keeping.{KeepsCrashSafety}
-use Rattle.vd_law.specs.Entries.{Entry}
 use Rattle.vd_keeper.specs.declared.stage.Stage.{Stage}
 use Rattle.vd_keeper.specs.declared.stage.Stage.TheVariants.{Rest, DataFlush, Puts, Syncs, Seals, Broken}
 use Rattle.vd_keeper.specs.declared.stage.Way.TheVariants as ways
@@ -25,12 +24,12 @@ use Rattle.vd_keeper.specs.Moves.{HasPutDue}
 use Rattle.vd_keeper.proofs.Flushed.{is-possible}
 use Rattle.vd_passes.specs.declared.shape.Shape.{Shape}
 use Rattle.vd_passes.specs.declared.pass.Pass.{Pass}
-use Rattle.vd_metadata.specs.Attending.{IsAtStage}
 use Rattle.vd_safety.specs.Mirrors.{IsOfHeader}
 use Rattle.vd_safety.proofs.Records.{by-header}
 use Rattle.vd_safety.proofs.Updates.{some-inj}
 use Rattle.vd_safety.proofs.Stepping.{IsFlushing}
 use Rattle.vd_crash.specs.facts.Memory.{Memory}
+use Rattle.vd_machine.specs.Attending.{IsAtStage}
 
 -- ---- an event that writes one sector
 

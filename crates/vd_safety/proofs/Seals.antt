@@ -28,7 +28,6 @@ use Rattle.vd_passes.specs.declared.shape.Shape.{Shape}
 use Rattle.vd_passes.specs.declared.pass.Pass.{Pass}
 use Rattle.vd_passes.specs.declared.pass.Phase.TheVariants.{Flushing}
 use Rattle.vd_passes.specs.Passes.{call_id, after_flush}
-use Rattle.vd_metadata.specs.Flushing.{SealsFlush}
 use Rattle.vd_safety.specs.Mirrors.{IsSnapshotOf, bit_of, Mirrors, HasSafeMirror}
 use Rattle.vd_safety.proofs.Updates.{updated, is-updated}
 use Rattle.vd_safety.proofs.Flying.{is_bare, flights-set, idle-flight}
@@ -37,6 +36,7 @@ use Rattle.vd_safety.proofs.Marked.{chunk-inside}
 use Rattle.vd_safety.proofs.Heads.{next-generation}
 use Rattle.vd_safety.proofs.Putting.{same-chunks}
 use Rattle.vd_safety.proofs.Stepping.{IsFlushing, flusher-is, keeps-at, stage-at, pending-after, secured-as}
+use Rattle.vd_machine.specs.Flushing.{SealsFlush}
 
 -- the header after it
 plain-header : (w : way.Way) (h : Header) → is_recycle w ≡ false → next_header w h ≡ h

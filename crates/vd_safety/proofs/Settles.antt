@@ -21,7 +21,7 @@ use Rattle.vd_passes.specs.declared.shape.Shape.{Shape}
 use Rattle.vd_passes.specs.declared.pass.Pass.{Pass}
 use Rattle.vd_passes.specs.declared.pass.Phase.TheVariants.{Flushing}
 use Rattle.vd_passes.specs.Steps.{meta_settled}
-use Rattle.vd_metadata.specs.Flushing.{meta_state, SettlesMeta, keeper_after}
+use Rattle.vd_machine.specs.Flushing.{meta_state, SettlesMeta, keeper_after}
 use Rattle.vd_safety.specs.Mirrors.{Mirrors, HasSafeMirror}
 use Rattle.vd_safety.proofs.Updates.{set-same}
 use Rattle.vd_safety.proofs.Stepping.{IsFlushing, flusher-is, flusher-as, secured-as}

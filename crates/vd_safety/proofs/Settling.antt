@@ -25,7 +25,7 @@ use Rattle.vd_keeper.proofs.NextChunks.{all-none}
 use Rattle.vd_passes.specs.declared.shape.Shape.{Shape}
 use Rattle.vd_passes.specs.declared.pass.Pass.{Pass}
 use Rattle.vd_passes.specs.declared.pass.Phase.TheVariants.{Flushing}
-use Rattle.vd_metadata.specs.Attending.{IsAtStage}
+use Rattle.vd_machine.specs.Attending.{IsAtStage}
 use Rattle.vd_safety.specs.Mirrors.{bit_of, IsBegunOf, IsStageOf, Mirrors, HasSafeMirror}
 use Rattle.vd_safety.proofs.Updates.{some-inj}
 use Rattle.vd_safety.proofs.Flying.{is_bare}

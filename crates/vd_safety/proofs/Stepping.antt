@@ -22,7 +22,7 @@ use Rattle.vd_passes.specs.declared.pass.Pass.{Pass}
 use Rattle.vd_passes.specs.declared.pass.Phase.TheVariants.{Flushing, Issuing}
 use Rattle.vd_passes.specs.declared.shape.Shape.{Shape}
 use Rattle.vd_passes.specs.Passes.{call_id}
-use Rattle.vd_metadata.specs.Attending.{KeeperAgrees}
+use Rattle.vd_machine.specs.Attending.{KeeperAgrees}
 use Rattle.vd_safety.specs.Mirrors.{bit_of, AreFlightsOf, IsPendingOf, IsBegunOf, IsStageBy, IsStageOf, Mirrors, HasSafeMirror, IsOfHeader}
 use Rattle.vd_safety.proofs.Updates.{some-inj, get-set-same, updated-same}
 use Rattle.vd_safety.proofs.Flying.{is_bare, flying, idle-flight, flight-bare, flights-set, pending-other}

@@ -28,7 +28,7 @@ use Rattle.vd_passes.specs.declared.pass.Pass.{Pass}
 use Rattle.vd_passes.specs.declared.pass.Phase.TheVariants.{Idle, Asked as HasAsked}
 use Rattle.vd_passes.specs.Passes.{IsAsHistorySays, IsRequestOf, call_id}
 use Rattle.vd_passes.specs.Standings.{standing}
-use Rattle.vd_metadata.specs.Attending.{KeeperAgrees}
+use Rattle.vd_machine.specs.Attending.{KeeperAgrees}
 use Rattle.vd_safety.specs.Mirrors.{bit_of, storage_given, IsOfHeader, HasSafeMirror}
 use Rattle.vd_safety.proofs.Records.{by-header}
 use Rattle.vd_safety.proofs.Surroundings.{Surroundings}

@@ -11,7 +11,7 @@ use Rattle.vd_table.specs.Tables.{TableState}
 use Rattle.vd_image.specs.Image.{Geometry}
 use Rattle.vd_crash.specs.facts.Safe.{Opening}
 use Rattle.vd_keeper.specs.Keeping.{KeeperState}
-use Rattle.vd_metadata.specs.Attending.{KeeperAgrees}
+use Rattle.vd_machine.specs.Attending.{KeeperAgrees}
 use Rattle.vd_passes.specs.declared.shape.Shape.{Shape}
 use Rattle.vd_passes.specs.declared.pass.Pass.{Pass}
 use Rattle.vd_passes.specs.declared.pass.Phase.TheVariants.{Filled, Flushing}

@@ -23,10 +23,10 @@ use Rattle.vd_passes.specs.declared.pass.Pass.{Pass}
 use Rattle.vd_passes.specs.declared.pass.Phase.TheVariants.{Flushing}
 use Rattle.vd_passes.specs.Passes.{call_id, after_meta}
 use Rattle.vd_passes.specs.Steps.{meta_entry}
-use Rattle.vd_metadata.specs.Flushing.{SyncsPuts}
 use Rattle.vd_safety.specs.Mirrors.{Mirrors, IsStageOf, HasSafeMirror}
 use Rattle.vd_safety.proofs.Flying.{is_bare}
 use Rattle.vd_safety.proofs.Stepping.{IsFlushing, flusher-is, flusher-as, keeps-at, stage-at, stage-by, moved, flights-after, secured-as}
+use Rattle.vd_machine.specs.Flushing.{SyncsPuts}
 
 -- A core where a pass that flushes is about to ask it.
 module _ (o : Opening) (table : TableState) (fresh : List Bool) (k : KeeperState) (passes : List Pass) (history : HistoryState) (log : List Entry) (s : State) (i : ℕ) (p : Pass) (t : Ticket)

@@ -24,9 +24,9 @@ use Rattle.vd_passes.specs.Causes.{OfStore, OfBase, HasNextTicket}
 use Rattle.vd_passes.proofs.Blaming.{new-blamed}
 use Rattle.vd_passes.proofs.BlamingSteps.{enters-blamed, fetches-blamed, fetches-store_blamed, fills-blamed, fills-store_blamed, fetch_settled-blamed, fetch_settled-store_blamed, issues-blamed, issues-base_blamed, write_settled-blamed, write_settled-base_blamed, looks-blamed, looks-base_blamed, base_looks-blamed, base_looks-store_blamed, sees_zeros-blamed, look_settled-blamed, look_settled-base_blamed, base_look_settled-blamed, base_look_settled-store_blamed, replies-blamed, asks-blamed, asks_full-blamed}
 use Rattle.vd_passes.proofs.Answered.{none-of-passes, set-of-passes, issues-of-passes, write_settled-of-passes, sees-of-passes, look_settled-of-passes, base_look_settled-of-passes, replies-of-passes, asks-of-passes, asks_full-of-passes}
-use Rattle.vd_core.specs.Asking.{ask_state, CanAsk, AskEnds}
-use Rattle.vd_core.specs.Entering.{IsKeptOut, EntersBlock}
-use Rattle.vd_core.specs.Fetching.{FetchesIn}
+use Rattle.vd_machine.specs.Asking.{ask_state, CanAsk, AskEnds}
+use Rattle.vd_machine.specs.Entering.{IsKeptOut, EntersBlock}
+use Rattle.vd_machine.specs.Fetching.{FetchesIn}
 use Rattle.vd_core.specs.Kept.{counted_as, IsExplained}
 use Rattle.vd_core.specs.Local.{AreLocalBy}
 use Rattle.vd_core.specs.Opening.{AreNew}

@@ -22,9 +22,9 @@ use Rattle.vd_passes.proofs.PlacesGiven.{are-places}
 use Rattle.vd_passes.proofs.Needing.{room-idle, room-asked}
 use Rattle.vd_passes.proofs.Holding.{phase-at, asks-regions, asks_full-regions}
 use Rattle.vd_passes.proofs.Asking.{IsPlaced, asks-coherent, asks-faithful, asks_full-coherent, asks_full-faithful}
-use Rattle.vd_core.specs.Asking.{ask_state, CanAsk, HasSize, EndsFull, EndsAsked, AskEnds}
-use Rattle.vd_core.specs.Kept.{RoomIsReserved, IsSoundCore, IsFaithfullyKept}
-use Rattle.vd_core.proofs.Claiming.{some-sectors, need-events, need-sectors, inside-more, run-inside, run-placed, claim-extends, claim-storage}
+use Rattle.vd_machine.specs.Asking.{ask_state, CanAsk, HasSize, Claims, EndsFull, EndsAsked, AskEnds}
+use Rattle.vd_core.specs.Kept.{RoomIsReserved, IsStorage, IsSoundCore, IsFaithfullyKept}
+use Rattle.vd_machine.proofs.Claiming.{some-sectors, need-events, need-sectors, inside-more, run-inside, run-placed, claim-extends}
 use Rattle.vd_core.proofs.Reserving.{room-shared}
 use Rattle.vd_core.proofs.Keeping.Telling.{told-here}
 use Rattle.vd_passes.specs.Needs.{need_of}
@@ -34,6 +34,15 @@ asked-has : (p : Pass) (r : Asked) (events sectors : ℕ) → ((after_ask p r ev
 asked-has p (Read first count) events sectors = (refl, refl, refl)
 asked-has p (Write first content) events sectors = (refl, refl, refl)
 asked-has p Flush events sectors = (refl, refl, refl)
+
+-- the storage of the table is still in the store
+claim-storage : {shape : Shape} {table table' : TableState} {sectors from count : ℕ} → IsStorage shape table sectors → Claims table table' from count → IsStorage shape table' sectors
+claim-storage {shape} {table} {table'} {sectors} {from} {count} storage claims = record {
+  chunks = λ b in_disk. let h = storage.chunks b in_disk in let e = claims.chunks in omega arith;
+  few = let h = storage.few in let e = claims.chunks in omega arith;
+  one_to_one = claims.one_to_one;
+  inside = rw claims.storage storage.inside;
+}
 
 module _ {shape : Shape} {state : State} {regions : List (Option Region)} {passes : List Pass} {history : HistoryState} {spare : Room} {S B : Type 0} {g : store.Ghosts S} {h : base.Ghosts B} {s : S} {b : B}
     (request : Asked) (i : ℕ) (kept : IsSoundCore g h shape state regions passes history spare s b)

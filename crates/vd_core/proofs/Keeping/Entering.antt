@@ -19,7 +19,7 @@ use Rattle.vd_passes.proofs.Lists.{some-inj}
 use Rattle.vd_passes.proofs.Needing.{is_before_event, room-entered}
 use Rattle.vd_passes.proofs.Holding.{region_on}
 use Rattle.vd_passes.proofs.Entering.{enters-coherent, enters-faithful, enters-regions}
-use Rattle.vd_core.specs.Entering.{CanEnter, EntersBlock, IsKeptOut}
+use Rattle.vd_machine.specs.Entering.{CanEnter, EntersBlock, IsKeptOut}
 use Rattle.vd_core.specs.Kept.{IsSoundCore, IsFaithfullyKept}
 use Rattle.vd_core.proofs.Rooming.{room-same}
 use Rattle.vd_core.proofs.Keeping.Telling.{told-here}

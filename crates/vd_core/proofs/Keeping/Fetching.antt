@@ -22,8 +22,9 @@ use Rattle.vd_passes.proofs.Lists.{some-inj}
 use Rattle.vd_passes.proofs.Needing.{is_before_event, room-fetched, room-filled, room-failed}
 use Rattle.vd_passes.proofs.Holding.{phase-at, fetches-regions, fills_zeros-regions, fetch_settled-regions, regions_fetched}
 use Rattle.vd_passes.proofs.Fetching.{IsToFill, fetches-coherent, fetches-faithful, fills_zeros-coherent, fills_zeros-faithful, fetch_settled-coherent, fetch_settled-faithful, waiting-for-fetch, fetch-count}
-use Rattle.vd_core.specs.Outcomes.{outcome_of, regions_after_failure}
-use Rattle.vd_core.specs.Fetching.{FetchesBlock}
+use Rattle.vd_machine.specs.Outcomes.{outcome_of}
+use Rattle.vd_core.specs.Outcomes.{regions_after_failure}
+use Rattle.vd_machine.specs.Fetching.{FetchesBlock}
 use Rattle.vd_core.specs.Kept.{IsSoundCore, IsFaithfullyKept}
 use Rattle.vd_core.proofs.Rooming.{room-same}
 use Rattle.vd_core.proofs.Keeping.Devices.{flight-kept, backed}

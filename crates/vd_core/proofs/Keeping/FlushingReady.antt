@@ -33,13 +33,13 @@ use Rattle.vd_passes.specs.Passes.{HasInFlight, IsMeta}
 use Rattle.vd_passes.specs.Steps.{IsAt}
 use Rattle.vd_passes.proofs.Flushing.{store-place, flushing-ticket, below-free}
 use Rattle.vd_passes.proofs.PlacesGiven.{place-from}
-use Rattle.vd_metadata.specs.Attending.{IsAtStage, KeeperAgrees}
-use Rattle.vd_metadata.specs.Flushing.{meta_state, BeginsFlush, IsWornOut, PutsNext, SyncsPuts, SettlesMeta, SealsFlush, IsWaitingMeta, outcome_of}
-use Rattle.vd_metadata.proofs.Stages.{gone-left}
-use Rattle.vd_metadata.proofs.Attended.{is-flusher, at-stage, due-at, begin-attended, worn-attended, put-attended, sync-attended, done-attended, late-attended, failed-attended, seal-attended}
-use Rattle.vd_metadata.proofs.Others.{adopting-attended}
-use Rattle.vd_metadata.proofs.Stored.{attended-storage}
-use Rattle.vd_core.specs.Flushing.{HasAskedFlush, IsBetween, IsAway, still_flushing, flusher_after}
+use Rattle.vd_machine.specs.Attending.{IsAtStage, KeeperAgrees}
+use Rattle.vd_machine.specs.Flushing.{meta_state, BeginsFlush, IsWornOut, PutsNext, SyncsPuts, SettlesMeta, SealsFlush, IsWaitingMeta}
+use Rattle.vd_machine.proofs.Stages.{gone-left}
+use Rattle.vd_machine.proofs.Attended.{is-flusher, at-stage, due-at, begin-attended, worn-attended, put-attended, sync-attended, done-attended, late-attended, failed-attended, seal-attended}
+use Rattle.vd_machine.proofs.Others.{adopting-attended}
+use Rattle.vd_machine.proofs.Stored.{attended-storage}
+use Rattle.vd_core.specs.Flushing.{HasAskedFlush, IsBetween, IsAway, flusher_after}
 use Rattle.vd_core.specs.Kept.{IsSoundCore, MetadataAgrees}
 use Rattle.vd_core.proofs.Local.{same-marks, more-marks}
 
@@ -169,11 +169,6 @@ module _ {shape : Shape} {state : State} {passes passes' : List Pass} {flusher :
     same = ap (λ (x : KeeperState). geometry_of x.header) step.after ∙ next-same k.way k.header ∙ was.same;
     stale = same-marks shape state.map (ap (λ (x : KeeperState). x.stale) step.after) (more-marks shape state.map k.stale k.snapshot was.stale);
   }
-
-pub still-after : (answer : Settled) (flusher : Option ℕ) → still_flushing (outcome_of answer) flusher ≡ flusher_after answer flusher
-still-after settled.Done flusher = refl
-still-after (settled.NotYet same) flusher = refl
-still-after (settled.Failed number) flusher = refl
 
 module _ {shape : Shape} {state : State} {passes passes' : List Pass} {flusher : Option ℕ} {k : KeeperState} {i : ℕ} where
   pub sync-recorded : {S : Type 0} {g : store.Ghosts S} {s s' : S} → MetadataAgrees shape state passes flusher k → k.stage ≡ Syncs

@@ -15,9 +15,9 @@ use Rattle.vd_passes.specs.declared.pass.Phase.TheVariants.{Idle, Asked as HasAs
 use Rattle.vd_passes.specs.Steps.{IsAt}
 use Rattle.vd_passes.specs.Following.{IsFollowed}
 use Rattle.vd_passes.proofs.TracingSteps.{enters-followed, fetches-followed, fills-followed, asks-followed, asks_full-followed}
-use Rattle.vd_core.specs.Asking.{ask_state, AskEnds}
-use Rattle.vd_core.specs.Entering.{IsKeptOut, EntersBlock}
-use Rattle.vd_core.specs.Fetching.{FetchesIn}
+use Rattle.vd_machine.specs.Asking.{ask_state, AskEnds}
+use Rattle.vd_machine.specs.Entering.{IsKeptOut, EntersBlock}
+use Rattle.vd_machine.specs.Fetching.{FetchesIn}
 
 module _ (shape : Shape) (chunks : List (Option ℕ)) (regions regions' : List (Option Region)) {passes passes' : List Pass} {history : List Entry} {numbers : List ℕ} {log : List Entry}
     (followed : IsFollowed passes history numbers log) (i : ℕ) where

@@ -18,9 +18,9 @@ use Rattle.vd_passes.proofs.Needing.{is_before_event, room-issued}
 use Rattle.vd_passes.proofs.Ready.{IsHolding, holding-region, can-write-asked}
 use Rattle.vd_passes.proofs.Issuing.{issues-coherent, issues-faithful}
 use Rattle.vd_passes.proofs.Holding.{issues-regions}
-use Rattle.vd_core.specs.Adding.{AddsEntries}
+use Rattle.vd_machine.specs.Adding.{AddsEntries}
 use Rattle.vd_core.proofs.Keeping.Devices.{piece-short}
-use Rattle.vd_core.specs.Issuing.{CanIssue, IsWritable}
+use Rattle.vd_machine.specs.Issuing.{CanIssue, IsWritable}
 use Rattle.vd_core.specs.Kept.{IsSoundCore, LogAgrees, IsFaithfullyKept}
 use Rattle.vd_core.proofs.Rooming.{can-add, room-used}
 use Rattle.vd_core.proofs.Keeping.Telling.{told-on}

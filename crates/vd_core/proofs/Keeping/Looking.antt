@@ -26,7 +26,7 @@ use Rattle.vd_passes.proofs.Ready.{can-read}
 use Rattle.vd_passes.proofs.Fetching.{can-read-base}
 use Rattle.vd_passes.proofs.LookingAt.{IsToLook}
 use Rattle.vd_passes.proofs.LookSteps.{looks-coherent, looks-faithful, looks_at_base-coherent, looks_at_base-faithful, sees_zeros-coherent, sees_zeros-faithful}
-use Rattle.vd_core.specs.Adding.{CanAdd, AddsEntries}
+use Rattle.vd_machine.specs.Adding.{CanAdd, AddsEntries}
 use Rattle.vd_core.proofs.Keeping.Devices.{piece-short}
 use Rattle.vd_core.specs.Looking.{IsReader}
 use Rattle.vd_core.specs.Kept.{IsSoundCore, LogAgrees, IsFaithfullyKept}

@@ -9,7 +9,7 @@ use Rattle.vd_replay.specs.States.{IsWholeState, StateSays}
 use Rattle.vd_passes.specs.declared.pass.Pass.{Pass}
 use Rattle.vd_passes.specs.Tracks.{track}
 use Rattle.vd_passes.proofs.Tracing.{new-followed}
-use Rattle.vd_metadata.proofs.Others.{new-attended}
+use Rattle.vd_machine.proofs.Others.{new-attended}
 use Rattle.vd_core.specs.Kept.{IsFaithfullyKept, LogAgrees, MetadataAgrees}
 use Rattle.vd_core.proofs.Local.{new-marks}
 use Rattle.vd_core.specs.Opening.{disk_shape, AreNew, empty_history, new_keeping}

@@ -28,12 +28,12 @@ use Rattle.vd_passes.specs.declared.pass.Phase.TheVariants.{Idle, Asked as HasAs
 use Rattle.vd_passes.specs.Passes.{after_ask}
 use Rattle.vd_passes.specs.Steps.{IsAt, after_base_read, FetchSettled, Issues, EndsWrite, WriteSettled, Looks, LooksAtBase, Sees, EndsRead, LookSettled, BaseLookSettled, Replies}
 use Rattle.vd_passes.proofs.Lists.{some-inj, length-set'}
-use Rattle.vd_metadata.specs.Attending.{KeeperAgrees}
-use Rattle.vd_metadata.proofs.Others.{pass-attended, table-attended, owing-attended}
-use Rattle.vd_core.specs.Asking.{ask_state, AskEnds}
-use Rattle.vd_core.specs.Entering.{IsKeptOut, EntersBlock}
-use Rattle.vd_core.specs.Fetching.{FetchesIn}
-use Rattle.vd_core.specs.Issuing.{keeper_after_write}
+use Rattle.vd_machine.specs.Attending.{KeeperAgrees}
+use Rattle.vd_machine.proofs.Others.{pass-attended, table-attended, owing-attended}
+use Rattle.vd_machine.specs.Asking.{ask_state, AskEnds}
+use Rattle.vd_machine.specs.Entering.{IsKeptOut, EntersBlock}
+use Rattle.vd_machine.specs.Fetching.{FetchesIn}
+use Rattle.vd_machine.specs.Issuing.{keeper_after_write}
 use Rattle.vd_core.specs.Kept.{MetadataAgrees}
 use Rattle.vd_core.proofs.Local.{same-marks}
 

@@ -21,8 +21,8 @@ use Rattle.vd_passes.proofs.Lists.{some-inj}
 use Rattle.vd_passes.proofs.Needing.{sum-part, room-reply, room-replied}
 use Rattle.vd_passes.proofs.Holding.{phase-at, replies-regions}
 use Rattle.vd_passes.proofs.Asking.{replies-coherent, replies-faithful}
-use Rattle.vd_core.specs.Adding.{AddsEntries}
-use Rattle.vd_core.specs.Asking.{CanReply, IsOkWhereDone, room_after_reply}
+use Rattle.vd_machine.specs.Adding.{AddsEntries}
+use Rattle.vd_machine.specs.Asking.{CanReply, IsOkWhereDone, room_after_reply}
 use Rattle.vd_core.specs.Kept.{RoomIsReserved, IsSoundCore, IsFaithfullyKept}
 use Rattle.vd_core.proofs.Reserving.{room-shared}
 use Rattle.vd_core.proofs.Keeping.Telling.{told-here}

@@ -28,8 +28,9 @@ use Rattle.vd_passes.proofs.Needing.{is_before_event, room-failed, room-seen}
 use Rattle.vd_passes.proofs.Holding.{regions_ended, look_settled-regions, base_look_settled-regions}
 use Rattle.vd_passes.proofs.Settling.{in-flight}
 use Rattle.vd_passes.proofs.LookSteps.{look_settled-coherent, look_settled-faithful, base_look_settled-coherent, base_look_settled-faithful}
-use Rattle.vd_core.specs.Adding.{CanAdd, AddsEntries}
-use Rattle.vd_core.specs.Outcomes.{outcome_of, read_numbers_of, read_sectors_of, regions_after_end}
+use Rattle.vd_machine.specs.Adding.{CanAdd, AddsEntries}
+use Rattle.vd_machine.specs.Outcomes.{outcome_of, read_numbers_of, read_sectors_of}
+use Rattle.vd_core.specs.Outcomes.{regions_after_end}
 use Rattle.vd_core.specs.Kept.{IsSoundCore, LogAgrees, IsFaithfullyKept, RoomIsReserved}
 use Rattle.vd_core.proofs.Rooming.{room-used, room-late}
 use Rattle.vd_core.proofs.Keeping.Devices.{backed}

@@ -23,8 +23,9 @@ use Rattle.vd_passes.proofs.Needing.{pieces-left, room-written, room-broke}
 use Rattle.vd_passes.proofs.Regions.{region-of, issuing-write}
 use Rattle.vd_passes.proofs.Settling.{waiting-write, write_settled-coherent, write_settled-faithful}
 use Rattle.vd_passes.proofs.Holding.{regions_ended, write_settled-regions}
-use Rattle.vd_core.specs.Adding.{CanAdd, AddsEntries}
-use Rattle.vd_core.specs.Outcomes.{outcome_of, numbers_of, regions_after_end}
+use Rattle.vd_machine.specs.Adding.{CanAdd, AddsEntries}
+use Rattle.vd_machine.specs.Outcomes.{outcome_of, numbers_of}
+use Rattle.vd_core.specs.Outcomes.{regions_after_end}
 use Rattle.vd_core.specs.Kept.{RoomIsReserved, IsSoundCore, LogAgrees, IsFaithfullyKept}
 use Rattle.vd_core.proofs.Rooming.{can-add, room-used, room-late}
 use Rattle.vd_core.proofs.Starting.{settle-goes-on}

@@ -17,8 +17,8 @@ use Rattle.vd_passes.specs.declared.pass.Phase.TheVariants.{Idle, Ready}
 use Rattle.vd_passes.specs.Steps.{IsAt, Replies}
 use Rattle.vd_safety.proofs.Asking.{ask-secured, ask_full-secured}
 use Rattle.vd_safety.proofs.Replying.{reply-secured}
-use Rattle.vd_core.specs.Adding.{AddsEntries}
-use Rattle.vd_core.specs.Asking.{ask_state, AskEnds}
+use Rattle.vd_machine.specs.Adding.{AddsEntries}
+use Rattle.vd_machine.specs.Asking.{ask_state, AskEnds}
 use Rattle.vd_core.specs.Kept.{IsSoundCore, IsFaithfullyKept, MetadataAgrees, IsSafelyKept}
 use Rattle.vd_core.proofs.Securing.Carrying.{safely-here, around}
 use Rattle.vd_core.proofs.Securing.Issuing.{number-now}

@@ -16,8 +16,8 @@ use Rattle.vd_passes.specs.declared.pass.Pass.{Pass}
 use Rattle.vd_passes.specs.declared.pass.Phase.TheVariants.{Asked as HasAsked, Held, Fetching}
 use Rattle.vd_passes.specs.Steps.{IsAt, FetchSettled}
 use Rattle.vd_safety.proofs.Others.{enter-secured, fetch-secured, fill-secured, settle_fetch-secured}
-use Rattle.vd_core.specs.Entering.{IsKeptOut, EntersBlock}
-use Rattle.vd_core.specs.Fetching.{FetchesIn}
+use Rattle.vd_machine.specs.Entering.{IsKeptOut, EntersBlock}
+use Rattle.vd_machine.specs.Fetching.{FetchesIn}
 use Rattle.vd_core.specs.Kept.{IsSoundCore, IsFaithfullyKept, MetadataAgrees, IsSafelyKept}
 use Rattle.vd_core.proofs.Securing.Carrying.{safely-here, around}
 

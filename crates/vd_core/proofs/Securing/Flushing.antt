@@ -24,7 +24,7 @@ use Rattle.vd_passes.specs.declared.shape.Shape.{Shape}
 use Rattle.vd_passes.specs.declared.pass.Pass.{Pass}
 use Rattle.vd_passes.specs.declared.pass.Phase.TheVariants.{Idle}
 use Rattle.vd_passes.specs.Steps.{SubmitsMeta, meta_entry}
-use Rattle.vd_metadata.specs.Flushing.{meta_state, BeginsFlush, IsWornOut, PutsNext, SyncsPuts, SettlesMeta, SealsFlush}
+use Rattle.vd_machine.specs.Flushing.{meta_state, BeginsFlush, IsWornOut, PutsNext, SyncsPuts, SettlesMeta, SealsFlush}
 use Rattle.vd_safety.proofs.Begins.{begin-secured, worn-secured}
 use Rattle.vd_safety.proofs.Puts.{put-secured}
 use Rattle.vd_safety.proofs.Syncs.{sync-secured}

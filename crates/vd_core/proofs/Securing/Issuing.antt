@@ -30,9 +30,9 @@ use Rattle.vd_passes.proofs.Lists.{some-inj}
 use Rattle.vd_passes.proofs.Ready.{can-write-asked}
 use Rattle.vd_safety.proofs.Ending.{IsOwedAfter, IsNumberedAfter, settle_issue-secured}
 use Rattle.vd_safety.proofs.Issuing.{issue-secured, part-long}
-use Rattle.vd_core.specs.Adding.{AddsEntries}
-use Rattle.vd_core.specs.Issuing.{IsWritable, keeper_after_write}
-use Rattle.vd_core.specs.Outcomes.{numbers_of}
+use Rattle.vd_machine.specs.Adding.{AddsEntries}
+use Rattle.vd_machine.specs.Issuing.{IsWritable, keeper_after_write}
+use Rattle.vd_machine.specs.Outcomes.{numbers_of}
 use Rattle.vd_core.specs.Kept.{IsSoundCore, IsFaithfullyKept, LogAgrees, MetadataAgrees, IsSafelyKept}
 use Rattle.vd_core.proofs.Keeping.Issuing.{writing-at}
 use Rattle.vd_core.proofs.Securing.Carrying.{safely-on, around}

@@ -20,8 +20,8 @@ use Rattle.vd_passes.specs.declared.pass.Phase.TheVariants.{Held, Looking}
 use Rattle.vd_passes.specs.Steps.{IsAt, Looks, LooksAtBase, SeesZeros, LookSettled, BaseLookSettled}
 use Rattle.vd_safety.proofs.Looking.{IsReadNumberedAfter, look-secured, settle_look-secured, settle_base_look-secured, see_zeros-secured}
 use Rattle.vd_safety.proofs.Others.{base_look-secured}
-use Rattle.vd_core.specs.Adding.{AddsEntries}
-use Rattle.vd_core.specs.Outcomes.{read_numbers_of}
+use Rattle.vd_machine.specs.Adding.{AddsEntries}
+use Rattle.vd_machine.specs.Outcomes.{read_numbers_of}
 use Rattle.vd_core.specs.Kept.{IsSoundCore, IsFaithfullyKept, LogAgrees, MetadataAgrees, IsSafelyKept}
 use Rattle.vd_core.proofs.Securing.Carrying.{safely-on, safely-here, around}
 use Rattle.vd_core.proofs.Securing.Issuing.{none-written, settled-inside, number-now}

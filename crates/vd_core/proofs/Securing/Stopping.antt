@@ -31,9 +31,9 @@ use Rattle.vd_passes.specs.declared.pass.Fault.TheVariants as fault
 use Rattle.vd_passes.specs.Steps.{Issues, EndsWrite, WriteSettled, EndsRead, LookSettled, BaseLookSettled}
 use Rattle.vd_safety.specs.Mirrors.{opening_for}
 use Rattle.vd_safety.proofs.Words.{IsHarmless, secured-rising, stopped-crash-safe}
-use Rattle.vd_core.specs.Adding.{AddsEntries}
-use Rattle.vd_core.specs.Asking.{ask_state, AskEnds}
-use Rattle.vd_core.specs.Outcomes.{numbers_of, read_numbers_of}
+use Rattle.vd_machine.specs.Adding.{AddsEntries}
+use Rattle.vd_machine.specs.Asking.{ask_state, AskEnds}
+use Rattle.vd_machine.specs.Outcomes.{numbers_of, read_numbers_of}
 use Rattle.vd_core.specs.Opening.{empty_history}
 use Rattle.vd_core.specs.Start.{ToldAtOpening, opening_at, IsStart, WasSafe}
 use Rattle.vd_core.specs.Kept.{RoomIsReserved, IsSafelyKept, IsStillSafe, IsSafelyStopped}

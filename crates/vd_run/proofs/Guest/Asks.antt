@@ -15,7 +15,7 @@ use Rattle.vd_passes.specs.Needs.{need_of}
 use Rattle.vd_passes.specs.Steps.{HasAskedWrite}
 use Rattle.vd_core.proofs.Serving.{write-stays}
 use Rattle.vd_core.specs.declared.outcome.Step.{Step}
-use Rattle.vd_core.specs.Asking.{AskEnds, EndsFull, EndsAsked, Exceeds, Suffices, ask_state}
+use Rattle.vd_machine.specs.Asking.{AskEnds, EndsFull, EndsAsked, Exceeds, Suffices, ask_state}
 use Rattle.vd_core.specs.Moves.{Drives, work}
 use Rattle.vd_run.specs.Serving.{asked_by, requests_in, AddsAnsweredFlush}
 use Rattle.vd_run.specs.Driving.{IsAskOf, Serves}

@@ -13,10 +13,10 @@ use Rattle.vd_passes.specs.declared.pass.Pass.{Pass}
 use Rattle.vd_passes.specs.declared.pass.Phase.TheVariants.{Idle}
 use Rattle.vd_passes.specs.Needs.{need_of}
 use Rattle.vd_passes.specs.Passes.{call_id, after_ask}
-use Rattle.vd_metadata.specs.Measures.{flush_steps}
+use Rattle.vd_machine.specs.Measures.{flush_steps}
 use Rattle.vd_core.specs.declared.outcome.Step.{Step}
 use Rattle.vd_core.specs.declared.outcome.Step.TheVariants.{Again, Ended}
-use Rattle.vd_core.specs.Asking.{AskEnds, Suffices, ask_state}
+use Rattle.vd_machine.specs.Asking.{AskEnds, Suffices, ask_state}
 use Rattle.vd_drive.specs.Driving.{DrivesFlush, flush_work}
 use Rattle.vd_run.specs.Serving.{IsResting, AddsAnsweredFlush}
 use Rattle.vd_passes.proofs.Lists.{some-inj, get-set-same, at-set, length-set'}

@@ -8,7 +8,7 @@ use Rattle.vd_law.specs.Entries.{Asked, Flush, Entry}
 use Rattle.vd_law.specs.Rules.{IsRegular}
 use Rattle.vd_passes.specs.declared.pass.Pass.{Pass}
 use Rattle.vd_passes.specs.Needs.{need_of}
-use Rattle.vd_core.specs.Asking.{Suffices}
+use Rattle.vd_machine.specs.Asking.{Suffices}
 use Rattle.vd_run.specs.Serving.{requests_in, IsServable, IsResting, IsUnused, IsServed}
 use Rattle.vd_run.specs.Driving.{IsAskOf, Serves, with_flush}
 use Rattle.vd_run.proofs.Guest.Needs.{needs_of, rest-suffices}

@@ -10,7 +10,8 @@ use Rattle.vd_device.specs.Bases.{KeepsBase}
 use Rattle.vd_device.proofs.Keeping.{keeps-same, base-keeps-same}
 use Rattle.vd_table.specs.Tables.{TableState}
 use Rattle.vd_core.specs.View.{View}
-use Rattle.vd_core.specs.Asking.{AskEnds, ask_state_of}
+use Rattle.vd_machine.specs.Asking.{AskEnds}
+use Rattle.vd_core.specs.Stepping.{ask_state_of}
 use Rattle.vd_run.proofs.Guest.Asks.{ask-keeps}
 use Rattle.vd_run.specs.Driving.{IsSameDisk}
 

@@ -17,7 +17,7 @@ use Rattle.vd_trace.specs.Traces.{Asking, work_asked, requests_of}
 use Rattle.vd_trace.specs.Scripts as scripts
 use Rattle.vd_trace.proofs.Rooms.{pieces-from_first}
 use Rattle.vd_passes.specs.Needs.{pieces, need_of}
-use Rattle.vd_core.specs.Asking.{Suffices}
+use Rattle.vd_machine.specs.Asking.{Suffices}
 use Rattle.vd_run.specs.Driving.{with_flush}
 
 -- the two ways to round a quotient up

@@ -2,8 +2,8 @@ use Rattle.std.proofs.Common.{◌∙◌, sym, ap, refl, inl, inr}
 use Rattle.std.specs.Prelude.{is_some}
 use Rattle.vd_keeper.specs.declared.stage.Stage.TheVariants.{Rest, DataFlush, Broken}
 use Rattle.vd_passes.specs.declared.pass.Pass.{Pass}
-use Rattle.vd_metadata.proofs.Members.{same-member}
-use Rattle.vd_metadata.proofs.Attended.{at-stage-of}
+use Rattle.vd_machine.proofs.Members.{same-member}
+use Rattle.vd_machine.proofs.Attended.{at-stage-of}
 use Rattle.vd_law.specs.Histories.{HistoryState}
 use Rattle.vd_core.specs.View.{View}
 use Rattle.vd_core.proofs.Opened.{store-untouched}

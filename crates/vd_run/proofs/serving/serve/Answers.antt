@@ -4,13 +4,13 @@ use Rattle.vd_passes.specs.declared.shape.Shape.{Shape}
 use Rattle.vd_trace.specs.Traces.{script}
 use Rattle.vd_trace.specs.Scripts.{request_of}
 use Rattle.vd_passes.specs.Needs.{need_of}
-use Rattle.vd_core.specs.Asking.{Suffices}
 use Rattle.vd_run.specs.Driving.{Serves}
 use Rattle.vd_run.proofs.Guest.Needs.{guest-suffices, next-suffices}
 use Rattle.vd_run.proofs.Guest.Going.{servable-at, none-served, one-served, all-served, flush-suffices}
 use Rattle.vd_device.specs.Patients.{patient_store, patient_base}
 use Rattle.vd_run.proofs.Guest.Leaving.{same-disk, disk-then}
 use Rattle.vd_run.proofs.serving.serve.Goals as goal
+use Rattle.vd_machine.specs.Asking.{Suffices}
 
 pub loop-at-init : goal.loop-at-init
 loop-at-init g c = record {

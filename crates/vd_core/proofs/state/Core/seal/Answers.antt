@@ -1,15 +1,14 @@
 use Rattle.std.proofs.Common.{sym}
+use Rattle.vd_machine.proofs.Sending.{seals-flush}
 use Rattle.vd_core.proofs.Keeping.FlushingReady.{between-calls, seal-recorded}
 use Rattle.vd_core.proofs.Keeping.Flushing.{end-kept, end-told, end-accounted, end-logged}
 use Rattle.vd_core.proofs.Securing.Flushing.{seal-safely}
 use Rattle.vd_core.proofs.state.Core.seal.Goals as goal
 
-pub seal-requires-clause-under_way : goal.seal-requires-clause-under_way
-seal-requires-clause-under_way g c = let at = rw (sym c.self.view_is) at c.requires.phase in between-calls c.self.invariant.0 c.self.invariant.4 c.args.pass at
-
 pub invariant_of-self : goal.invariant_of-self
 invariant_of-self g c =
-    let stage = rw (sym c.self.view_is) at c.requires.stage in let step = c.seal.ensures in (
+    let at = rw (sym c.self.view_is) at c.requires.phase in let stage = rw (sym c.self.view_is) at c.requires.stage in
+    let step = seals-flush c.index_mut.result.now c.end_flush.new.self c.index_mut.ensures.value (between-calls c.self.invariant.0 c.self.invariant.4 c.args.pass at) c.end_flush.ensures c.seal.ensures in (
       end-kept c.self.invariant.0 c.args.pass step.ends,
       end-told c.self.invariant.0 c.args.pass step.ends c.self.invariant.1,
       end-accounted c.self.invariant.2 step.ends,
@@ -19,3 +18,8 @@ invariant_of-self g c =
       c.self.invariant.6,
       c.self.invariant.7,
     )
+
+pub returns-clause-seals : goal.returns-clause-seals
+returns-clause-seals g c =
+    let at = rw (sym c.self.view_is) at c.requires.phase in
+    rw (sym c.self.view_is) (seals-flush c.index_mut.result.now c.end_flush.new.self c.index_mut.ensures.value (between-calls c.self.invariant.0 c.self.invariant.4 c.args.pass at) c.end_flush.ensures c.seal.ensures)

@@ -1,6 +1,6 @@
 use Rattle.std.proofs.Common.{sym, ap, ◌∙◌}
 use Rattle.vd_passes.proofs.TracingSteps.{base_look_settled-followed}
-use Rattle.vd_metadata.specs.declared.outcome.Outcome.{Outcome}
+use Rattle.vd_machine.specs.declared.outcome.Outcome.{Outcome}
 use Rattle.vd_core.specs.Outcomes.{regions_after_end}
 use Rattle.vd_core.proofs.Keeping.Accounting.{settle_base_look-accounted}
 use Rattle.vd_core.proofs.Keeping.Devices.{region-within}

@@ -1,6 +1,6 @@
 use Rattle.std.proofs.Common.{sym, refl, ap, ◌∙◌}
 use Rattle.vd_passes.proofs.TracingSteps.{fetch_settled-followed}
-use Rattle.vd_metadata.specs.declared.outcome.Outcome.{Outcome}
+use Rattle.vd_machine.specs.declared.outcome.Outcome.{Outcome}
 use Rattle.vd_core.specs.Outcomes.{regions_after_failure}
 use Rattle.vd_core.proofs.Keeping.Accounting.{settle_fetch-accounted}
 use Rattle.vd_core.proofs.Keeping.Devices.{region-within}

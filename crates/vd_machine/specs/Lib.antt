@@ -1,0 +1,9 @@
+pub mod Adding
+pub mod Asking
+pub mod Entering
+pub mod Fetching
+pub mod Issuing
+pub mod Outcomes
+pub mod Flushing
+pub mod Attending
+pub mod Measures

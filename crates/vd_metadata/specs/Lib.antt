@@ -1,3 +1,0 @@
-pub mod Flushing
-pub mod Attending
-pub mod Measures
