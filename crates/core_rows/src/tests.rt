@@ -223,20 +223,6 @@ const STORE_FAULT: Answer = Answer::StoreFault { ticket: 6, done: 0 };
 #[test]
 fn writes_and_reads_of_one_pass(rt: HostRuntime) -> Result<(), Fail> {
     let alloc = rt.alloc();
-    let old = [Rule::FailAt {
-        sector: 16,
-        nth: 2,
-        keep: Keep::Old,
-    }];
-    let new = [Rule::FailAt {
-        sector: 16,
-        nth: 2,
-        keep: Keep::New,
-    }];
-    let first_read = [Rule::FailNth {
-        nth: 1,
-        keep: Keep::Old,
-    }];
     let whole = [
         write_of(8, &[0xaa; 8], Answer::Ok),
         read_of(8, &[0xaa, 0xaa]),
@@ -250,12 +236,40 @@ fn writes_and_reads_of_one_pass(rt: HostRuntime) -> Result<(), Fail> {
         write_of(96, &[0x44], FULL),
         read_of(96, &[0]),
     ];
-    let fault = [
+    assert!(rt; runs(&rt, alloc, &[], &[], &whole)?);
+    assert!(rt; runs(&rt, alloc, &[], &[], &partial)?);
+    assert!(rt; runs(&rt, alloc, &[], &[], &full)?);
+    Ok(())
+}
+
+#[test]
+fn a_base_that_fails_once(rt: HostRuntime) -> Result<(), Fail> {
+    let first_read = [Rule::FailNth {
+        nth: 1,
+        keep: Keep::Old,
+    }];
+    let calls = [
         write_of(10, &[0xbb], BASE_FAULT),
         read_of(8, &[8, 9, 10]),
         write_of(10, &[0xbb], Answer::Ok),
         read_of(10, &[0xbb]),
     ];
+    assert!(rt; runs(&rt, rt.alloc(), &[], &first_read, &calls)?);
+    Ok(())
+}
+
+/// The second write of a sector of the storage fails.
+fn second_write_fails(keep: Keep) -> [Rule; 1] {
+    [Rule::FailAt {
+        sector: 16,
+        nth: 2,
+        keep,
+    }]
+}
+
+#[test]
+fn a_store_that_fails_once(rt: HostRuntime) -> Result<(), Fail> {
+    let alloc = rt.alloc();
     let kept = [
         write_of(8, &[0xaa; 8], Answer::Ok),
         write_of(8, &[0xbb], STORE_FAULT),
@@ -268,12 +282,8 @@ fn writes_and_reads_of_one_pass(rt: HostRuntime) -> Result<(), Fail> {
         read_of(8, &[0xbb]),
         read_of(8, &[0xbb]),
     ];
-    assert!(rt; runs(&rt, alloc, &[], &[], &whole)?);
-    assert!(rt; runs(&rt, alloc, &[], &[], &partial)?);
-    assert!(rt; runs(&rt, alloc, &[], &[], &full)?);
-    assert!(rt; runs(&rt, alloc, &[], &first_read, &fault)?);
-    assert!(rt; runs(&rt, alloc, &old, &[], &kept)?);
-    assert!(rt; runs(&rt, alloc, &new, &[], &changed)?);
+    assert!(rt; runs(&rt, alloc, &second_write_fails(Keep::Old), &[], &kept)?);
+    assert!(rt; runs(&rt, alloc, &second_write_fails(Keep::New), &[], &changed)?);
     Ok(())
 }
 

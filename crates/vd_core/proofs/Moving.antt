@@ -16,7 +16,7 @@ use Rattle.vd_passes.specs.declared.pass.Phase.{Phase}
 use Rattle.vd_passes.specs.declared.pass.Phase.TheVariants.{Idle, Asked, Held, Fetching, Filled, Issuing, Looking, Ready}
 use Rattle.vd_passes.specs.declared.pass.Fault.{Fault}
 use Rattle.vd_passes.specs.declared.pass.Fault.TheVariants as fault
-use Rattle.vd_passes.specs.Needs.{pieces_left, pieces}
+use Rattle.vd_passes.specs.Needs.{pieces_left}
 use Rattle.vd_passes.specs.Passes.{has_region, writes_in, IsPiece, after_fetch, after_filled, after_issue, after_look, after_base_look, after_piece, after_fault, after_reply, after_spending}
 use Rattle.vd_passes.specs.Steps.{Enters, FetchSettled, Issues, WriteSettled, Looks, LooksAtBase, Sees, EndsRead, Replies}
 use Rattle.vd_passes.proofs.Lists.{some-inj}
@@ -29,6 +29,7 @@ use Rattle.vd_core.specs.Outcomes.{step_of}
 use Rattle.vd_machine.proofs.Ended.{set-there}
 use Rattle.vd_core.specs.Moves.{steps_in_phase, steps_left, Moves, work, Drives, IsInPhase}
 use Rattle.vd_format.specs.Background.{zero_sector}
+use Rattle.vd_law.specs.Needs.{pieces}
 
 -- a room is as large as itself
 pub same-room : (left : Room) → (left.events ≤ left.events) × (left.sectors ≤ left.sectors)

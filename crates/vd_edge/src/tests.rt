@@ -128,158 +128,51 @@ fn all_end_so<R: Abort + Files<File = File> + AllocGlobal>(
 
 #[test]
 fn a_made_file_goes_where_the_status_is_not_0(rt: HostRuntime) -> Result<(), Fail> {
-    folder(&rt, "vd_edge_made", "vd_edge_made/P")?;
+    folder(&rt, "made", "made/P")?;
     let rows = [
+        program("make made/I made/P 8", Some(5), 3, "3 53\n", None),
+        program("make made/I made/P", Some(5), 1, "1 53\n", None),
+        program("make made/I made/P", Some(5), 0, "6 ", None).without_room(),
+        program("make made/I made/P", Some(5), 7, "7 ", None).without_room(),
+        program("make made/I made/Q", Some(5), 0, "5 no file 3\n", None),
         program(
-            "make vd_edge_made/I vd_edge_made/P 8",
-            Some(5),
-            3,
-            "3 53\n",
-            None,
-        ),
-        program(
-            "make vd_edge_made/I vd_edge_made/P",
-            Some(5),
-            1,
-            "1 53\n",
-            None,
-        ),
-        program("make vd_edge_made/I vd_edge_made/P", Some(5), 0, "6 ", None).without_room(),
-        program("make vd_edge_made/I vd_edge_made/P", Some(5), 7, "7 ", None).without_room(),
-        program(
-            "make vd_edge_made/I vd_edge_made/Q",
-            Some(5),
-            0,
-            "5 no file 3\n",
-            None,
-        ),
-        program(
-            "make vd_edge_made/I vd_edge_made/P",
+            "make made/I made/P",
             Some(1 << 54),
             0,
             "5 no file 2\n",
             None,
         ),
-        program(
-            "make vd_edge_made/N/I vd_edge_made/P",
-            Some(5),
-            0,
-            "5 no file 2\n",
-            None,
-        ),
-        program("make vd_edge_made/I", Some(5), 2, "2 00\n", None),
-        program(
-            "make vd_edge_made/I vd_edge_made/P",
-            Some(5),
-            0,
-            "0 53\n",
-            Some(5),
-        ),
-        program(
-            "make vd_edge_made/I vd_edge_made/P",
-            Some(6),
-            0,
-            "5 no file 2\n",
-            Some(5),
-        ),
-        program(
-            "make vd_edge_made/I vd_edge_made/Q",
-            Some(6),
-            0,
-            "5 ",
-            Some(5),
-        )
-        .without_room(),
+        program("make made/N/I made/P", Some(5), 0, "5 no file 2\n", None),
+        program("make made/I", Some(5), 2, "2 00\n", None),
+        program("make made/I made/P", Some(5), 0, "0 53\n", Some(5)),
+        program("make made/I made/P", Some(6), 0, "5 no file 2\n", Some(5)),
+        program("make made/I made/Q", Some(6), 0, "5 ", Some(5)).without_room(),
     ];
-    all_end_so(&rt, &rows, "vd_edge_made/I")?;
-    fs::remove_dir_all(&rt, "vd_edge_made")?;
+    all_end_so(&rt, &rows, "made/I")?;
+    fs::remove_dir_all(&rt, "made")?;
     Ok(())
 }
 
 #[test]
 fn a_file_that_was_there_stays(rt: HostRuntime) -> Result<(), Fail> {
-    folder(&rt, "vd_edge_there", "vd_edge_there/P")?;
-    fs::write(&rt, "vd_edge_there/I", [0u8; 1024].as_slice())?;
+    folder(&rt, "there", "there/P")?;
+    fs::write(&rt, "there/I", [0u8; 1024].as_slice())?;
     let rows = [
-        program(
-            "show vd_edge_there/I vd_edge_there/P 0 1",
-            None,
-            0,
-            "0 23\n",
-            Some(2),
-        ),
-        program(
-            "show vd_edge_there/I vd_edge_there/P 0 1",
-            None,
-            0,
-            "6 ",
-            Some(2),
-        )
-        .without_room(),
-        program(
-            "run vd_edge_there/I vd_edge_there/P",
-            None,
-            1,
-            "1 23\n",
-            Some(2),
-        ),
-        program(
-            "run vd_edge_there/I vd_edge_there/P",
-            None,
-            1,
-            "6 ",
-            Some(2),
-        )
-        .without_room(),
-        program(
-            "run vd_edge_there/I vd_edge_there/P",
-            None,
-            2,
-            "2 ",
-            Some(2),
-        )
-        .without_room(),
-        program(
-            "run vd_edge_there/I vd_edge_there/Q",
-            None,
-            0,
-            "5 no file 3\n",
-            Some(2),
-        ),
-        program(
-            "run vd_edge_there/J vd_edge_there/Q",
-            None,
-            0,
-            "5 ",
-            Some(2),
-        )
-        .without_room(),
-        program(
-            "show vd_edge_there/J vd_edge_there/P",
-            None,
-            0,
-            "5 no file 2\n",
-            Some(2),
-        ),
-        program("show vd_edge_there/J", None, 2, "2 00\n", Some(2)),
-        program(
-            "make vd_edge_there/J vd_edge_there/Q",
-            None,
-            2,
-            "2 00\n",
-            Some(2),
-        ),
-        program(
-            "upgrade vd_edge_there/I vd_edge_there/Q",
-            None,
-            255,
-            "255 00\n",
-            Some(2),
-        ),
+        program("show there/I there/P 0 1", None, 0, "0 23\n", Some(2)),
+        program("show there/I there/P 0 1", None, 0, "6 ", Some(2)).without_room(),
+        program("run there/I there/P", None, 1, "1 23\n", Some(2)),
+        program("run there/I there/P", None, 1, "6 ", Some(2)).without_room(),
+        program("run there/I there/P", None, 2, "2 ", Some(2)).without_room(),
+        program("run there/I there/Q", None, 0, "5 no file 3\n", Some(2)),
+        program("run there/J there/Q", None, 0, "5 ", Some(2)).without_room(),
+        program("show there/J there/P", None, 0, "5 no file 2\n", Some(2)),
+        program("show there/J", None, 2, "2 00\n", Some(2)),
+        program("make there/J there/Q", None, 2, "2 00\n", Some(2)),
+        program("upgrade there/I there/Q", None, 255, "255 00\n", Some(2)),
     ];
-    all_end_so(&rt, &rows, "vd_edge_there/I")?;
-    assert_eq!(rt; sectors_at(&rt, "vd_edge_there/J"), None);
-    fs::remove_dir_all(&rt, "vd_edge_there")?;
+    all_end_so(&rt, &rows, "there/I")?;
+    assert_eq!(rt; sectors_at(&rt, "there/J"), None);
+    fs::remove_dir_all(&rt, "there")?;
     Ok(())
 }
 

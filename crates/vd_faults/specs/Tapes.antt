@@ -44,8 +44,8 @@ added e log = record {
 }
 
 -- How many events it tells: those of its log, and the calls since it stopped.
-abbrev pub events_of : LogState → (over : ℕ) → ℕ
-events_of log over = min (length log.entries + over) (2 ^ 64 - 1)
+abbrev pub events_told : LogState → (over : ℕ) → ℕ
+events_told log over = min (length log.entries + over) (2 ^ 64 - 1)
 
 -- what a further entry, whose call began at this place, makes of that number: in a store's log flushes alone are answered Ok
 abbrev pub sealed_by : Entry → (origin sealed : ℕ) → ℕ

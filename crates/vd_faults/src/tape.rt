@@ -3,11 +3,11 @@
 ghost use Rattle.std.specs.Prelude.{◌≡◌, ℕ, ◌+◌, ◌^◌, ◌<◌, ◌≤◌, [], ◌∷◌, ◌++◌, length, Some, IfOk, slice_get, vec_capacity};
 ghost use Rattle.vd_law.specs.Logs.{content_of, IsShort};
 ghost use Rattle.vd_law.specs.Entries.{entry_of};
-ghost use Rattle.vd_faults.specs.Tapes.{blank, runs_on, takes, taped, sealed_by, events_of, content_at};
+ghost use Rattle.vd_faults.specs.Tapes.{blank, runs_on, takes, taped, sealed_by, events_told, content_at};
 
 use std::alloc::Global;
 use std::marker::Model;
-use vd_law::entry::{Answer, Event, NoMemory, Request, Room, Sector};
+use vd_law::entry::{Answer, Event, NoMemory, Room, Sector, content_of};
 use vd_log::log::Log;
 
 /// A log, and for each of its events the place of the event with which its call began; and how many of them stood before the
@@ -41,29 +41,6 @@ fn append(places: &mut Vec<u64>, place: u64)
     ensures room { vec_capacity places.old ≤ vec_capacity places.new }
 {
     let _ = places.push(place);
-}
-
-/// The sectors that an event tells.
-fn content_of(event: Event<'_>) -> &[Sector]
-    ensures { result.now ≡ content_of (entry_of event.entry) }
-{
-    match event {
-        Event::Ask { id: _, request } => match request {
-            Request::Write { first: _, content } => content,
-            _ => &[],
-        },
-        Event::Issue {
-            id: _,
-            first: _,
-            content,
-        } => content,
-        Event::Seen {
-            id: _,
-            first: _,
-            content,
-        } => content,
-        _ => &[],
-    }
 }
 
 /// How many events are sealed after this one, whose call began at `origin`.
@@ -133,7 +110,7 @@ impl Tape {
 
     /// How many events it tells: those of the log, and the calls since it stopped.
     pub fn events(&self) -> u64
-        ensures { result ≡ events_of self.now.log self.now.over }
+        ensures { result ≡ events_told self.now.log self.now.over }
     {
         self.log.len().saturating_add(self.over)
     }

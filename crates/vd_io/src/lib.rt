@@ -9,6 +9,7 @@ pub mod std_sink;
 pub mod std_source;
 #[cfg(test)]
 mod tests;
+pub mod window;
 
 /// A read or a write failed. The source or sink has counted it among its faults.
 #[derive(Clone, Copy, Debug, PartialEq, Eq, Drop)]

@@ -132,46 +132,47 @@ fn legal_histories(rt: HostRuntime) -> Result<(), Fail> {
     Ok(())
 }
 
+/// Histories that are legal up to their last event.
+const ILLEGAL: [(&str, &str); 29] = [
+    // 1: the first call isn't 1; the call before has no reply; the range passes the end; not asked; answered
+    ("", "F12..."),
+    ("F11... ", "F12..."),
+    ("", "R1132."),
+    ("", "W11312"),
+    ("", "=11o.."),
+    ("F11... =11o.. ", "=11o.."),
+    // 2: not the next sector; not its content; too much; of the other kind; two at once; none to end; after a Broke
+    ("W11012 ", "I1112."),
+    ("W11012 ", "I1102."),
+    ("W1101. ", "I11012"),
+    ("R1101. ", "I1101."),
+    ("W1101. ", "S1100."),
+    ("W11012 I1101. ", "I1101."),
+    ("W1101. ", "D11..."),
+    ("W1101. ", "B11..."),
+    ("W1101. I1101. B11... ", "I1101."),
+    // 3: an open Issue of another call
+    ("W1101. R2101. I1101. ", "S2101."),
+    ("W11012 W2111. I11012 ", "I2111."),
+    // 4: what couldn't be there
+    ("R1101. ", "S1101."),
+    ("W1101. I1101. D11... =11o.. R1201. ", "S1200."),
+    // 5: an open Issue; not all done; all done; not broken; broken; the wrong kind; the wrong number
+    ("W1101. I1101. ", "=11o.."),
+    ("R1101. ", "=11o.."),
+    ("R1101. S1100. ", "=11s1."),
+    ("W1101. ", "=11s0."),
+    ("W1101. I1101. B11... ", "=11b0."),
+    ("R1101. ", "=11f.."),
+    ("W1101. ", "=11w.."),
+    ("F11... ", "=11b0."),
+    ("F11... ", "=11s1."),
+    ("W1101. ", "=11n.."),
+];
+
 #[test]
 fn illegal_histories(rt: HostRuntime) -> Result<(), Fail> {
-    // each is legal up to its last event
-    let table = [
-        // 1: the first call isn't 1; the call before has no reply; the range passes the end; not asked; answered
-        ("", "F12..."),
-        ("F11... ", "F12..."),
-        ("", "R1132."),
-        ("", "W11312"),
-        ("", "=11o.."),
-        ("F11... =11o.. ", "=11o.."),
-        // 2: not the next sector; not its content; too much; of the other kind; two at once; none to end; after a Broke
-        ("W11012 ", "I1112."),
-        ("W11012 ", "I1102."),
-        ("W1101. ", "I11012"),
-        ("R1101. ", "I1101."),
-        ("W1101. ", "S1100."),
-        ("W11012 I1101. ", "I1101."),
-        ("W1101. ", "D11..."),
-        ("W1101. ", "B11..."),
-        ("W1101. I1101. B11... ", "I1101."),
-        // 3: an open Issue of another call
-        ("W1101. R2101. I1101. ", "S2101."),
-        ("W11012 W2111. I11012 ", "I2111."),
-        // 4: what couldn't be there
-        ("R1101. ", "S1101."),
-        ("W1101. I1101. D11... =11o.. R1201. ", "S1200."),
-        // 5: an open Issue; not all done; all done; not broken; broken; the wrong kind; the wrong number
-        ("W1101. I1101. ", "=11o.."),
-        ("R1101. ", "=11o.."),
-        ("R1101. S1100. ", "=11s1."),
-        ("W1101. ", "=11s0."),
-        ("W1101. I1101. B11... ", "=11b0."),
-        ("R1101. ", "=11f.."),
-        ("W1101. ", "=11w.."),
-        ("F11... ", "=11b0."),
-        ("F11... ", "=11s1."),
-        ("W1101. ", "=11n.."),
-    ];
-    for (before, last) in table {
+    for (before, last) in ILLEGAL {
         let all = format!(in rt.alloc(); "{before}{last}")?;
         assert!(rt; is_legal(rt.alloc(), before)?, "{before}");
         assert!(rt; !is_legal(rt.alloc(), all.as_str())?, "{all}");

@@ -12,21 +12,21 @@ use Rattle.vd_passes.proofs.Places.{block-below}
 use Rattle.vd_passes.proofs.PlacesGiven.{place-some, has-place, place-from}
 use Rattle.vd_passes.proofs.Asking.{IsPlaced}
 use Rattle.vd_machine.specs.Asking.{run_from, run_count, HasSize}
-use Rattle.vd_passes.specs.Needs.{need_of, sectors_of}
+use Rattle.vd_law.specs.Needs.{request_room, sectors_asked}
 
 -- what a request needs at the least: its Ask and its Reply, and the sectors that the Ask tells
-pub need-events : (block : ℕ) (r : Asked) → 2 ≤ (need_of block r).events
+pub need-events : (block : ℕ) (r : Asked) → 2 ≤ (request_room block r).events
 need-events block (Read first count) = omega arith
 need-events block (Write first content) = omega arith
 need-events block Flush = omega arith
 
-pub need-sectors : (block : ℕ) (r : Asked) → length (asked_content r) ≤ (need_of block r).sectors
+pub need-sectors : (block : ℕ) (r : Asked) → length (asked_content r) ≤ (request_room block r).sectors
 need-sectors block (Read first count) = omega arith
 need-sectors block (Write first content) = omega arith
 need-sectors block Flush = omega arith
 
 -- a request that isn't a flush has sectors
-pub some-sectors : (r : Asked) → HasSize r → r ≢ Flush → 0 < sectors_of r
+pub some-sectors : (r : Asked) → HasSize r → r ≢ Flush → 0 < sectors_asked r
 some-sectors (Read first count) size other = size.0
 some-sectors (Write first content) size other = size.0
 some-sectors Flush size other = absurd (other refl)
@@ -37,7 +37,7 @@ inside-more (Read first count) size more less inside = omega arith
 inside-more (Write first content) size more less inside = omega arith
 inside-more Flush size more less inside = tt
 
-pub inside-fits : (r : Asked) (size : ℕ) → IsInside size r → sectors_of r ≤ size
+pub inside-fits : (r : Asked) (size : ℕ) → IsInside size r → sectors_asked r ≤ size
 inside-fits (Read first count) size inside = omega arith
 inside-fits (Write first content) size inside = omega arith
 inside-fits Flush size inside = omega arith

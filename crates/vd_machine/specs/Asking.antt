@@ -13,7 +13,7 @@ use Rattle.vd_passes.specs.declared.shape.Shape.{Shape}
 use Rattle.vd_passes.specs.declared.pass.Pass.{Pass}
 use Rattle.vd_passes.specs.Steps.{IsAt, Asks, AsksFull}
 use Rattle.vd_machine.specs.Adding.{AddsEntries}
-use Rattle.vd_passes.specs.Needs.{need_of}
+use Rattle.vd_law.specs.Needs.{request_room}
 
 -- the first chunk of a write's range
 abbrev pub run_from : Shape → Asked → ℕ
@@ -103,7 +103,7 @@ pub record IsSame (a a' : AskState) : Type 0 where
 
 -- the write is answered Full
 pub record EndsFull (request : Asked) (needed free events i : ℕ) (a a' : AskState) : Type 0 where
-  pub enough : Suffices (need_of a.shape.block request) a.left
+  pub enough : Suffices (request_room a.shape.block request) a.left
   pub needed_is : needed ≡ lacking a.table (run_from a.shape request) (run_count a.shape request)
   pub free_is : free + used_chunks a.table ≡ a.table.storage
   pub fewer : free < needed
@@ -114,15 +114,15 @@ pub record EndsFull (request : Asked) (needed free events i : ℕ) (a a' : AskSt
 
 -- the request is asked, and its room reserved
 pub record EndsAsked (request : Asked) (events i : ℕ) (a a' : AskState) : Type 0 where
-  pub enough : Suffices (need_of a.shape.block request) a.left
+  pub enough : Suffices (request_room a.shape.block request) a.left
   pub claims : Claims a.table a'.table (run_from a.shape request) (run_count a.shape request)
-  pub asks : Asks request ((need_of a.shape.block request).events - 1) ((need_of a.shape.block request).sectors - length (asked_content request)) i a.passes a'.passes a.history.log.entries a'.history.log.entries
+  pub asks : Asks request ((request_room a.shape.block request).events - 1) ((request_room a.shape.block request).sectors - length (asked_content request)) i a.passes a'.passes a.history.log.entries a'.history.log.entries
   pub extends : AddsEntries (events ∷ []) (length (asked_content request)) a.history a'.history
-  pub left_after : a'.left ≡ room_without a.left (need_of a.shape.block request).events (need_of a.shape.block request).sectors
+  pub left_after : a'.left ≡ room_without a.left (request_room a.shape.block request).events (request_room a.shape.block request).sectors
 
 -- how an ask ends, while the store has so many events
 abbrev pub AskEnds : Option Answer → (request : Asked) (events i : ℕ) → AskState → AskState → Type 0
 AskEnds result request events i a a' =
-    (Exceeds (need_of a.shape.block request) a.left × (result ≡ Some (NoRoom a.left.events a.left.sectors)) × IsSame a a')
+    (Exceeds (request_room a.shape.block request) a.left × (result ≡ Some (NoRoom a.left.events a.left.sectors)) × IsSame a a')
     ⊎ ((needed : ℕ) × (free : ℕ) × (result ≡ Some (Full needed free)) × EndsFull request needed free events i a a')
     ⊎ ((result ≡ None) × EndsAsked request events i a a')

@@ -7,7 +7,6 @@ ghost use Rattle.vd_law.specs.Logs.{asked_content};
 ghost use Rattle.vd_law.specs.Rules.{IsInside};
 ghost use Rattle.vd_table.specs.Tables.{used_chunks};
 ghost use Rattle.vd_table.specs.Runs.{lacking};
-ghost use Rattle.vd_passes.specs.Needs.{need_of, pieces, sectors_of};
 ghost use Rattle.vd_passes.specs.Steps.{IsAt, Asks, AsksFull, Replies};
 ghost use Rattle.vd_device.specs.Disks.{IsRunning};
 ghost use Rattle.vd_machine.specs.Adding.{CanAdd, AddsEntries};
@@ -16,46 +15,11 @@ ghost use Rattle.vd_machine.specs.Asking.{CanAsk, AskEnds, Claims, CanReply, ask
 use crate::adding::{add, call_id};
 use vd_device::Store;
 use vd_law::entry::{Answer, Event, Request, Room};
+use vd_law::needs::request_room;
 use vd_log::history::History;
 use vd_passes::pass::Pass;
 use vd_passes::shape::Shape;
 use vd_table::table::Table;
-
-/// The number of blocks that a range touches.
-fn pieces(block: u64, first: u64, count: u64) -> u64
-    requires some { 0 < block }
-    requires small { block ≤ 128 }
-    requires fits { count ≤ 2 ^ 26 }
-    ensures { result ≡ pieces block first count }
-{
-    (first % block + count + (block - 1)) / block
-}
-
-/// The room in the history that a request needs.
-fn need_of(shape: &Shape, request: Request<'_>) -> Room
-    requires some { 0 < shape.now.block }
-    requires small { shape.now.block ≤ 128 }
-    requires fits { sectors_of (asked_of request) ≤ 2 ^ 26 }
-    ensures { result ≡ need_of shape.now.block (asked_of request.entry) }
-{
-    match request {
-        Request::Read { first, count } => Room {
-            events: 2 + pieces(shape.block, first, count),
-            sectors: count,
-        },
-        Request::Write { first, content } => {
-            let count = content.len() as u64;
-            Room {
-                events: 2 + 2 * pieces(shape.block, first, count),
-                sectors: 2 * count,
-            }
-        }
-        Request::Flush => Room {
-            events: 2,
-            sectors: 0,
-        },
-    }
-}
 
 /// The chunks of a write's range, the first and their number; none of a read's.
 fn run(shape: &Shape, request: Request<'_>) -> (u32, u32)
@@ -202,7 +166,7 @@ pub fn ask_in_room<S: Store>(
         (ask_state shape.now table.old passes.old.items history.old spare.old) (ask_state shape.now table.new passes.new.items history.new spare.new) }
     ensures running { S.tells store.now → (history.new ≡ history.old) ⊎ IsRunning (S.events store.now) (S.disk store.now) }
 {
-    let need = need_of(shape, request);
+    let need = request_room(shape.block, request);
     let left = *spare;
     if need.events > left.events || need.sectors > left.sectors {
         return Some(Answer::NoRoom {

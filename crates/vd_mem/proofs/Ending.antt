@@ -18,7 +18,7 @@ use Rattle.vd_device.specs.Disks.{Disk, IsHonest, AreWrites, GrowsBy, HasStopped
 use Rattle.vd_device.specs.Orders.{IsInOrder}
 use Rattle.vd_faults.specs.declared.rule.Keep.{Keep}
 use Rattle.vd_faults.specs.declared.rule.Keep.TheVariants.{Old, New}
-use Rattle.vd_faults.specs.Tapes.{added, content_at, events_of}
+use Rattle.vd_faults.specs.Tapes.{added, content_at, events_told}
 use Rattle.vd_mem.specs.StoreState.{MemStoreState, StillRuns, disk_of, can_add, over_at, carried_out, last_entry, last_held, is_done, left_by, ended_by}
 use Rattle.vd_mem.specs.Ends.{CanCarryOut}
 use Rattle.vd_mem.specs.Flying.{HasOpenWrite, IsLoggedAs, IsCall, AreCalls, IsTicketWithin, Flies}
@@ -196,9 +196,9 @@ module _ (m : MemStoreState) (t : Ticket) (failure : Option Keep) (sound : IsSou
       (λ full. inr (record { start = refl; log = refl; over = refl }))
 
   -- where the store has stopped, the last entry was not added
-  pub end-full : HasStopped (events_of (ended_by failure t m).log (ended_by failure t m).over) (disk_of (ended_by failure t m)) → can_add m e ≡ false
+  pub end-full : HasStopped (events_told (ended_by failure t m).log (ended_by failure t m).over) (disk_of (ended_by failure t m)) → can_add m e ≡ false
   end-full =
-      choose (λ (m' : MemStoreState). HasStopped (events_of m'.log m'.over) (disk_of m') → can_add m e ≡ false) (can_add m e) in_log stopped
+      choose (λ (m' : MemStoreState). HasStopped (events_told m'.log m'.over) (disk_of m') → can_add m e ≡ false) (can_add m e) in_log stopped
       (λ can above. let runs = takes-runs m.log m.fuse m.over e can in absurd (omega arith))
       (λ full above. full)
 

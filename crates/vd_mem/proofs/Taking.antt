@@ -5,7 +5,7 @@ use Rattle.vd_device.specs.Calls.{next_number}
 use Rattle.vd_device.specs.Disks.{GrowsBy, Records, TellsOrStopped}
 use Rattle.vd_device.specs.Stores.{StoreTakes}
 use Rattle.vd_device.proofs.Stopping.{recorded-goes-on, recorded-stood}
-use Rattle.vd_faults.specs.Tapes.{events_of}
+use Rattle.vd_faults.specs.Tapes.{events_told}
 use Rattle.vd_mem.specs.StoreState.{MemStoreState, StillRuns, disk_of}
 use Rattle.vd_mem.specs.Devices.{mem_store}
 
@@ -25,7 +25,7 @@ abbrev pub Took : List Entry → MemStoreState → MemStoreState → Type 0
 Took es m m' = Added es m m' ⊎ Stopped m m'
 
 module _ (es : List Entry) (m m' : MemStoreState) (few : length es ≤ 1) (short : length m.log.entries < 2 ^ 63) where
-  rises : Took es m m' → events_of m.log m.over ≤ events_of m'.log m'.over
+  rises : Took es m m' → events_told m.log m.over ≤ events_told m'.log m'.over
   rises (inl a) = let before = a.before in let log = ap length a.grows.log in omega (arith, length-append m.log.entries es)
   rises (inr s) = let over = s.over in let log = ap length s.log in omega arith
 
@@ -37,11 +37,11 @@ module _ (es : List Entry) (m m' : MemStoreState) (few : length es ≤ 1) (short
   told (inl a) runs = a.grows
   told (inr s) runs = let over = s.over in absurd (omega arith)
 
-  state : Took es m m' → TellsOrStopped (StillRuns m') (events_of m'.log m'.over) (disk_of m')
+  state : Took es m m' → TellsOrStopped (StillRuns m') (events_told m'.log m'.over) (disk_of m')
   state (inl a) = inl a.after
   state (inr s) = let over = s.over in let log = ap length s.log in inr (omega arith)
 
-  recorded : Took es m m' → Records es (events_of m.log m.over) (events_of m'.log m'.over) (disk_of m) (disk_of m')
+  recorded : Took es m m' → Records es (events_told m.log m.over) (events_told m'.log m'.over) (disk_of m) (disk_of m')
   recorded (inl a) =
       let before = a.before in let after = a.after in let log = ap length a.grows.log in
       record { start = a.grows.start; goes_on = inl (omega arith, omega (arith, length-append m.log.entries es), a.grows.log) }

@@ -3,7 +3,7 @@ use Rattle.std.specs.Prelude.{length}
 use Rattle.vd_device.specs.declared.store.Store as store
 use Rattle.vd_device.specs.declared.base.Base as base
 use Rattle.vd_mem.specs.declared.fuse.Fuse.{Fuse}
-use Rattle.vd_faults.specs.Tapes.{events_of}
+use Rattle.vd_faults.specs.Tapes.{events_told}
 use Rattle.vd_mem.specs.StoreState.{MemStoreState, StillRuns, disk_of}
 use Rattle.vd_mem.specs.Flying.{Flies}
 use Rattle.vd_mem.specs.BaseState.{MemBaseState, FliesBase}
@@ -19,7 +19,7 @@ mem_store = record {
   depth = λ m. 128;
   faults = λ m. m.faults;
   late = λ m. m.late;
-  events = λ m. events_of m.log m.over;
+  events = λ m. events_told m.log m.over;
   last = λ m. m.last;
 }
 
@@ -34,7 +34,7 @@ fused = record {
   depth = λ f. 128;
   faults = λ f. f.inner.faults;
   late = λ f. f.inner.late;
-  events = λ f. events_of f.inner.log f.inner.over;
+  events = λ f. events_told f.inner.log f.inner.over;
   last = λ f. f.inner.last;
 }
 

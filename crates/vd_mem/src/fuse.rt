@@ -9,6 +9,7 @@ ghost use Rattle.vd_device.specs.Stores.{SettlesCall, StoreCountsStand, StoreTak
 ghost use Rattle.vd_mem.specs.StoreState.{StillRuns, submitted, waited, wait_answer, polled_once, settle_answer, is_late};
 ghost use Rattle.vd_mem.specs.Flying.{Flies};
 ghost use Rattle.vd_mem.specs.Devices.{fused};
+ghost use Rattle.vd_faults.specs.Tapes.{events_told};
 
 use crate::mem_store::MemStore;
 use vd_device::{Settled, Store, Ticket, Waited};
@@ -40,7 +41,7 @@ impl Fuse {
 
 impl Store for Fuse {
     ghost use Rattle.std.specs.Prelude.{length};
-    ghost use Rattle.vd_faults.specs.Tapes.{events_of};
+    ghost use Rattle.vd_faults.specs.Tapes.{events_told};
     ghost use Rattle.vd_mem.specs.StoreState.{StillRuns, disk_of};
     ghost use Rattle.vd_mem.specs.Flying.{Flies};
 
@@ -60,7 +61,7 @@ impl Store for Fuse {
 
     ghost late = { λ f. f.inner.late };
 
-    ghost events = { λ f. events_of f.inner.log f.inner.over };
+    ghost events = { λ f. events_told f.inner.log f.inner.over };
 
     ghost last = { λ f. f.inner.last };
 

@@ -9,6 +9,7 @@ ghost use Rattle.vd_device.specs.Stores.{SettlesCall, StoreCountsStand, StoreTak
 ghost use Rattle.vd_mem.specs.StoreState.{StillRuns, submitted, waited, wait_answer, polled_once, settle_answer, is_late};
 ghost use Rattle.vd_mem.specs.Flying.{Flies};
 ghost use Rattle.vd_mem.specs.Devices.{mem_store};
+ghost use Rattle.vd_faults.specs.Tapes.{events_told};
 
 use crate::ends::{answer, call_of, end, settled};
 use crate::mem_store::MemStore;
@@ -29,7 +30,7 @@ impl MemStore {
 
 impl Store for MemStore {
     ghost use Rattle.std.specs.Prelude.{length};
-    ghost use Rattle.vd_faults.specs.Tapes.{events_of};
+    ghost use Rattle.vd_faults.specs.Tapes.{events_told};
     ghost use Rattle.vd_mem.specs.StoreState.{StillRuns, disk_of};
     ghost use Rattle.vd_mem.specs.Flying.{Flies};
 
@@ -49,7 +50,7 @@ impl Store for MemStore {
 
     ghost late = { λ m. m.late };
 
-    ghost events = { λ m. events_of m.log m.over };
+    ghost events = { λ m. events_told m.log m.over };
 
     ghost last = { λ m. m.last };
 

@@ -65,9 +65,21 @@ const OLD: Keep = Keep::Old;
 
 const NEW: Keep = Keep::New;
 
+/// Rules, a run of calls as they then end, and how many calls fail.
+type RuleRow<'a> = (&'a [Rule], &'a str, u64);
+
+fn all_fail_so(rt: &impl Abort, alloc: Global, rows: &[RuleRow<'_>]) -> Result<(), Fail> {
+    for (rules, run, faults) in rows {
+        let mut store = store(alloc, AMPLE, rules)?;
+        assert!(rt; runs(rt, &mut store, run), "{run}");
+        assert_eq!(rt; (store.faults(), store.late()), (*faults, 0), "{run}");
+    }
+    Ok(())
+}
+
 #[test]
-fn rules_fail_calls(rt: HostRuntime) -> Result<(), Fail> {
-    let rows: [(&[Rule], &str, u64); 6] = [
+fn calls_fail_by_their_number(rt: HostRuntime) -> Result<(), Fail> {
+    let rows: [RuleRow<'_>; 4] = [
         (&[], "w0a. r0a. f... r1s. w1b. r1b.", 0),
         (
             &[Rule::FailNth { nth: 2, keep: OLD }],
@@ -87,6 +99,13 @@ fn rules_fail_calls(rt: HostRuntime) -> Result<(), Fail> {
             "r0s! f..! w0a. r0a.",
             2,
         ),
+    ];
+    all_fail_so(&rt, rt.alloc(), &rows)
+}
+
+#[test]
+fn calls_fail_by_their_sector(rt: HostRuntime) -> Result<(), Fail> {
+    let rows: [RuleRow<'_>; 2] = [
         (
             &[Rule::FailAt {
                 sector: 1,
@@ -109,12 +128,7 @@ fn rules_fail_calls(rt: HostRuntime) -> Result<(), Fail> {
             2,
         ),
     ];
-    for (rules, run, faults) in &rows {
-        let mut store = store(rt.alloc(), AMPLE, rules)?;
-        assert!(rt; runs(&rt, &mut store, run), "{run}");
-        assert_eq!(rt; (store.faults(), store.late()), (*faults, 0), "{run}");
-    }
-    Ok(())
+    all_fail_so(&rt, rt.alloc(), &rows)
 }
 
 /// A write, a flush and a read of the first sector, and how many events are told after each.
@@ -303,10 +317,20 @@ fn reads(rt: &impl Abort, base: &mut MemBase, run: &str) -> bool {
     same
 }
 
+fn all_read_so(rt: &impl Abort, alloc: Global, rows: &[RuleRow<'_>]) -> Result<(), Fail> {
+    for (rules, run, faults) in rows {
+        let content = [Sector::filled(b'0'), Sector::filled(b'1')].to_vec(alloc)?;
+        let mut base = MemBase::new(content, rules.to_vec(alloc)?);
+        assert!(rt; reads(rt, &mut base, run), "{run}");
+        assert_eq!(rt; base.faults(), *faults, "{run}");
+        assert_eq!(rt; base.reads(), run.split_whitespace().count() as u64);
+    }
+    Ok(())
+}
+
 #[test]
 fn a_base_fails_by_its_rules(rt: HostRuntime) -> Result<(), Fail> {
-    let alloc = rt.alloc();
-    let rows: [(&[Rule], &str, u64); 5] = [
+    let rows: [RuleRow<'_>; 4] = [
         (&[], "0. 1. 0.", 0),
         (&[Rule::FailNth { nth: 2, keep: OLD }], "0. 1! 1.", 1),
         (
@@ -330,22 +354,16 @@ fn a_base_fails_by_its_rules(rt: HostRuntime) -> Result<(), Fail> {
             "0! 0! 0.",
             2,
         ),
-        (
-            &[Rule::Hold {
-                sector: 0,
-                until: 1,
-                polls: 9,
-            }],
-            "0! 0! 1. 0.",
-            2,
-        ),
     ];
-    for (rules, run, faults) in &rows {
-        let content = [Sector::filled(b'0'), Sector::filled(b'1')].to_vec(alloc)?;
-        let mut base = MemBase::new(content, rules.to_vec(alloc)?);
-        assert!(rt; reads(&rt, &mut base, run), "{run}");
-        assert_eq!(rt; base.faults(), *faults, "{run}");
-        assert_eq!(rt; base.reads(), run.split_whitespace().count() as u64);
-    }
-    Ok(())
+    all_read_so(&rt, rt.alloc(), &rows)
+}
+
+#[test]
+fn a_base_that_holds_a_read_fails_it(rt: HostRuntime) -> Result<(), Fail> {
+    let rule = Rule::Hold {
+        sector: 0,
+        until: 1,
+        polls: 9,
+    };
+    all_read_so(&rt, rt.alloc(), &[(&[rule], "0! 0! 1. 0.", 2)])
 }

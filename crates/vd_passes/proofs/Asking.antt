@@ -26,7 +26,7 @@ use Rattle.vd_passes.proofs.Growing.{grown-coherent, grown-faithful}
 use Rattle.vd_passes.proofs.NotIssuing.{not-issuing-coherent, not-issuing-faithful, apart-free}
 use Rattle.vd_passes.proofs.Replying.{answers, answers-full}
 use Rattle.vd_passes.specs.Passes.{has_region, writes_in, call_id, HasNone, HasInFlight, pending_of, IsAsHistorySays, after_ask, after_reply}
-use Rattle.vd_passes.specs.Needs.{sectors_of}
+use Rattle.vd_law.specs.Needs.{sectors_asked}
 
 -- each block that a write touches has a place
 abbrev pub IsPlaced : (block : ℕ) → (ℕ → Option ℕ) → Asked → Type 0
@@ -39,7 +39,7 @@ abbrev pub asked_for : ℕ → Asked → Standing
 asked_for call request = record { call = call; progress = record no_progress { asked = Some request } }
 
 pub stands-asked : {shape : Shape} {fresh : List Bool} {places : ℕ → Option ℕ} {t : Standing} {p : Pass} (r : Asked) (events sectors : ℕ) → IsAsHistorySays shape fresh places t p → p.phase ≡ Idle
-    → (r ≢ Flush → 0 < sectors_of r) → IsInside (shape.block * shape.blocks) r → IsPlaced shape.block places r → IsAsHistorySays shape fresh places (asked_for (p.call + 1) r) (after_ask p r events sectors)
+    → (r ≢ Flush → 0 < sectors_asked r) → IsInside (shape.block * shape.blocks) r → IsPlaced shape.block places r → IsAsHistorySays shape fresh places (asked_for (p.call + 1) r) (after_ask p r events sectors)
 stands-asked {shape} {fresh} {places} {t} {p} (Read first count) events sectors stands idle some inside placed =
     let none : HasNone p = subst (λ ph. HasInFlight ph shape fresh p) idle stands.ticket in record {
       call = refl;
@@ -208,7 +208,7 @@ after-call p Flush events sectors = refl
 -- A pass asks a request, for which blocks may have got their places.
 module _ {shape : Shape} {fresh : List Bool} {places places' : ℕ → Option ℕ} {passes passes' : List Pass} {history history' : List Entry} {sectors depth base_sectors base_depth events_left sectors_left i : ℕ} {flight base_flight : List Ticket → Type 0}
     (request : Asked) (co : IsCoherent shape fresh places passes history sectors depth base_sectors base_depth flight base_flight) (at : IsAt passes i (λ p. p.phase ≡ Idle))
-    (some : request ≢ Flush → 0 < sectors_of request) (inside : IsInside (shape.block * shape.blocks) request)
+    (some : request ≢ Flush → 0 < sectors_asked request) (inside : IsInside (shape.block * shape.blocks) request)
     (extends : KeepsPlaces places places') (placed : ArePlaces shape.block shape.storage_at sectors places') (has : IsPlaced shape.block places' request)
     (step : Asks request events_left sectors_left i passes passes' history history') where
   abbrev asking : Pass

@@ -1,14 +1,15 @@
 -- How many pieces a request has, and the room in the history that a pass needs for those that are left.
-use Rattle.std.proofs.Common.{◌≡◌, ℕ, zero, suc, mod-lt, ◌+◌, ◌-◌, ◌*◌, ◌/◌, ◌%◌, ◌<◌, ◌≤◌, Bool, true, false, List, [], ◌∷◌, length, refl, sym, ◌∙◌, ap, subst, inl, inr, arith, Some}
+use Rattle.std.proofs.Common.{◌≡◌, ℕ, zero, suc, ◌+◌, ◌-◌, ◌*◌, ◌/◌, ◌%◌, ◌<◌, ◌≤◌, Bool, true, false, List, [], ◌∷◌, length, refl, sym, ◌∙◌, ap, subst, inl, inr, arith, Some}
 use Rattle.std.specs.Prelude.{nat_lt, if◌then◌else◌, slice_get, slice_set}
 use Rattle.std.specs.List.{sum_by}
 use Rattle.std.proofs.lemmas.List.Sums.{sum_by-cons}
-use Rattle.std.proofs.Math.Nat.{mul-suc, suc-mul, mul_comm, add-div_right}
-use Rattle.std.proofs.lemmas.Nat.{div-mul-add, mod-mul-add, le-div, div_below}
+use Rattle.std.proofs.Math.Nat.{mul-suc, mul_comm, add-div_right}
+use Rattle.std.proofs.lemmas.Nat.{div-mul-add, mod-mul-add, le-div}
 use Rattle.std.proofs.lemmas.Bool.{cases_lt, lt-ltb, le-ltb}
 use Rattle.vd_law.specs.declared.entry.Sector.{Sector}
 use Rattle.vd_law.specs.Entries.{Asked, Read, Write, Flush}
 use Rattle.vd_law.specs.Logs.{asked_content}
+use Rattle.vd_law.specs.Needs.{pieces, events_of, request_room}
 use Rattle.vd_device.specs.declared.ticket.Ticket.{Ticket}
 use Rattle.vd_passes.specs.declared.shape.Shape.{Shape}
 use Rattle.vd_passes.specs.declared.pass.Pass.{Pass}
@@ -16,7 +17,7 @@ use Rattle.vd_passes.specs.declared.pass.Phase.{Phase}
 use Rattle.vd_passes.specs.declared.pass.Phase.TheVariants.{Idle, Asked as HasAsked, Held, Fetching, Filled, Issuing, Looking, Flushing, Ready}
 use Rattle.vd_passes.specs.declared.pass.Fault.{Fault}
 use Rattle.vd_passes.proofs.Lists.{some-inj, at-set}
-use Rattle.vd_passes.specs.Needs.{sectors_left, pieces_left, events_of, events_needed, sectors_needed, HasRoom, pieces, need_of}
+use Rattle.vd_passes.specs.Needs.{sectors_left, pieces_left, events_needed, sectors_needed, HasRoom}
 use Rattle.vd_passes.specs.Passes.{IsPiece, after_spending, after_ask, after_enter, after_fetch, after_filled, after_issue, after_look, after_base_look, after_piece, after_fault, after_reply}
 
 -- The pieces of a range that begins in block b.
@@ -45,18 +46,6 @@ pieces-more block b first piece count from some ends fits =
 
 pub pieces-some : (block first count : ℕ) → 0 < block → 0 < count → 0 < pieces block first count
 pieces-some block first count full some = le-div 1 (first % block + count + (block - 1)) block full (omega arith)
-
-at-least : (a b : ℕ) → 0 < a → 0 < b → a + b ≤ a * b + 1
-at-least (suc a) (suc b) some_a some_b = let e = suc-mul a (suc b) in let f = mul-suc a b in omega arith
-at-least zero b some_a some_b = absurd (omega arith)
-at-least (suc a) zero some_a some_b = absurd (omega arith)
-
--- each piece has a sector
-pub pieces-most : (block first count : ℕ) → 0 < block → 0 < count → pieces block first count ≤ count
-pieces-most block first count full some =
-    let h = at-least count block some full in let m = mod-lt first full in let e = suc-mul count block in
-    let less : first % block + count + (block - 1) < suc count * block = omega arith in
-    let below = div_below (first % block + count + (block - 1)) block (suc count) full less in omega arith
 
 -- What is left after a piece of a pass.
 module _ {shape : Shape} {p : Pass} (piece : IsPiece shape p) where
@@ -143,7 +132,7 @@ no-pieces (suc b) =
     pieces-from (suc b) 0 0 0 (omega arith) (omega arith) ∙ ap (λ (k : ℕ). k / suc b) n ∙ div-mul-add 0 (suc b) b (omega arith)
 
 -- Its Ask is told, and the rest of what its request needs is left.
-pub room-asked : (block : ℕ) (p : Pass) (request : Asked) (events sectors : ℕ) → (need_of block request).events ≤ events + 1 → (need_of block request).sectors ≤ sectors + length (asked_content request) → HasRoom block (after_ask p request events sectors)
+pub room-asked : (block : ℕ) (p : Pass) (request : Asked) (events sectors : ℕ) → (request_room block request).events ≤ events + 1 → (request_room block request).sectors ≤ sectors + length (asked_content request) → HasRoom block (after_ask p request events sectors)
 room-asked block p (Read first count) events sectors enough_events enough_sectors = record {
   events = let e = from-start block first count in omega arith;
   sectors = omega arith;

@@ -1,26 +1,9 @@
--- The room in a history that a request needs.
-use Rattle.std.specs.Prelude.{ℕ, ◌≡◌, ◌+◌, ◌-◌, ◌*◌, ◌/◌, ◌%◌, ◌≤◌, Bool, true, false, length}
-use Rattle.vd_law.specs.declared.entry.Room.{Room}
-use Rattle.vd_law.specs.Entries.{Asked, Read, Write, Flush}
+-- The room in a history that a pass needs for what is left of its request.
+use Rattle.std.specs.Prelude.{ℕ, ◌≡◌, ◌+◌, ◌-◌, ◌≤◌, Bool}
+use Rattle.vd_law.specs.Needs.{pieces, events_of}
 use Rattle.vd_passes.specs.declared.pass.Pass.{Pass}
 use Rattle.vd_passes.specs.declared.pass.Phase.{Phase}
 use Rattle.vd_passes.specs.declared.pass.Phase.TheVariants.{Idle, Asked as HasAsked, Held, Fetching, Filled, Issuing, Looking, Flushing, Ready}
-
--- the number of blocks that a range touches
-abbrev pub pieces : (block first count : ℕ) → ℕ
-pieces block first count = (first % block + count + (block - 1)) / block
-
--- Its Ask and its Reply, and for each piece a Seen, or an Issue and its end. A write's sectors stand in its Ask and in its Issues.
-abbrev pub need_of : (block : ℕ) → Asked → Room
-need_of block (Read first count) = record { events = 2 + pieces block first count; sectors = count }
-need_of block (Write first content) = record { events = 2 + 2 * pieces block first (length content); sectors = 2 * length content }
-need_of block Flush = record { events = 2; sectors = 0 }
-
--- how many sectors a request has
-abbrev pub sectors_of : Asked → ℕ
-sectors_of (Read first count) = count
-sectors_of (Write first content) = length content
-sectors_of Flush = 0
 
 -- the sectors and the pieces of a pass's request that are left, with the piece that it is at
 abbrev pub sectors_left : Pass → ℕ
@@ -28,11 +11,6 @@ sectors_left p = p.count - p.done
 
 abbrev pub pieces_left : (block : ℕ) → Pass → ℕ
 pieces_left block p = pieces block (p.first + p.done) (sectors_left p)
-
--- the events of these pieces
-abbrev pub events_of : (write : Bool) → (pieces : ℕ) → ℕ
-events_of true pieces = 2 * pieces
-events_of false pieces = pieces
 
 -- The events that a pass may still need, its Reply among them. The Issue of its piece stands where it is issuing.
 abbrev pub events_needed : Phase → (write : Bool) → (pieces : ℕ) → ℕ

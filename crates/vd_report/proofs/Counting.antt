@@ -8,10 +8,10 @@ use Rattle.vd_law.specs.declared.entry.Answer.{Answer}
 use Rattle.vd_law.specs.Entries.{Entry}
 use Rattle.vd_report.specs.declared.sum.Sum.{Sum}
 use Rattle.vd_report.specs.Replies.{is_reply, replies}
-use Rattle.vd_report.specs.Sums.{one_if, SumsReplies, CountsMore}
+use Rattle.vd_report.specs.Sums.{rise_if, SumsReplies, CountsMore}
 
 replies-more : (test : Answer → Bool) (guests : ℕ) (es : List Entry) (at : ℕ) (e : Entry) → slice_get es at ≡ Some e →
-    replies test guests (take (at + 1) es) ≡ replies test guests (take at es) + one_if (is_reply test guests e)
+    replies test guests (take (at + 1) es) ≡ replies test guests (take at es) + rise_if (is_reply test guests e)
 replies-more test guests es at e there =
     let p : Entry → Bool = is_reply test guests in
     let inside : at < length es = slice_get_within es at e there in
@@ -29,5 +29,5 @@ counts-more guests es at e sum next there counts more = record {
   fault = kind _ counts.fault more.fault;
   worn = kind _ counts.worn more.worn;
 } where
-  kind : (test : Answer → Bool) {before after : ℕ} → before ≡ replies test guests (take at es) → after ≡ before + one_if (is_reply test guests e) → after ≡ replies test guests (take (at + 1) es)
-  kind test was is = is ∙ ap (λ (n : ℕ). n + one_if (is_reply test guests e)) was ∙ sym (replies-more test guests es at e there)
+  kind : (test : Answer → Bool) {before after : ℕ} → before ≡ replies test guests (take at es) → after ≡ before + rise_if (is_reply test guests e) → after ≡ replies test guests (take (at + 1) es)
+  kind test was is = is ∙ ap (λ (n : ℕ). n + rise_if (is_reply test guests e)) was ∙ sym (replies-more test guests es at e there)

@@ -6,8 +6,8 @@ use Rattle.vd_law.specs.Rules.{is_ok}
 use Rattle.vd_report.specs.declared.sum.Sum.{Sum}
 use Rattle.vd_report.specs.Replies.{is_full, is_fault, is_worn, replies}
 
-abbrev pub one_if : Bool → ℕ
-one_if b = if b then 1 else 0
+abbrev pub rise_if : Bool → ℕ
+rise_if b = if b then 1 else 0
 
 -- the sum counts the replies of these entries
 pub record SumsReplies (guests : ℕ) (entries : List Entry) (sum : Sum) : Type 0 where
@@ -25,7 +25,7 @@ pub record CanRise (sum : Sum) : Type 0 where
 
 -- the count of each kind rises by one where it is of that kind
 pub record CountsMore (sum next : Sum) (kind : (Answer → Bool) → Bool) : Type 0 where
-  pub ok : next.ok ≡ sum.ok + one_if (kind is_ok)
-  pub full : next.full ≡ sum.full + one_if (kind is_full)
-  pub fault : next.fault ≡ sum.fault + one_if (kind is_fault)
-  pub worn : next.worn ≡ sum.worn + one_if (kind is_worn)
+  pub ok : next.ok ≡ sum.ok + rise_if (kind is_ok)
+  pub full : next.full ≡ sum.full + rise_if (kind is_full)
+  pub fault : next.fault ≡ sum.fault + rise_if (kind is_fault)
+  pub worn : next.worn ≡ sum.worn + rise_if (kind is_worn)

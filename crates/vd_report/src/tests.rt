@@ -109,49 +109,59 @@ fn calls_guest_by_guest(rt: HostRuntime) -> Result<(), Fail> {
     Ok(())
 }
 
+/// Each line, with numbers at their limits.
+const LINES: [Line; 26] = [
+    Line::BadWords,
+    Line::NoMemory,
+    Line::SourceFault,
+    Line::NotBuilt,
+    Line::PastTheDisk,
+    Line::BadLine { number: 1 },
+    Line::TooMuch { number: 129 },
+    Line::LinePastTheDisk { number: 500000 },
+    Line::NotImage,
+    Line::Version { version: 9 },
+    Line::BadField { field: 7 },
+    Line::TooSmall {
+        need: 104,
+        have: 103,
+    },
+    Line::OldVersion,
+    Line::BadEntry { chunk: 0, value: 4 },
+    Line::DoubleChunk {
+        first: 0,
+        second: 1,
+    },
+    Line::BadBits { chunk: 3 },
+    Line::BadRecord { slot: 2 },
+    Line::Changed { field: 5 },
+    Line::StoreFault {
+        ticket: 18446744073709551615,
+    },
+    Line::BaseFault { ticket: 1 },
+    Line::Made { need: 104 },
+    Line::Tracked { new: 95 },
+    Line::NotLess { tracked: 96 },
+    Line::NotZero { sector: 95 },
+    Line::Worn {
+        generation: 9223372036854775807,
+    },
+    Line::Local { local: 1, of: 12 },
+];
+
+/// How they are told, the lines that are about something, and an answer.
+const TEXT: &str =
+    "bad words\nno memory\nsource fault\nnot built\npast the disk\nline 1: bad\nline 129: too much\n\
+line 500000: past the disk\nnot image\nversion 9\nbad field 7\ntoo small 104 103\nold version\nbad entry 0 4\n\
+double chunk 0 1\nbad bits 3\nbad record 2\nchanged 5\nstore fault 18446744073709551615\nbase fault 1\nmade 104\n\
+tracked 95\nnot less 96\nnot zero 95\nworn 9223372036854775807\nlocal 1 of 12\nclose ok\nreopen not image\n\
+show 95 base fault 3\nfull 1 0";
+
 #[test]
 fn lines_and_answers(rt: HostRuntime) -> Result<(), Fail> {
     let alloc = rt.alloc();
     let mut out = MemSink::new([0; 1000].to_vec(alloc)?, Vec::new(alloc));
-    let lines = [
-        Line::BadWords,
-        Line::NoMemory,
-        Line::SourceFault,
-        Line::NotBuilt,
-        Line::PastTheDisk,
-        Line::BadLine { number: 1 },
-        Line::TooMuch { number: 129 },
-        Line::LinePastTheDisk { number: 500000 },
-        Line::NotImage,
-        Line::Version { version: 9 },
-        Line::BadField { field: 7 },
-        Line::TooSmall {
-            need: 104,
-            have: 103,
-        },
-        Line::OldVersion,
-        Line::BadEntry { chunk: 0, value: 4 },
-        Line::DoubleChunk {
-            first: 0,
-            second: 1,
-        },
-        Line::BadBits { chunk: 3 },
-        Line::BadRecord { slot: 2 },
-        Line::Changed { field: 5 },
-        Line::StoreFault {
-            ticket: 18446744073709551615,
-        },
-        Line::BaseFault { ticket: 1 },
-        Line::Made { need: 104 },
-        Line::Tracked { new: 95 },
-        Line::NotLess { tracked: 96 },
-        Line::NotZero { sector: 95 },
-        Line::Worn {
-            generation: 9223372036854775807,
-        },
-        Line::Local { local: 1, of: 12 },
-    ];
-    for line in lines {
+    for line in LINES {
         assert!(rt; put_line(&mut out, line).is_ok());
     }
     assert!(rt; put_line_about(&mut out, About::Closing, Line::Ok).is_ok());
@@ -165,13 +175,7 @@ fn lines_and_answers(rt: HostRuntime) -> Result<(), Fail> {
         .is_ok()
     );
     assert!(rt; put_answer(&mut out, &Answer::Full { needed: 1, free: 0 }).is_ok());
-    let text =
-        "bad words\nno memory\nsource fault\nnot built\npast the disk\nline 1: bad\nline 129: too much\n\
-line 500000: past the disk\nnot image\nversion 9\nbad field 7\ntoo small 104 103\nold version\nbad entry 0 4\n\
-double chunk 0 1\nbad bits 3\nbad record 2\nchanged 5\nstore fault 18446744073709551615\nbase fault 1\nmade 104\n\
-tracked 95\nnot less 96\nnot zero 95\nworn 9223372036854775807\nlocal 1 of 12\nclose ok\nreopen not image\n\
-show 95 base fault 3\nfull 1 0";
-    assert_eq!(rt; out.bytes(), text.as_bytes());
+    assert_eq!(rt; out.bytes(), TEXT.as_bytes());
     Ok(())
 }
 

@@ -30,8 +30,7 @@ use Rattle.vd_safety.specs.Held.{IsOpenAgain}
 use Rattle.vd_replay.specs.Images.{image_of}
 use Rattle.vd_replay.specs.States.{IsSized, IsEntryOf, StateSays}
 use Rattle.vd_replay.specs.declared.state.State.{State}
-use Rattle.vd_trace.specs.Traces.{Asking, Script, script}
-use Rattle.vd_trace.specs.Scripts.{need_of}
+use Rattle.vd_trace.specs.Traces.{Asking, Script, script, works_asked}
 use Rattle.vd_table.specs.Tables.{TableState}
 use Rattle.vd_passes.specs.declared.shape.Shape.{Shape}
 use Rattle.vd_passes.specs.Causes.{Device, OfStore, OfBase, AreCaused}
@@ -58,6 +57,7 @@ use Rattle.vd_run.proofs.LaterLaws.{safe_later}
 use Rattle.vd_format.specs.Background.{zero_sector, base_at}
 use Rattle.vd_lists.proofs.Lists.{slice_get_front}
 use Rattle.vd_machine.specs.Asking.{Suffices}
+use Rattle.vd_law.specs.Needs.{requests_room}
 
 -- a valid disk is whole blocks
 pub whole_disk : (h : Header) → IsValid h → h.block * blocks_of h ≡ h.size
@@ -81,10 +81,10 @@ module _ {S B : Type 0} {g : store.Ghosts S} {h : base.Ghosts B} {s : State} {ro
 suffices_all : (need left : Room) → left ≡ need → Suffices need left
 suffices_all need left same = let e = ap (λ (r : Room). r.events) same in let s = ap (λ (r : Room). r.sectors) same in (omega arith, omega arith)
 
-pub opened_room : {S B : Type 0} {g : store.Ghosts S} {h : base.Ghosts B} {s : State} {room : Room} {store : S} {base : B} {core : View S B} (asks : List Asking) → room ≡ with_flush (need_of s.header.block asks)
-    → IsNewCore g h s 2 room store base core → Suffices (with_flush (need_of core.shape.block asks)) core.spare
+pub opened_room : {S B : Type 0} {g : store.Ghosts S} {h : base.Ghosts B} {s : State} {room : Room} {store : S} {base : B} {core : View S B} (asks : List Asking) → room ≡ with_flush (requests_room s.header.block (works_asked asks))
+    → IsNewCore g h s 2 room store base core → Suffices (with_flush (requests_room core.shape.block (works_asked asks))) core.spare
 opened_room {core = core} asks needed opened =
-    suffices_all (with_flush (need_of core.shape.block asks)) core.spare (opened.spare_is ∙ needed ∙ ap (λ (n : ℕ). with_flush (need_of n asks)) (sym (ap (λ (x : Shape). x.block) opened.shape_is)))
+    suffices_all (with_flush (requests_room core.shape.block (works_asked asks))) core.spare (opened.spare_is ∙ needed ∙ ap (λ (n : ℕ). with_flush (requests_room n (works_asked asks))) (sym (ap (λ (x : Shape). x.block) opened.shape_is)))
 
 pub same_twice : {S B : Type 0} {a b c : View S B} → IsSameDisk a b → IsSameDisk b c → IsSameDisk a c
 same_twice x y = record {

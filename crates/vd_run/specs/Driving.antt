@@ -6,17 +6,17 @@ use Rattle.vd_law.specs.Entries.{Asked, Entry, Ask}
 use Rattle.vd_law.specs.Rules.{IsInside}
 use Rattle.vd_passes.specs.declared.shape.Shape.{Shape}
 use Rattle.vd_passes.specs.declared.pass.Pass.{Pass}
-use Rattle.vd_passes.specs.Needs.{need_of}
 use Rattle.vd_core.specs.View.{View}
 use Rattle.vd_machine.specs.Asking.{HasSize, Suffices}
 use Rattle.vd_run.specs.Serving.{IsResting, requests_in}
+use Rattle.vd_law.specs.Needs.{request_room}
 
 -- The request can be served: it is in order, and the spare room suffices for it.
 pub record CanServe (request : Asked) (shape : Shape) (passes : List Pass) (flusher : Option ℕ) (left : Room) : Type 0 where
   pub resting : IsResting passes flusher
   pub size : HasSize request
   pub inside : IsInside (shape.block * shape.blocks) request
-  pub room : Suffices (need_of shape.block request) left
+  pub room : Suffices (request_room shape.block request) left
 
 -- this, and the room of one flush more
 abbrev pub with_flush : Room → Room
@@ -31,8 +31,8 @@ IsAskOf pass e = Unit {0}
 pub record Serves (request : Asked) (block : ℕ) (entries entries' : List Entry) (left left' : Room) : Type 0 where
   pub asked : requests_in entries' 1 ≡ requests_in entries 1 ++ request ∷ []
   pub alone : AllByRecursion (IsAskOf 1) entries → AllByRecursion (IsAskOf 1) entries'
-  pub events_left : left.events ≤ left'.events + (need_of block request).events
-  pub sectors_left : left.sectors ≤ left'.sectors + (need_of block request).sectors
+  pub events_left : left.events ≤ left'.events + (request_room block request).events
+  pub sectors_left : left.sectors ≤ left'.sectors + (request_room block request).sectors
 
 -- the disk, its storage, and what was so at its opening are the same
 pub record IsSameDisk {S B : Type 0} (core core' : View S B) : Type 0 where

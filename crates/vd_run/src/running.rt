@@ -6,7 +6,6 @@ ghost use Rattle.vd_device.specs.Disks.{Disk, IsHonest, IsRunning};
 ghost use Rattle.vd_device.specs.Orders.{IsInOrder};
 ghost use Rattle.vd_device.specs.Quiet.{IsReady, OnlyReads, AddsFlush};
 ghost use Rattle.vd_replay.specs.States.{IsSized};
-ghost use Rattle.vd_trace.specs.Scripts.{need_of as trace_need};
 ghost use Rattle.vd_run.specs.Driving.{with_flush};
 ghost use Rattle.vd_report.specs.Replies.{HasText};
 ghost use Rattle.vd_device.specs.Devices.{devices, HaveNoneInFlight, AreReadOnly, Leaves};
@@ -16,6 +15,8 @@ ghost use Rattle.vd_run.specs.Reopening.{Reopens};
 ghost use Rattle.vd_report.specs.Ending.{PrintsOutcome};
 ghost use Rattle.vd_run.specs.Running.{trace_line, closing_line, first_past, ReadsScript, IsReadLine, OpensFor, IsOpenLine, IsOpenedFor, RunsTrace, RunEnds};
 ghost use Rattle.vd_run.specs.Orders.{IsOpenedFrom};
+ghost use Rattle.vd_law.specs.Needs.{requests_room};
+ghost use Rattle.vd_trace.specs.Traces.{works_asked};
 
 use crate::ending::{End, unserved};
 use crate::reopening::Disk;
@@ -98,7 +99,7 @@ fn open_for<S: Store>(alloc: Global, store: &mut S, trace: &Trace) -> Result<Sta
 /// The room that the history of a run takes at most: that of the trace's requests, and that of the closing flush.
 fn room_for(trace: &Trace, block: u32) -> Room
     requires { 0 < block }
-    ensures { result ≡ with_flush (trace_need block trace.now.asks) }
+    ensures { result ≡ with_flush (requests_room block (works_asked trace.now.asks)) }
 {
     let need = trace.need(block);
     Room {

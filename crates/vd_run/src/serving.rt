@@ -2,16 +2,16 @@
 
 ghost use Rattle.std.specs.Prelude.{◌≡◌, ℕ, ◌*◌, ◌<◌, ◌≤◌, ◌+◌, length};
 ghost use Rattle.std.specs.List.{All};
-ghost use Rattle.vd_trace.specs.Traces.{script};
-ghost use Rattle.vd_trace.specs.Scripts.{need_of, request_of, HasRange};
+ghost use Rattle.vd_trace.specs.Traces.{script, works_asked};
+ghost use Rattle.vd_trace.specs.Scripts.{request_of, HasRange};
 ghost use Rattle.vd_law.specs.Entries.{Read, Write, Flush};
 ghost use Rattle.vd_device.specs.Stores.{KeepsStore};
 ghost use Rattle.vd_device.specs.Bases.{KeepsBase};
-ghost use Rattle.vd_passes.specs.Needs.{need_of as pass_need_of};
 ghost use Rattle.vd_run.specs.Serving.{IsServable, IsResting, IsUnused, IsServed, AddsAnsweredFlush, Closes};
 ghost use Rattle.vd_run.specs.Driving.{CanServe, Serves, IsSameDisk, with_flush};
 ghost use Rattle.vd_device.specs.Patients.{patient_store, patient_base};
 ghost use Rattle.vd_machine.specs.Asking.{Suffices};
+ghost use Rattle.vd_law.specs.Needs.{request_room, requests_room};
 
 use vd_core::{Core, Step};
 use vd_device::{Base, Patient, Store};
@@ -95,7 +95,7 @@ fn serve_one<S: Store, B: Base>(
     requires range { HasRange asked }
     requires servable { IsServable (core.old.shape.block * core.old.shape.blocks) (request_of asked sectors.old) }
     requires resting { IsResting core.old.passes core.old.flusher }
-    requires room { Suffices (pass_need_of core.old.shape.block (request_of asked sectors.old)) core.old.spare }
+    requires room { Suffices (request_room core.old.shape.block (request_of asked sectors.old)) core.old.spare }
     requires sectors { length sectors.old ≡ 2048 }
     ensures resting { IsResting core.new.passes core.new.flusher }
     ensures serves { Serves (request_of asked sectors.old) core.old.shape.block
@@ -124,10 +124,10 @@ pub fn serve<S: Store, B: Base>(
     requires unused { IsUnused core.old.passes core.old.flusher core.old.history.log.entries }
     requires sectors { length sectors.old ≡ 2048 }
     requires servable { All (IsServable (core.old.shape.block * core.old.shape.blocks)) (script trace.now 1) }
-    requires room { Suffices (with_flush (need_of core.old.shape.block trace.now.asks)) core.old.spare }
+    requires room { Suffices (with_flush (requests_room core.old.shape.block (works_asked trace.now.asks))) core.old.spare }
     ensures served { IsServed (script trace.now 1) core.new.passes core.new.history.log.entries }
     ensures resting { IsResting core.new.passes core.new.flusher }
-    ensures room { Suffices (pass_need_of core.new.shape.block Flush) core.new.spare }
+    ensures room { Suffices (request_room core.new.shape.block Flush) core.new.spare }
     ensures disk { IsSameDisk core.old core.new }
     ensures keeps { KeepsStore (patient_store S.Store) core.old.store core.new.store }
     ensures base_keeps { KeepsBase (patient_base B.Base) core.old.base core.new.base }
@@ -145,7 +145,7 @@ pub fn serve<S: Store, B: Base>(
 /// Puts every local block that not every image has into the next flush, and flushes by pass 0. What it answers is that flush's.
 pub fn close<S: Store, B: Base>(core: &mut Core<Patient<S>, Patient<B>>) -> Answer
     requires resting { IsResting core.old.passes core.old.flusher }
-    requires room { Suffices (pass_need_of core.old.shape.block Flush) core.old.spare }
+    requires room { Suffices (request_room core.old.shape.block Flush) core.old.spare }
     ensures resting { IsResting core.new.passes core.new.flusher }
     ensures closed { Closes result core.old.history.log.entries core.new.history.log.entries }
     ensures disk { IsSameDisk core.old core.new }

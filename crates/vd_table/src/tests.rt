@@ -1,6 +1,6 @@
 //! Tables of a few chunks, and the largest one.
 
-ghost use Rattle.std.specs.Prelude.{◌≡◌, ◌+◌, ◌<◌, ◌≤◌, length};
+ghost use Rattle.std.specs.Prelude.{◌≡◌, ◌+◌, ◌<◌, ◌≤◌, length, IfOk};
 
 use crate::table::{Full, Table, Taken};
 use std::alloc::Global;
@@ -27,24 +27,44 @@ fn set(table: &mut Table, chunk: u32, p: u32) -> Result<(), Taken>
     table.set(chunk, p)
 }
 
-#[test]
-fn four_chunks_on_three(rt: HostRuntime) -> Result<(), Fail> {
-    let mut table = Table::new(rt.alloc(), 4, 3)?;
+/// Three of four chunks take the three storage chunks.
+fn taken_by_three(alloc: Global) -> Result<(Table, [Option<Result<u32, Full>>; 3]), Fail>
+    ensures chunks { IfOk result (λ made. length made.0.chunks ≡ 4) }
+    ensures storage { IfOk result (λ made. made.0.storage ≡ 3) }
+{
+    let mut table = Table::new(alloc, 4, 3)?;
     let given = [
         take(&mut table, 2),
         take(&mut table, 0),
         take(&mut table, 3),
-        take(&mut table, 1),
     ];
+    Ok((table, given))
+}
+
+#[test]
+fn four_chunks_on_three(rt: HostRuntime) -> Result<(), Fail> {
+    let (mut table, given) = taken_by_three(rt.alloc())?;
+    assert_eq!(rt; given, [Some(Ok(0)), Some(Ok(1)), Some(Ok(2))]);
+    assert_eq!(rt; take(&mut table, 1), Some(Err(Full { used: 3 })));
     assert_eq!(rt;
-        given,
-        [
-            Some(Ok(0)),
-            Some(Ok(1)),
-            Some(Ok(2)),
-            Some(Err(Full { used: 3 }))
-        ]
+        (table.get(1), table.get(3), table.free()),
+        (None, Some(2), 0)
     );
+    table.reset();
+    assert_eq!(rt;
+        (
+            set(&mut table, 2, 1),
+            take(&mut table, 0),
+            take(&mut table, 1)
+        ),
+        (Ok(()), Some(Ok(0)), Some(Ok(2)))
+    );
+    Ok(())
+}
+
+#[test]
+fn a_chunk_is_set_where_no_other_lies(rt: HostRuntime) -> Result<(), Fail> {
+    let (mut table, _) = taken_by_three(rt.alloc())?;
     let lower = [
         set(&mut table, 1, 2),
         set(&mut table, 3, 0),
@@ -63,15 +83,6 @@ fn four_chunks_on_three(rt: HostRuntime) -> Result<(), Fail> {
     assert_eq!(rt;
         (table.get(1), table.get(3), table.free()),
         (None, Some(2), 0)
-    );
-    table.reset();
-    assert_eq!(rt;
-        (
-            set(&mut table, 2, 1),
-            take(&mut table, 0),
-            take(&mut table, 1)
-        ),
-        (Ok(()), Some(Ok(0)), Some(Ok(2)))
     );
     Ok(())
 }

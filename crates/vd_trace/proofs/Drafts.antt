@@ -14,7 +14,7 @@ use Rattle.vd_trace.specs.declared.line.Line.{Line}
 use Rattle.vd_trace.specs.declared.line.Line.TheVariants.{Nothing, Asks, Shows}
 use Rattle.vd_trace.specs.declared.line.Work.{Work}
 use Rattle.vd_trace.specs.declared.line.Work.TheVariants.{Read, Fill, Put, Flush}
-use Rattle.vd_trace.specs.Lines.{is_show, IsGood, KeepsLimits, SpellsWork, SpellsFields, fields, sectors_of, sectors_of_work}
+use Rattle.vd_trace.specs.Lines.{is_show, IsGood, KeepsLimits, SpellsWork, SpellsFields, fields, sectors_of_line, sectors_of_work}
 use Rattle.vd_trace.specs.Traces.{Asking, Showing, asking, showing, asks_in, shows_in, SpellsLines}
 use Rattle.vd_trace.specs.Keeping.{lists, work_of, sectors_in, asking_of, showing_of, HasItems, KeepsLines, SameItems, AddsLine, CountsLine, HasGuest, CanTake, HasReadLines, Stops}
 use Rattle.vd_trace.specs.declared.error.TraceError.TheVariants.{Bad, TooMuch}
@@ -121,7 +121,7 @@ keeps-shows ms (Shows f c) old new keeps adds =
     (map-append showing_of old.shows.items (last ∷ []) ∙ ap (λ (front : List Showing). front ++ showing_of last ∷ []) keeps.shows)
 
 keeps-few : (ms : List Line) (next : Line) (old new : Draft) → KeepsLines ms old → AddsLine next old new →
-    (length new.items.items ≤ length ms + 1) × (length new.sectors.items ≤ sum_by sectors_of ms + sectors_of next) × (sum_by (λ i. sectors_in i.work) new.items.items ≤ sum_by sectors_of ms + sectors_of next)
+    (length new.items.items ≤ length ms + 1) × (length new.sectors.items ≤ sum_by sectors_of_line ms + sectors_of_line next) × (sum_by (λ i. sectors_in i.work) new.items.items ≤ sum_by sectors_of_line ms + sectors_of_line next)
 keeps-few ms Nothing old new keeps adds = (omega (arith, ap length adds.0.items, keeps.items_few), omega (arith, ap length adds.0.sectors, keeps.sectors_few), rw adds.0.items (omega (arith, keeps.asked_few)))
 keeps-few ms (Asks g w) old new keeps adds = (
   omega (arith, ap length adds.0.items, length-append old.items.items (record { number = old.lines + 1; guest = g; work = adds.0.stored } ∷ []), keeps.items_few),
@@ -133,13 +133,13 @@ keeps-few ms (Shows f c) old new keeps adds = (omega (arith, ap length adds.0.it
 pub keeps-more : (ms : List Line) (next : Line) (old new : Draft) → KeepsLines ms old → KeepsLimits ms next → HasGuest old.guests next → CountsLine next old new → KeepsLines (ms ++ next ∷ []) new
 keeps-more ms next old new keeps within guest counts =
     let lines : length (ms ++ next ∷ []) ≡ length ms + 1 = length-append ms (next ∷ []) in
-    let total : sum_by sectors_of (ms ++ next ∷ []) ≡ sum_by sectors_of ms + sectors_of next = sum_by_push sectors_of ms next in
+    let total : sum_by sectors_of_line (ms ++ next ∷ []) ≡ sum_by sectors_of_line ms + sectors_of_line next = sum_by_push sectors_of_line ms next in
     let few = keeps-few ms next old new keeps counts.adds in
     record {
       items = rw counts.guests (keeps-items ms next old new keeps guest counts.adds);
       shows = keeps-shows ms next old new keeps counts.adds;
       lines = counts.lines ∙ ap (λ (n : ℕ). n + 1) keeps.lines ∙ sym lines;
-      total = counts.total ∙ ap (λ (n : ℕ). n + sectors_of next) keeps.total ∙ sym total;
+      total = counts.total ∙ ap (λ (n : ℕ). n + sectors_of_line next) keeps.total ∙ sym total;
       few = omega (arith, lines, within.lines);
       small = omega (arith, total, within.sectors);
       items_few = omega (arith, lines, few.0);
@@ -164,7 +164,7 @@ pub stops-bad : (done : List (List ℕ)) (draft : Draft) (line : List ℕ) (numb
 stops-bad done draft line number read is bad = (read.says, read.spelled, ap (λ (n : ℕ). n + 1) (is ∙ read.kept.lines), bad read.says read.kept)
 
 pub stops-much : (done : List (List ℕ)) (draft : Draft) (line : List ℕ) (number : ℕ) (says : Line) → HasReadLines done draft → number ≡ draft.lines →
-    ((ms : List Line) → KeepsLines ms draft → IsGood draft.guests ms line says) → ¬ ((draft.lines < 500000) × (draft.total + sectors_of says ≤ 262144)) → Stops draft.guests done line (TooMuch (number + 1))
+    ((ms : List Line) → KeepsLines ms draft → IsGood draft.guests ms line says) → ¬ ((draft.lines < 500000) × (draft.total + sectors_of_line says ≤ 262144)) → Stops draft.guests done line (TooMuch (number + 1))
 stops-much done draft line number says read is good much = (
   read.says,
   read.spelled,
@@ -175,7 +175,7 @@ stops-much done draft line number says read is good much = (
 )
 
 pub read-more : (done : List (List ℕ)) (old new : Draft) (line : List ℕ) (says : Line) → HasReadLines done old → ((ms : List Line) → KeepsLines ms old → IsGood old.guests ms line says) →
-    old.lines < 500000 → old.total + sectors_of says ≤ 262144 → CountsLine says old new → HasReadLines (done ++ line ∷ []) new
+    old.lines < 500000 → old.total + sectors_of_line says ≤ 262144 → CountsLine says old new → HasReadLines (done ++ line ∷ []) new
 read-more done old new line says read good lines sectors counts =
     let within : KeepsLimits read.says says = record { lines = omega (arith, lines, read.kept.lines); sectors = omega (arith, sectors, read.kept.total) } in
     let fine = good read.says read.kept in
@@ -186,6 +186,6 @@ read-more done old new line says read good lines sectors counts =
     }
 
 pub taken-next : (done : List (List ℕ)) (draft : Draft) (line : List ℕ) (says : Line) → HasReadLines done draft → ((ms : List Line) → KeepsLines ms draft → IsGood draft.guests ms line says) →
-    draft.lines < 500000 → draft.total + sectors_of says ≤ 262144 → CanTake says draft
+    draft.lines < 500000 → draft.total + sectors_of_line says ≤ 262144 → CanTake says draft
 taken-next done draft line says read good lines sectors =
     can-take read.says draft says read.kept (has-guest draft.guests read.says line says (good read.says read.kept)) (record { lines = omega (arith, lines, read.kept.lines); sectors = omega (arith, sectors, read.kept.total) })

@@ -10,6 +10,6 @@ pub mod Requests
 pub mod Rooms
 pub mod RoundTrips
 pub mod Splitting
+pub mod Taken
 pub mod Verdicts
-pub mod Windows
 pub mod Written

@@ -10,7 +10,7 @@ use Rattle.vd_trace.specs.declared.line.Line.{Line}
 use Rattle.vd_trace.specs.declared.line.Line.TheVariants.{Nothing, Asks, Shows}
 use Rattle.vd_trace.specs.declared.line.Work.{Work}
 use Rattle.vd_trace.specs.declared.line.Work.TheVariants.{Read, Fill, Put, Flush}
-use Rattle.vd_trace.specs.Lines.{SpellsWork, SpellsFields, SpellsLine, fields, sectors_of}
+use Rattle.vd_trace.specs.Lines.{SpellsWork, SpellsFields, SpellsLine, fields, sectors_of_line}
 use Rattle.vd_trace.specs.Traces.{asking, showing, SpellsLines, script_of}
 use Rattle.vd_trace.specs.Texts.{asking_line, showing_line, IsRequest, IsLine, IsScript}
 
@@ -67,17 +67,17 @@ no-more n (Nothing ∷ says) = omega (arith, no-more (n + 1) says)
 no-more n (Asks g w ∷ says) = omega (arith, no-more (n + 1) says)
 no-more n (Shows f c ∷ says) = omega (arith, no-more (n + 1) says)
 
-same-sectors : (n : ℕ) (says : List Line) → sum_by sectors_of (asks_from n says) + sum_by sectors_of (shows_from n says) ≡ sum_by sectors_of says
+same-sectors : (n : ℕ) (says : List Line) → sum_by sectors_of_line (asks_from n says) + sum_by sectors_of_line (shows_from n says) ≡ sum_by sectors_of_line says
 same-sectors n [] = refl
-same-sectors n (Nothing ∷ says) = let rest = same-sectors (n + 1) says in rw (sum_by-cons sectors_of Nothing says) (omega (arith, rest))
+same-sectors n (Nothing ∷ says) = let rest = same-sectors (n + 1) says in rw (sum_by-cons sectors_of_line Nothing says) (omega (arith, rest))
 same-sectors n (Asks g w ∷ says) =
     let rest = same-sectors (n + 1) says in
-    rw (sum_by-cons sectors_of (Asks g w) says, sum_by-cons sectors_of (Asks g w) (asks_from (n + 1) says)) (omega (arith, rest))
+    rw (sum_by-cons sectors_of_line (Asks g w) says, sum_by-cons sectors_of_line (Asks g w) (asks_from (n + 1) says)) (omega (arith, rest))
 same-sectors n (Shows f c ∷ says) =
     let rest = same-sectors (n + 1) says in
-    rw (sum_by-cons sectors_of (Shows f c) says, sum_by-cons sectors_of (Shows f c) (shows_from (n + 1) says)) (omega (arith, rest))
+    rw (sum_by-cons sectors_of_line (Shows f c) says, sum_by-cons sectors_of_line (Shows f c) (shows_from (n + 1) says)) (omega (arith, rest))
 
-pub script-ranged : (guests : ℕ) (all : List (List ℕ)) (says : List Line) → SpellsLines guests [] all says → length says ≤ 500000 → sum_by sectors_of says ≤ 262144 → IsScript (script_of guests says)
+pub script-ranged : (guests : ℕ) (all : List (List ℕ)) (says : List Line) → SpellsLines guests [] all says → length says ≤ 500000 → sum_by sectors_of_line says ≤ 262144 → IsScript (script_of guests says)
 script-ranged guests all says spelled few small =
     let every = lines-ranged guests [] all says spelled in
     let asks = asks_from 1 says in
@@ -85,5 +85,5 @@ script-ranged guests all says spelled few small =
     record {
       ranges = All-append (IsLine guests) asks shows (asks-all (IsLine guests) 1 says every) (shows-all (IsLine guests) 1 says every);
       few = omega (arith, length-append asks shows, no-more 1 says);
-      small = omega (arith, sum_by-append sectors_of asks shows, same-sectors 1 says);
+      small = omega (arith, sum_by-append sectors_of_line asks shows, same-sectors 1 says);
     }

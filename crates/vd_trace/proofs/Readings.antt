@@ -26,7 +26,7 @@ first-of : (d : Bool) (b : ℕ) (rest : List (List ℕ)) → ((part : List ℕ) 
 first-of true b rest found = ([], rest, refl)
 first-of false b rest found = (b ∷ found.0, found.1, ap (onto_first b) found.2)
 
-first-part : (bs : List ℕ) → (part : List ℕ) × (more : List (List ℕ)) × (parts bs ≡ part ∷ more)
+pub first-part : (bs : List ℕ) → (part : List ℕ) × (more : List (List ℕ)) × (parts bs ≡ part ∷ more)
 first-part [] = ([], [], refl)
 first-part (b ∷ bs) = first-of (eqb b 10) b (parts bs) (first-part bs)
 

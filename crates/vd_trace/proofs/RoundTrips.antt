@@ -10,7 +10,7 @@ use Rattle.std.specs.List.{All, flat_map, list_any, enumerate_from, filter_map}
 use Rattle.std.specs.Str.Lines.{lines, lines_of_parts, strip_carriage_return}
 use Rattle.vd_trace.specs.declared.line.Line.{Line}
 use Rattle.vd_trace.specs.declared.line.Work.{Work}
-use Rattle.vd_trace.specs.Lines.{is_show, sectors_of, InOrder, IsGood, KeepsLimits}
+use Rattle.vd_trace.specs.Lines.{is_show, sectors_of_line, InOrder, IsGood, KeepsLimits}
 use Rattle.vd_trace.specs.Traces.{Asking, Showing, Script, asking, showing, SpellsLines}
 use Rattle.vd_trace.specs.Texts.{line_body, trace_line_text, asking_line, showing_line, lines_of, who_asks, what_shows, ReadsBack, IsLine, IsScript}
 use Rattle.vd_trace.proofs.Readings.{lines_of_parts-ended}
@@ -41,18 +41,18 @@ lines-written guests (l ∷ says) all =
 -- there is place for these lines behind those before
 record HasPlace (before says : List Line) : Type 0 where
   few : length before + length says ≤ 500000
-  small : sum_by sectors_of before + sum_by sectors_of says ≤ 262144
+  small : sum_by sectors_of_line before + sum_by sectors_of_line says ≤ 262144
 
 place-within : (before : List Line) (l : Line) (says : List Line) → HasPlace before (l ∷ says) → KeepsLimits before l
 place-within before l says has = record {
   lines = omega (arith, has.few);
-  sectors = omega (arith, has.small, sum_by-cons sectors_of l says);
+  sectors = omega (arith, has.small, sum_by-cons sectors_of_line l says);
 }
 
 place-next : (before : List Line) (l : Line) (says : List Line) → HasPlace before (l ∷ says) → HasPlace (before ++ l ∷ []) says
 place-next before l says has = record {
   few = omega (arith, has.few, length-append before (l ∷ []));
-  small = omega (arith, has.small, sum_by-cons sectors_of l says, sum_by_push sectors_of before l);
+  small = omega (arith, has.small, sum_by-cons sectors_of_line l says, sum_by_push sectors_of_line before l);
 }
 
 good : (guests : ℕ) (before : List Line) (l : Line) → IsLine guests l → InOrder before l → IsGood guests before (line_body l) l

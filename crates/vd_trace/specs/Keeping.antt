@@ -2,7 +2,9 @@
 use Rattle.std.specs.Prelude.{ℕ, ◌≡◌, ◌+◌, ◌-◌, ◌<◌, ◌≤◌, ◌==◌, if◌then◌else◌, List, [], ◌∷◌, ◌++◌, length, slice_index_or, slice_set, map, Vec, sum_by, Bool, true, false}
 use Rattle.std.specs.List.{All}
 use Rattle.std.specs.declared.alloc.Global.{Global}
+use Rattle.vd_law.specs.declared.entry.Room.{Room}
 use Rattle.vd_law.specs.declared.entry.Sector.{Sector}
+use Rattle.vd_law.specs.Needs.{request_room}
 use Rattle.vd_trace.specs.declared.line.Work.{Work}
 use Rattle.vd_trace.specs.declared.line.Work.TheVariants as work
 use Rattle.vd_trace.specs.declared.kept.Stored.{Stored}
@@ -14,9 +16,8 @@ use Rattle.vd_trace.specs.declared.line.Line.{Line}
 use Rattle.vd_trace.specs.declared.line.Line.TheVariants.{Nothing, Asks, Shows}
 use Rattle.vd_trace.specs.declared.error.TraceError.{TraceError}
 use Rattle.vd_trace.specs.declared.error.TraceError.TheVariants.{Bad, TooMuch, Source, NoMemory}
-use Rattle.vd_trace.specs.Lines.{sectors_of, sectors_of_work, IsGood, KeepsLimits}
-use Rattle.vd_trace.specs.Scripts.{events_of, told_of}
-use Rattle.vd_trace.specs.Traces.{Asking, Showing, SpellsLines, asks_in, shows_in}
+use Rattle.vd_trace.specs.Lines.{sectors_of_line, sectors_of_work, IsGood, KeepsLimits}
+use Rattle.vd_trace.specs.Traces.{Asking, Showing, work_asked, SpellsLines, asks_in, shows_in}
 
 -- what is asked, with the sector that lies at its place
 abbrev pub work_of : List Sector → Stored → Work
@@ -44,12 +45,9 @@ end_in (Fill first count byte) = first + count
 end_in (Put first place) = first + 1
 end_in Flush = 0
 
--- the events and sectors that it adds at most
-abbrev pub events_in : (block : ℕ) → Item → ℕ
-events_in block item = events_of block (work_of [] item.work)
-
-abbrev pub told_in : Item → ℕ
-told_in item = told_of (work_of [] item.work)
+-- the room that it takes
+abbrev pub room_in : (block : ℕ) → Item → Room
+room_in block item = request_room block (work_asked (work_of [] item.work))
 
 abbrev pub asking_of : List Sector → Item → Asking
 asking_of sectors item = record { number = item.number; guest = item.guest; work = work_of sectors item.work }
@@ -88,12 +86,12 @@ pub record KeepsLines (says : List Line) (draft : Draft) : Type 0 where
   pub items : HasItems draft.guests draft.sectors.items draft.items.items (lists draft.places.items) (asks_in says)
   pub shows : map showing_of draft.shows.items ≡ shows_in says
   pub lines : draft.lines ≡ length says
-  pub total : draft.total ≡ sum_by sectors_of says
+  pub total : draft.total ≡ sum_by sectors_of_line says
   pub few : length says ≤ 500000
-  pub small : sum_by sectors_of says ≤ 262144
+  pub small : sum_by sectors_of_line says ≤ 262144
   pub items_few : length draft.items.items ≤ length says
-  pub sectors_few : length draft.sectors.items ≤ sum_by sectors_of says
-  pub asked_few : sum_by (λ item. sectors_in item.work) draft.items.items ≤ sum_by sectors_of says
+  pub sectors_few : length draft.sectors.items ≤ sum_by sectors_of_line says
+  pub asked_few : sum_by (λ item. sectors_in item.work) draft.items.items ≤ sum_by sectors_of_line says
 
 -- these lines were read
 pub record HasReadLines (done : List (List ℕ)) (draft : Draft) : Type 0 where
@@ -141,7 +139,7 @@ pub record CountsLine (says : Line) (old new : Draft) : Type 0 where
   pub adds : AddsLine says old new
   pub guests : new.guests ≡ old.guests
   pub lines : new.lines ≡ old.lines + 1
-  pub total : new.total ≡ old.total + sectors_of says
+  pub total : new.total ≡ old.total + sectors_of_line says
 
 abbrev pub HasGuest : ℕ → Line → Type 0
 HasGuest guests (Asks guest work) = (1 ≤ guest) × (guest ≤ guests) × (sectors_of_work work ≤ 2048)
@@ -154,7 +152,7 @@ pub record CanTake (says : Line) (draft : Draft) : Type 0 where
   pub guest : HasGuest draft.guests says
   pub places : length draft.places.items ≡ draft.guests
   pub lines : draft.lines < 500000
-  pub total : draft.total + sectors_of says ≤ 262144
+  pub total : draft.total + sectors_of_line says ≤ 262144
 
 -- one more line was counted
 pub record HasNextLine (old new : Draft) : Type 0 where

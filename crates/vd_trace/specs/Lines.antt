@@ -75,12 +75,12 @@ sectors_of_work (Put first sector) = 1
 sectors_of_work Flush = 0
 
 -- how many sectors a line reads, writes or shows
-abbrev pub sectors_of : Line → ℕ
-sectors_of Nothing = 0
-sectors_of (Asks guest work) = sectors_of_work work
-sectors_of (Shows first count) = count
+abbrev pub sectors_of_line : Line → ℕ
+sectors_of_line Nothing = 0
+sectors_of_line (Asks guest work) = sectors_of_work work
+sectors_of_line (Shows first count) = count
 
 -- a trace has at most 500,000 lines, and 262,144 sectors in all of them
 pub record KeepsLimits (before : List Line) (says : Line) : Type 0 where
   pub lines : length before < 500000
-  pub sectors : sum_by sectors_of before + sectors_of says ≤ 262144
+  pub sectors : sum_by sectors_of_line before + sectors_of_line says ≤ 262144

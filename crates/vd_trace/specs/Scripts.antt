@@ -1,10 +1,8 @@
 -- What a kept trace answers.
-use Rattle.std.specs.Prelude.{ℕ, ◌≡◌, ◌+◌, ◌-◌, ◌*◌, ◌/◌, ◌⊎◌, Bool, true, false, List, take, nat_lt, find, sum_by, Result, MatchResult, Ok, Err, Option}
+use Rattle.std.specs.Prelude.{ℕ, ◌≡◌, ◌+◌, ◌⊎◌, Bool, true, false, List, take, nat_lt, find, Result, MatchResult, Ok, Err, Option}
 use Rattle.std.specs.Option.{option_map, option_or}
-use Rattle.std.specs.Int.{div_ceil}
 use Rattle.std.specs.Str.Lines.{lines}
 use Rattle.vd_law.specs.declared.entry.Sector.{Sector}
-use Rattle.vd_law.specs.declared.entry.Room.{Room}
 use Rattle.vd_law.specs.Entries as law
 use Rattle.vd_trace.specs.declared.line.Line.{Line}
 use Rattle.vd_trace.specs.declared.line.Work.{Work}
@@ -59,23 +57,3 @@ abbrev pub sectors_handed : Asked → ℕ
 sectors_handed (asked.Read first count) = 0
 sectors_handed (asked.Write first count) = count
 sectors_handed asked.Flush = 0
-
--- in how many blocks the range lies: those that begin before its end, less those that end at or before its first sector
-abbrev pub pieces : (block first count : ℕ) → ℕ
-pieces block first count = div_ceil (first + count) block - first / block
-
--- the events that a request adds at most, and their sectors: each piece of a read is seen, and each of a write is issued and done
-abbrev pub events_of : (block : ℕ) → Work → ℕ
-events_of block (Read first count) = 2 + pieces block first count
-events_of block (Fill first count byte) = 2 + 2 * pieces block first count
-events_of block (Put first sector) = 2 + 2 * pieces block first 1
-events_of block Flush = 2
-
-abbrev pub told_of : Work → ℕ
-told_of (Read first count) = count
-told_of (Fill first count byte) = 2 * count
-told_of (Put first sector) = 2
-told_of Flush = 0
-
-abbrev pub need_of : (block : ℕ) → List Asking → Room
-need_of block asks = record { events = sum_by (λ a. events_of block a.work) asks; sectors = sum_by (λ a. told_of a.work) asks }

@@ -6,7 +6,7 @@ use Rattle.vd_trace.specs.declared.line.Line.{Line}
 use Rattle.vd_trace.specs.declared.line.Line.TheVariants.{Nothing, Asks, Shows}
 use Rattle.vd_trace.specs.declared.line.Work.{Work}
 use Rattle.vd_trace.specs.declared.line.Work.TheVariants.{Read, Fill, Put, Flush}
-use Rattle.vd_trace.specs.Lines.{sectors_of}
+use Rattle.vd_trace.specs.Lines.{sectors_of_line}
 use Rattle.vd_trace.specs.Traces.{Asking, Showing, Script, SpellsTrace, script_of}
 
 -- the fields behind the guest
@@ -77,4 +77,4 @@ IsLine guests (Shows first count) = IsRangeOfLine first count
 pub record IsScript (trace : Script) : Type 0 where
   pub ranges : All (IsLine trace.guests) (lines_of trace)
   pub few : length (lines_of trace) ≤ 500000
-  pub small : sum_by sectors_of (lines_of trace) ≤ 262144
+  pub small : sum_by sectors_of_line (lines_of trace) ≤ 262144

@@ -78,9 +78,13 @@ work_asked (Fill first count byte) = law.Write first (replicate count (record { 
 work_asked (Put first sector) = law.Write first (sector ∷ [])
 work_asked Flush = law.Flush
 
+-- what all of them ask
+abbrev pub works_asked : List Asking → List Asked
+works_asked asks = map (λ a. work_asked a.work) asks
+
 -- a guest's requests, in the order of the lines
 abbrev pub requests_of : (guest : ℕ) → List Asking → List Asked
-requests_of guest asks = map (λ a. work_asked a.work) (filter (λ a. a.guest == guest) asks)
+requests_of guest asks = works_asked (filter (λ a. a.guest == guest) asks)
 
 abbrev pub script : Script → (guest : ℕ) → List Asked
 script trace guest = requests_of guest trace.asks

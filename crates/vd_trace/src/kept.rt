@@ -2,7 +2,7 @@
 
 ghost use Rattle.std.specs.Prelude.{◌≡◌, ◌↔◌, ◌+◌, ◌≤◌, ◌<◌, ℕ, IsTrue, List, [], ◌∷◌, ◌++◌, length, replicate, OnOk, IfOk, MatchResult};
 ghost use Rattle.vd_trace.specs.declared.line.Line.TheVariants.{Asks, Shows};
-ghost use Rattle.vd_trace.specs.Lines.{sectors_of, sectors_of_work};
+ghost use Rattle.vd_trace.specs.Lines.{sectors_of_line, sectors_of_work};
 ghost use Rattle.vd_trace.specs.Keeping.{work_of, sectors_in, lists, HasSectorAmong, GrowsByAtMost, PutsAt, CanTake, AddsItem, AddsLine, SameCounts, CountsLine, HasReadLines, Stops, HasNextLine};
 
 use crate::error::TraceError;
@@ -127,8 +127,8 @@ fn add(draft: &mut Draft, says: Line) -> Result<(), AllocError>
 }
 
 /// How many sectors the line reads, writes or shows.
-fn sectors_of(says: &Line) -> u64
-    ensures { result ≡ sectors_of says.now }
+fn sectors_of_line(says: &Line) -> u64
+    ensures { result ≡ sectors_of_line says.now }
 {
     match says {
         Line::Nothing => 0,
@@ -152,9 +152,9 @@ fn sectors_of(says: &Line) -> u64
 /// Whether the limits are kept with this line.
 fn is_within(draft: &Draft, says: &Line) -> bool
     requires { draft.now.total ≤ 262144 }
-    ensures { IsTrue result ↔ ((draft.now.lines < 500000) × (draft.now.total + sectors_of says.now ≤ 262144)) }
+    ensures { IsTrue result ↔ ((draft.now.lines < 500000) × (draft.now.total + sectors_of_line says.now ≤ 262144)) }
 {
-    draft.lines < MOST_LINES && sectors_of(says) <= MOST_SECTORS - draft.total
+    draft.lines < MOST_LINES && sectors_of_line(says) <= MOST_SECTORS - draft.total
 }
 
 /// Keeps what one more line says.
@@ -162,7 +162,7 @@ fn keep(draft: &mut Draft, says: Line) -> Result<(), AllocError>
     requires { CanTake says draft.old }
     ensures { OnOk result (CountsLine says draft.old draft.new) }
 {
-    let sectors = sectors_of(&says);
+    let sectors = sectors_of_line(&says);
     add(draft, says)?;
     draft.lines += 1;
     draft.total += sectors;

@@ -14,4 +14,3 @@ mod streaming;
 mod tests;
 mod text;
 pub mod trace;
-mod window;

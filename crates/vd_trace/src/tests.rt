@@ -97,48 +97,26 @@ fn bytes_that_are_no_digits(rt: HostRuntime) -> Result<(), Fail> {
 #[test]
 fn limits_of_lines(rt: HostRuntime) -> Result<(), Fail> {
     let alloc = rt.alloc();
-    assert_eq!(rt; read(alloc, &repeated(alloc, b"#", 1100, b"")?).err(), None);
-    assert_eq!(rt;
-        read(alloc, &repeated(alloc, b"#", 1100, b"\r\n")?).err(),
-        None
-    );
-    assert_eq!(rt;
-        read(alloc, &repeated(alloc, b"#", 1101, b"\n")?).err(),
-        bad(1)
-    );
-    assert_eq!(rt;
-        read(alloc, &repeated(alloc, b"#", 9000, b"\n")?).err(),
-        bad(1)
-    );
-    assert_eq!(rt;
-        read(alloc, &repeated(alloc, b"\n", 500000, b"")?).err(),
-        None
-    );
-    assert_eq!(rt;
-        read(alloc, &repeated(alloc, b"\n", 500000, b"\n")?).err(),
-        too_much(500001)
-    );
-    assert_eq!(rt;
-        read(alloc, &repeated(alloc, b"\n", 500000, b"2 G")?).err(),
-        bad(500001)
-    );
-    let read_most = b"1 R 0 2048\n";
-    assert_eq!(rt;
-        read(alloc, &repeated(alloc, read_most, 128, b"2 F\n#")?).err(),
-        None
-    );
-    assert_eq!(rt;
-        read(alloc, &repeated(alloc, read_most, 128, b"1 R 0 1")?).err(),
-        too_much(129)
-    );
-    assert_eq!(rt;
-        read(alloc, &repeated(alloc, read_most, 128, b"S 0 1\n2 F")?).err(),
-        too_much(129)
-    );
-    assert_eq!(rt;
-        read(alloc, &repeated(alloc, read_most, 128, b"2 R 0 2049")?).err(),
-        bad(129)
-    );
+    let read_most: &[u8] = b"1 R 0 2048\n";
+    let rows: [(&[u8], u32, &[u8], Option<TraceError>); 11] = [
+        (b"#", 1100, b"", None),
+        (b"#", 1100, b"\r\n", None),
+        (b"#", 1101, b"\n", bad(1)),
+        (b"#", 9000, b"\n", bad(1)),
+        (b"\n", 500000, b"", None),
+        (b"\n", 500000, b"\n", too_much(500001)),
+        (b"\n", 500000, b"2 G", bad(500001)),
+        (read_most, 128, b"2 F\n#", None),
+        (read_most, 128, b"1 R 0 1", too_much(129)),
+        (read_most, 128, b"S 0 1\n2 F", too_much(129)),
+        (read_most, 128, b"2 R 0 2049", bad(129)),
+    ];
+    for (line, times, last, error) in rows {
+        assert_eq!(rt;
+            read(alloc, &repeated(alloc, line, times, last)?).err(),
+            error
+        );
+    }
     Ok(())
 }
 
@@ -154,6 +132,10 @@ fn asked(trace: &Trace, guest: u32, at: u64, content: &mut [Sector]) -> Option<A
     }
 }
 
+fn write(first: u64, count: u64) -> Option<Asked> {
+    Some(Asked::Write { first, count })
+}
+
 fn shown(trace: &Trace, at: u64) -> Option<(u64, u64)> {
     if at < trace.shows() {
         Some(trace.show(at))
@@ -162,22 +144,22 @@ fn shown(trace: &Trace, at: u64) -> Option<(u64, u64)> {
     }
 }
 
-#[test]
-fn requests_and_shows(rt: HostRuntime) -> Result<(), Fail> {
-    let alloc = rt.alloc();
+/// What two guests ask, and two lines that show.
+fn two_guests(alloc: Global) -> Result<Trace, Fail> {
     let mut text = b"# two guests\n1 W 9 2 aB\n\n2 F\r\n2 X 9999999999 ".to_vec(alloc)?;
     text.extend_from_slice(&[b'0'; 1022])?;
     text.extend_from_slice(b"5F\n1 R 127 2048\n#\nS 126 2\nS 0 2048")?;
-    let trace = read(alloc, &text)?;
+    Ok(read(alloc, &text)?)
+}
+
+#[test]
+fn requests_and_their_content(rt: HostRuntime) -> Result<(), Fail> {
+    let trace = two_guests(rt.alloc())?;
     let mut content = [Sector::filled(7); 2048];
-    assert_eq!(rt; trace.count(0), 0);
-    assert_eq!(rt; trace.count(1), 2);
-    assert_eq!(rt; trace.count(2), 2);
-    assert_eq!(rt; trace.count(3), 0);
-    assert_eq!(rt;
-        asked(&trace, 1, 0, &mut content),
-        Some(Asked::Write { first: 9, count: 2 })
-    );
+    for (guest, count) in [(0, 0), (1, 2), (2, 2), (3, 0)] {
+        assert_eq!(rt; trace.count(guest), count);
+    }
+    assert_eq!(rt; asked(&trace, 1, 0, &mut content), write(9, 2));
     assert_eq!(rt; content[1].same(), Some(0xab));
     assert_eq!(rt; content[2].same(), Some(7));
     assert_eq!(rt; asked(&trace, 2, 0, &mut content), Some(Asked::Flush));
@@ -189,16 +171,17 @@ fn requests_and_shows(rt: HostRuntime) -> Result<(), Fail> {
         })
     );
     assert_eq!(rt; content[0].same(), Some(0xab));
-    assert_eq!(rt;
-        asked(&trace, 2, 1, &mut content),
-        Some(Asked::Write {
-            first: 9999999999,
-            count: 1
-        })
-    );
+    assert_eq!(rt; asked(&trace, 2, 1, &mut content), write(9999999999, 1));
     assert_eq!(rt; content[0].bytes[510], 0);
     assert_eq!(rt; content[0].bytes[511], 0x5f);
     assert_eq!(rt; content[1].same(), Some(0xab));
+    Ok(())
+}
+
+#[test]
+fn lines_that_show_or_lie_past_a_disk(rt: HostRuntime) -> Result<(), Fail> {
+    let alloc = rt.alloc();
+    let trace = two_guests(alloc)?;
     assert_eq!(rt; shown(&trace, 0), Some((126, 2)));
     assert_eq!(rt; shown(&trace, 1), Some((0, 2048)));
     assert_eq!(rt; shown(&trace, 2), None);
@@ -240,6 +223,10 @@ fn sources_that_fail_or_give_little(rt: HostRuntime) -> Result<(), Fail> {
     }
     let mut source = MemSource::new(text.to_vec(alloc)?, [2].to_vec(alloc)?);
     assert_eq!(rt; Trace::read(alloc, 2, &mut source).err(), bad(4));
+    // more than a line is there, so that the read that would fail isn't made
+    let long = repeated(alloc, b"#", 9000, b"")?;
+    let mut source = MemSource::new(long, [2].to_vec(alloc)?);
+    assert_eq!(rt; Trace::read(alloc, 2, &mut source).err(), bad(1));
     let mut source = StdSource::new(Narrow {
         bytes: text.to_vec(alloc)?,
         at: 0,

@@ -5,11 +5,13 @@ ghost use Rattle.std.specs.Option.{option_map, option_or};
 ghost use Rattle.vd_io.specs.Streams.{WritesText};
 ghost use Rattle.vd_trace.specs.declared.line.Line.{Line};
 ghost use Rattle.vd_trace.specs.declared.error.TraceError.TheVariants.{Source as SourceFault};
-ghost use Rattle.vd_trace.specs.Traces.{SpellsTrace, Showing, script, work_asked};
-ghost use Rattle.vd_trace.specs.Scripts.{ReadsTrace, Accepts, request_of, HasRange, sectors_handed, asks_past, shows_past, need_of};
+ghost use Rattle.vd_trace.specs.Traces.{SpellsTrace, Showing, script, work_asked, works_asked};
+ghost use Rattle.vd_trace.specs.Scripts.{ReadsTrace, Accepts, request_of, HasRange, sectors_handed, asks_past, shows_past};
+ghost use Rattle.vd_trace.specs.Streaming.{FailsBehind};
 ghost use Rattle.vd_trace.specs.Texts.{trace_text, ReadsBack, IsRangeOfLine, IsRequest};
 ghost use Rattle.vd_trace.specs.Keeping.{work_of, sectors_in, end_in, HasSectorAmong};
 ghost use Rattle.vd_law.specs.Counts.{Rose};
+ghost use Rattle.vd_law.specs.Needs.{requests_room};
 
 use crate::error::TraceError;
 use crate::kept::{Draft, Item, Shown, Stored, empty_draft};
@@ -133,10 +135,12 @@ impl Trace {
     ///
     /// A line is empty, or a comment that begins with `#`, or one of `G R FIRST COUNT`, `G W FIRST COUNT HH`, `G X FIRST HEX`,
     /// `G F` and `S FIRST COUNT`, behind which no line of a guest may come. The first line that is not in the grammar gives
-    /// Bad; with the first that is in it and passes the limit of 500,000 lines or of 262,144 sectors in all, it is TooMuch.
+    /// Bad; with the first that is in it and passes the limit of 500,000 lines or of 262,144 sectors in all, it is TooMuch. Where the source
+    /// failed, no line that it had given is Bad or TooMuch.
     pub fn read<I: Source>(alloc: Global, guests: u32, source: &mut I) -> Result<Trace, TraceError>
         ensures reads { I.tells source.new → ReadsTrace guests (I.rest source.old) result }
         ensures accepts { I.tells source.new → (says : List Line) → SpellsTrace guests (I.rest source.old) says → Accepts guests says result }
+        ensures behind { I.tells source.new → IfErr result (λ e. e ≡ SourceFault → FailsBehind guests (I.rest source.old) (I.rest source.new)) }
         ensures ended { I.tells source.new → OnOk result (I.rest source.new ≡ []) }
         ensures guests { IfOk result (λ trace. trace.guests ≡ guests) }
         ensures told_before { I.tells source.new → I.tells source.old }
@@ -225,7 +229,7 @@ impl Trace {
     /// and those of a write twice. It is within 1,524,288 events and 524,288 sectors.
     pub fn need(&self, block: u32) -> Room
         requires { 0 < block }
-        ensures need { result ≡ need_of block self.now.asks }
+        ensures need { result ≡ requests_room block (works_asked self.now.asks) }
         ensures events { result.events ≤ 1524288 }
         ensures sectors { result.sectors ≤ 524288 }
     {

@@ -27,7 +27,7 @@ use Rattle.vd_core.specs.Kept.{RoomIsReserved, IsStorage, IsSoundCore, IsFaithfu
 use Rattle.vd_machine.proofs.Claiming.{some-sectors, need-events, need-sectors, inside-more, run-inside, run-placed, claim-extends}
 use Rattle.vd_core.proofs.Reserving.{room-shared}
 use Rattle.vd_core.proofs.Keeping.Telling.{told-here}
-use Rattle.vd_passes.specs.Needs.{need_of}
+use Rattle.vd_law.specs.Needs.{request_room}
 
 -- what a pass that has asked has for its request, and which call it is
 asked-has : (p : Pass) (r : Asked) (events sectors : ℕ) → ((after_ask p r events sectors).events ≡ events) × ((after_ask p r events sectors).sectors ≡ sectors) × ((after_ask p r events sectors).call ≡ p.call + 1)
@@ -91,7 +91,7 @@ module _ {shape : Shape} {state : State} {regions : List (Option Region)} {passe
         let few = need-events shape.block request in let told = need-sectors shape.block request in
         let a = ends.enough.0 in let b = ends.enough.1 in
         let c = ap (λ (r : Room). r.events) ends.left_after in let d = ap (λ (r : Room). r.sectors) ends.left_after in
-        let own = asked-has step.pass request ((need_of shape.block request).events - 1) ((need_of shape.block request).sectors - length (asked_content request)) in
+        let own = asked-has step.pass request ((request_room shape.block request).events - 1) ((request_room shape.block request).sectors - length (asked_content request)) in
         room-shared kept.roomy i step.there step.after ends.extends (room-asked shape.block step.pass request _ _ (omega (arith, few)) (omega (arith, told))) spare'
         (omega (arith, few, a, c, own.0, none.0)) (omega (arith, told, b, d, own.1, none.1)) (omega (arith, own.2)) (omega arith)
 

@@ -16,7 +16,7 @@ use Rattle.vd_passes.specs.declared.shape.Shape.{Shape}
 use Rattle.vd_passes.specs.declared.pass.Pass.{Pass}
 use Rattle.vd_passes.specs.declared.pass.Phase.TheVariants.{Issuing}
 use Rattle.vd_passes.specs.declared.pass.Fault.TheVariants as fault
-use Rattle.vd_passes.specs.Needs.{pieces_left, events_of, events_needed}
+use Rattle.vd_passes.specs.Needs.{pieces_left, events_needed}
 use Rattle.vd_passes.specs.Steps.{IsAt, IsWaiting, WriteSettled}
 use Rattle.vd_passes.proofs.Lists.{some-inj}
 use Rattle.vd_passes.proofs.Needing.{pieces-left, room-written, room-broke}
@@ -30,6 +30,7 @@ use Rattle.vd_core.specs.Kept.{RoomIsReserved, IsSoundCore, LogAgrees, IsFaithfu
 use Rattle.vd_core.proofs.Rooming.{can-add, room-used, room-late}
 use Rattle.vd_core.proofs.Starting.{settle-goes-on}
 use Rattle.vd_core.proofs.Keeping.Telling.{told-on}
+use Rattle.vd_law.specs.Needs.{events_of}
 
 -- what is released is what a settle with which a piece ends leaves
 pub released-ended : (answer : Settled) (i : ℕ) (regions : List (Option Region)) → regions_after_end (outcome_of answer) i regions ≡ regions_ended answer i regions

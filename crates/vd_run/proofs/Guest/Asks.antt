@@ -11,7 +11,6 @@ use Rattle.vd_law.specs.Histories.{HistoryState}
 use Rattle.vd_table.specs.Tables.{TableState}
 use Rattle.vd_passes.specs.declared.shape.Shape.{Shape}
 use Rattle.vd_passes.specs.declared.pass.Pass.{Pass}
-use Rattle.vd_passes.specs.Needs.{need_of}
 use Rattle.vd_passes.specs.Steps.{HasAskedWrite}
 use Rattle.vd_core.proofs.Serving.{write-stays}
 use Rattle.vd_core.specs.declared.outcome.Step.{Step}
@@ -19,6 +18,7 @@ use Rattle.vd_machine.specs.Asking.{AskEnds, EndsFull, EndsAsked, Exceeds, Suffi
 use Rattle.vd_core.specs.Moves.{Drives, work}
 use Rattle.vd_run.specs.Serving.{asked_by, requests_in, AddsAnsweredFlush}
 use Rattle.vd_run.specs.Driving.{IsAskOf, Serves}
+use Rattle.vd_law.specs.Needs.{request_room}
 
 all-more : {X : Type 0} (P : X → Type 0) (xs ys : List X) → AllByRecursion P xs → AllByRecursion P ys → AllByRecursion P (xs ++ ys)
 all-more P [] ys front back = back
@@ -67,7 +67,7 @@ still-asked {entries = entries} content drives asked =
     let moves = drives.moves in subst (λ (h : List Entry). HasAskedWrite h 1 content) (sym moves.entries_after) (asked-after entries moves.more content moves.none_asked asked)
 
 -- An Ask alone and a Full take no more than the request needs.
-some-needed : (block : ℕ) (request : Asked) → (2 ≤ (need_of block request).events) × (length (asked_content request) ≤ (need_of block request).sectors)
+some-needed : (block : ℕ) (request : Asked) → (2 ≤ (request_room block request).events) × (length (asked_content request) ≤ (request_room block request).sectors)
 some-needed block (Read first count) = (omega arith, omega arith)
 some-needed block (Write first content) = (omega arith, omega arith)
 some-needed block Flush = (omega arith, omega arith)
@@ -97,7 +97,7 @@ module _ {request : Asked} {shape shape' : Shape} {events : ℕ} {table table' :
       }
 
   -- A request for which there is room is asked,
-  pub ask-serves : (result : Option Answer) → Suffices (need_of shape.block request) left → AskEnds result request events 1 (ask_state shape table passes history left) (ask_state shape' table' passes' history' left') → Serves request shape.block history.log.entries history'.log.entries left left'
+  pub ask-serves : (result : Option Answer) → Suffices (request_room shape.block request) left → AskEnds result request events 1 (ask_state shape table passes history left) (ask_state shape' table' passes' history' left') → Serves request shape.block history.log.entries history'.log.entries left left'
   ask-serves result room (inl (exceeds, is, same)) = too-much exceeds room
   ask-serves result room (inr (inl (needed, free, is, full))) = full-serves full
   ask-serves result room (inr (inr (none, asked))) = asked-serves asked

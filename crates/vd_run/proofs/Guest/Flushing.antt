@@ -11,7 +11,6 @@ use Rattle.vd_keeper.specs.Keeping.{KeeperState}
 use Rattle.vd_passes.specs.declared.shape.Shape.{Shape}
 use Rattle.vd_passes.specs.declared.pass.Pass.{Pass}
 use Rattle.vd_passes.specs.declared.pass.Phase.TheVariants.{Idle}
-use Rattle.vd_passes.specs.Needs.{need_of}
 use Rattle.vd_passes.specs.Passes.{call_id, after_ask}
 use Rattle.vd_machine.specs.Measures.{flush_steps}
 use Rattle.vd_core.specs.declared.outcome.Step.{Step}
@@ -21,6 +20,7 @@ use Rattle.vd_drive.specs.Driving.{DrivesFlush, flush_work}
 use Rattle.vd_run.specs.Serving.{IsResting, AddsAnsweredFlush}
 use Rattle.vd_passes.proofs.Lists.{some-inj, get-set-same, at-set, length-set'}
 use Rattle.vd_run.proofs.Guest.Asks.{too-much}
+use Rattle.vd_law.specs.Needs.{request_room}
 
 -- the pass has asked a flush, the other is idle and doesn't flush
 pub record IsFlushing (pass : ℕ) (passes : List Pass) (flusher : Option ℕ) (entries entries' : List Entry) : Type 0 where
@@ -43,12 +43,12 @@ steps_at k passes pass = steps_of k (slice_get passes pass)
 
 -- A flush for which there is room is asked.
 module _ {pass : ℕ} {passes passes' : List Pass} {shape shape' : Shape} {events : ℕ} {table table' : TableState} {history history' : HistoryState} {left left' : Room} where
-  pub not-answered : (answer : Answer) → Suffices (need_of shape.block Flush) left → AskEnds (Some answer) Flush events pass (ask_state shape table passes history left) (ask_state shape' table' passes' history' left') → ⊥
+  pub not-answered : (answer : Answer) → Suffices (request_room shape.block Flush) left → AskEnds (Some answer) Flush events pass (ask_state shape table passes history left) (ask_state shape' table' passes' history' left') → ⊥
   not-answered answer room (inl (exceeds, is, same)) = too-much exceeds room
   not-answered answer room (inr (inl (needed, free, is, full))) = let none = full.needed_is in let less = full.fewer in absurd (omega arith)
   not-answered answer room (inr (inr (none, asked))) = cc
 
-  pub flush-asked : {flusher flusher' : Option ℕ} → AskEnds None Flush events pass (ask_state shape table passes history left) (ask_state shape' table' passes' history' left') → Suffices (need_of shape.block Flush) left → flusher' ≡ flusher → IsResting passes flusher
+  pub flush-asked : {flusher flusher' : Option ℕ} → AskEnds None Flush events pass (ask_state shape table passes history left) (ask_state shape' table' passes' history' left') → Suffices (request_room shape.block Flush) left → flusher' ≡ flusher → IsResting passes flusher
       → IsFlushing pass passes' flusher' history.log.entries history'.log.entries × (left.events ≤ left'.events + 2) × (left.sectors ≤ left'.sectors)
   flush-asked (inl (exceeds, is, same)) room still resting = too-much exceeds room
   flush-asked (inr (inl (needed, m, is, full))) room still resting = cc

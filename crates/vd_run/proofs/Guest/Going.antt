@@ -7,12 +7,12 @@ use Rattle.vd_law.specs.declared.entry.Room.{Room}
 use Rattle.vd_law.specs.Entries.{Asked, Flush, Entry}
 use Rattle.vd_law.specs.Rules.{IsRegular}
 use Rattle.vd_passes.specs.declared.pass.Pass.{Pass}
-use Rattle.vd_passes.specs.Needs.{need_of}
 use Rattle.vd_machine.specs.Asking.{Suffices}
 use Rattle.vd_run.specs.Serving.{requests_in, IsServable, IsResting, IsUnused, IsServed}
 use Rattle.vd_run.specs.Driving.{IsAskOf, Serves, with_flush}
-use Rattle.vd_run.proofs.Guest.Needs.{needs_of, rest-suffices}
+use Rattle.vd_run.proofs.Guest.Needs.{rest-suffices}
 use Rattle.vd_run.proofs.Guest.Alone.{regular-alone}
+use Rattle.vd_law.specs.Needs.{request_room, requests_room}
 
 -- the request of this number is in order
 pub servable-at : {size size' : ℕ} {request : Asked} (requests : List Asked) (at : ℕ) → size' ≡ size → slice_get requests at ≡ Some request → All (IsServable size) requests → IsServable size' request
@@ -23,9 +23,9 @@ pub record IsServing (requests : List Asked) (block at : ℕ) (passes : List Pas
   pub resting : IsResting passes flusher
   pub asked : requests_in entries 1 ≡ take at requests
   pub alone : AllByRecursion (IsAskOf 1) entries
-  pub room : Suffices (with_flush (needs_of block (drop at requests))) left
+  pub room : Suffices (with_flush (requests_room block (drop at requests))) left
 
-pub none-served : {requests : List Asked} {block : ℕ} {passes : List Pass} {flusher : Option ℕ} {entries : List Entry} {left : Room} → IsUnused passes flusher entries → Suffices (with_flush (needs_of block requests)) left → IsServing requests block 0 passes flusher entries left
+pub none-served : {requests : List Asked} {block : ℕ} {passes : List Pass} {flusher : Option ℕ} {entries : List Entry} {left : Room} → IsUnused passes flusher entries → Suffices (with_flush (requests_room block requests)) left → IsServing requests block 0 passes flusher entries left
 none-served unused room = record {
   resting = unused.resting;
   asked = ap (λ (es : List Entry). requests_in es 1) unused.empty;
@@ -51,5 +51,5 @@ all-served {requests} {at = at} passes entries size all regular now = record {
 }
 
 -- room for a flush is left
-pub flush-suffices : {requests : List Asked} {block at : ℕ} {passes : List Pass} {flusher : Option ℕ} {entries : List Entry} {left : Room} (block' : ℕ) → IsServing requests block at passes flusher entries left → Suffices (need_of block' Flush) left
+pub flush-suffices : {requests : List Asked} {block at : ℕ} {passes : List Pass} {flusher : Option ℕ} {entries : List Entry} {left : Room} (block' : ℕ) → IsServing requests block at passes flusher entries left → Suffices (request_room block' Flush) left
 flush-suffices block' now = let events = now.room.0 in (omega (arith, events), omega arith)

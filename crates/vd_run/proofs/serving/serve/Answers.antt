@@ -3,7 +3,6 @@ use Rattle.vd_device.proofs.Keeping.{keeps-on, keeps-same, base-keeps-on, base-k
 use Rattle.vd_passes.specs.declared.shape.Shape.{Shape}
 use Rattle.vd_trace.specs.Traces.{script}
 use Rattle.vd_trace.specs.Scripts.{request_of}
-use Rattle.vd_passes.specs.Needs.{need_of}
 use Rattle.vd_run.specs.Driving.{Serves}
 use Rattle.vd_run.proofs.Guest.Needs.{guest-suffices, next-suffices}
 use Rattle.vd_run.proofs.Guest.Going.{servable-at, none-served, one-served, all-served, flush-suffices}
@@ -11,6 +10,7 @@ use Rattle.vd_device.specs.Patients.{patient_store, patient_base}
 use Rattle.vd_run.proofs.Guest.Leaving.{same-disk, disk-then}
 use Rattle.vd_run.proofs.serving.serve.Goals as goal
 use Rattle.vd_machine.specs.Asking.{Suffices}
+use Rattle.vd_law.specs.Needs.{request_room}
 
 pub loop-at-init : goal.loop-at-init
 loop-at-init g c = record {
@@ -28,7 +28,7 @@ pub serve_one-requires-clause-room : goal.serve_one-requires-clause-room
 serve_one-requires-clause-room g c =
     let now = c.loop-at.invariant in let asked = request_of c.request-asked.result c.request-asked.new.content in
     let block = ap (λ (s : Shape). s.block) now.disk.shape in
-    subst (λ (b : ℕ). Suffices (need_of b asked) c.loop-at.core.spare) (sym block)
+    subst (λ (b : ℕ). Suffices (request_room b asked) c.loop-at.core.spare) (sym block)
     (next-suffices c.args.core.now.shape.block (script c.args.trace.now 1) c.loop-at.at asked c.request-asked.ensures.request c.loop-at.core.spare now.serving.room)
 
 pub loop-at-preserved : goal.loop-at-preserved

@@ -48,3 +48,13 @@ pub returns-clause-cause : goal.returns-clause-cause
 returns-clause-cause g c =
     let stands = c.in_ok-step.ensures.goes (lines (g.I.Source.rest c.args.source.now)) c.pieces.invariant.stands in
     MatchResult-weaker c.take.result (c.take.ensures.reads stands.done stands.read) (λ u read. tt) (λ e stops is. absurd (no-source c.step.new.draft.guests stands.done c.bytes.result.now e is stops))
+
+pub returns-in_err-step-clause-behind : goal.returns-in_err-step-clause-behind
+returns-in_err-step-clause-behind g c = λ told.
+    let p = err_from_is_err_and c.from_residual.result c.from_residual.ensures.1 in
+    rw (p.1, p.2, ← c.pieces.invariant.guests) (c.in_err-step.ensures.takes (g.I.Source.rest c.args.source.now) c.pieces.invariant.taken told)
+
+pub returns-clause-behind : goal.returns-clause-behind
+returns-clause-behind g c = λ told.
+    let stands = c.in_ok-step.ensures.goes (lines (g.I.Source.rest c.args.source.now)) c.pieces.invariant.stands in
+    MatchResult-weaker c.take.result (c.take.ensures.reads stands.done stands.read) (λ u read. tt) (λ e stops is. absurd (no-source c.step.new.draft.guests stands.done c.bytes.result.now e is stops))

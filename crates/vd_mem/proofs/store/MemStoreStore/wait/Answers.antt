@@ -4,7 +4,6 @@ use Rattle.vd_device.specs.declared.ticket.Kind.TheVariants.{Read}
 use Rattle.vd_device.specs.Calls.{settled_of, settle_entries, Gives}
 use Rattle.vd_device.specs.Disks.{HasStopped}
 use Rattle.vd_device.specs.Stores.{StoreTakes}
-use Rattle.vd_faults.specs.Tapes.{events_of}
 use Rattle.vd_mem.specs.StoreState.{MemStoreState, StillRuns, disk_of, ended_by, can_add, is_done, last_entry}
 use Rattle.vd_mem.specs.Flying.{Flies}
 use Rattle.vd_mem.specs.Sound.{IsSoundMemStore}
@@ -16,6 +15,7 @@ use Rattle.vd_mem.proofs.Ending.{end-placed, end-within, end-few, end-takes, end
 use Rattle.vd_mem.proofs.Tracing.{end-traced}
 use Rattle.vd_mem.proofs.Views.{memory, memory-ended}
 use Rattle.vd_mem.proofs.store.MemStoreStore.wait.Goals as goal
+use Rattle.vd_faults.specs.Tapes.{events_told}
 
 pub end-done-requires-clause-within : goal.end-done-requires-clause-within
 end-done-requires-clause-within c =
@@ -84,5 +84,5 @@ returns-clause-settles c =
           subst (λ (m : MemStoreState). Gives answer c.args.ticket c.end-done.new.out m.held) (sym (is c))
           (answer-gives c.fault-fault.result (can c) answer c.spend.result c.args.ticket (disk_of (before c)) (disk_of (ended c)) c.end-done.new.out (is-answer c) grows.0 grows.2 (was-read c)));
       undone = λ recorded stopped. answer-undone c.fault-fault.result (can c) answer c.spend.result (is-answer c)
-          (end-full (before c) c.args.ticket c.fault-fault.result c.self.invariant.sound (subst (λ (m : MemStoreState). HasStopped (events_of m.log m.over) (disk_of m)) (is c) stopped));
+          (end-full (before c) c.args.ticket c.fault-fault.result c.self.invariant.sound (subst (λ (m : MemStoreState). HasStopped (events_told m.log m.over) (disk_of m)) (is c) stopped));
     })

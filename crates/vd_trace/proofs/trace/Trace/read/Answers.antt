@@ -15,3 +15,8 @@ returns-clause-accepts g c = λ told says spelled.
 
 pub invariant_of-result : goal.invariant_of-result
 invariant_of-result g c = kept-trace c.read_lines.new.draft c.in_ok-read_lines.ensures.kept.0 c.in_ok-read_lines.ensures.kept.1
+
+pub returns-in_err-read_lines-clause-behind : goal.returns-in_err-read_lines-clause-behind
+returns-in_err-read_lines-clause-behind g c = λ told.
+    let p = err_from_is_err_and c.from_residual-in_err-read_lines.result c.from_residual-in_err-read_lines.ensures.1 in
+    rw (p.1, p.2, ← c.in_ok-draft.ensures.guests) (c.in_err-read_lines.ensures.behind told)

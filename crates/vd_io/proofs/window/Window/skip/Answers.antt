@@ -1,7 +1,7 @@
 use Rattle.std.proofs.Common.{length, ◌≤◌}
 use Rattle.std.specs.List.{slice_range}
-use Rattle.vd_trace.proofs.Windows.{skip-front}
-use Rattle.vd_trace.proofs.window.Window.skip.Goals as goal
+use Rattle.vd_io.proofs.Windows.{skip-front}
+use Rattle.vd_io.proofs.window.Window.skip.Goals as goal
 
 pub returns : goal.returns
 returns c =

@@ -1,12 +1,11 @@
 //! The bytes that were read from a source and not yet taken.
 
-ghost use Rattle.std.specs.Prelude.{◌≡◌, ◌≢◌, ◌+◌, ◌<◌, ◌≤◌, ◌++◌, [], length, take, drop, IfOk, OnErr};
-ghost use Rattle.memchr.specs.Find.{IsFirstByte, is_byte};
+ghost use Rattle.std.specs.Prelude.{◌≡◌, ◌+◌, ◌<◌, ◌≤◌, ◌++◌, [], length, drop, IfOk, OnErr};
 ghost use Rattle.vd_law.specs.Counts.{Rose};
 
+use crate::Failed;
+use crate::source::Source;
 use std::marker::Model;
-use vd_io::Failed;
-use vd_io::source::Source;
 
 /// Room for so many bytes.
 const ROOM: usize = 8192;
@@ -70,6 +69,7 @@ impl Window {
         ensures told_before { I.tells source.new → I.tells source.old }
         ensures bytes { I.tells source.new → IfOk result (λ n. self.new ++ I.rest source.new ≡ self.old ++ I.rest source.old) }
         ensures ended { I.tells source.new → IfOk result (λ n. n ≡ 0 → I.rest source.new ≡ []) }
+        ensures failed { I.tells source.new → OnErr result (I.rest source.new ≡ I.rest source.old) }
         ensures no_fewer_faults { I.faults source.old ≤ I.faults source.new }
         ensures cause { OnErr result (Rose (I.faults source.old) (I.faults source.new)) }
     {

@@ -1,6 +1,6 @@
 use Rattle.std.proofs.Common.{arith}
-use Rattle.vd_trace.proofs.Windows.{filled}
-use Rattle.vd_trace.proofs.window.Window.fill.Goals as goal
+use Rattle.vd_io.proofs.Windows.{filled}
+use Rattle.vd_io.proofs.window.Window.fill.Goals as goal
 
 pub returns-clause-bytes : goal.returns-clause-bytes
 returns-clause-bytes g c = λ told.
