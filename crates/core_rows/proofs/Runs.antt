@@ -22,6 +22,7 @@ use Rattle.vd_machine.specs.Asking.{AskEnds, ask_state}
 use Rattle.vd_core.specs.Opening.{AreNew}
 use Rattle.vd_core.specs.Moves.{Drives, work}
 use Rattle.vd_core.proofs.Serving.{asks-write, write-stays, write-other}
+use Rattle.vd_lists.proofs.Places.{some_place}
 
 pub same-shape : {S B : Type 0} {a b : View S B} → a ≡ b → a.shape ≡ b.shape
 same-shape {S} {B} {a} {b} same = ap (λ (v : View S B). v.shape) same
@@ -107,15 +108,10 @@ all-idle (q ∷ []) one idle zero p there = ap (λ (x : Pass). x.phase) (some-in
 all-idle (q ∷ []) one idle (suc i) p there = cc
 all-idle (q ∷ r ∷ passes) one idle i p there = absurd (omega arith)
 
-some-at : {X : Type 0} (xs : List X) (i : ℕ) → i < length xs → (x : X) × (slice_get xs i ≡ Some x)
-some-at [] i below = absurd (omega arith)
-some-at (x ∷ xs) zero below = (x, refl)
-some-at (x ∷ xs) (suc i) below = some-at xs i (omega arith)
-
 -- each pass of a new core is idle
 pub each-idle : {count block : ℕ} (passes : List Pass) → AreNew count block passes → (i : ℕ) → i < count → IsAt passes i (λ p. p.phase ≡ Idle)
 each-idle {count} {block} passes new i below =
-    let many = new.many in let at = some-at passes i (omega arith) in (at.0, at.1, (new.each i at.0 at.1).phase)
+    let many = new.many in let at = some_place passes i (omega arith) in (at.0, at.1, (new.each i at.0 at.1).phase)
 
 -- where there are three passes and each is idle, all are
 pub three-idle : (passes : List Pass) → length passes ≡ 3 → ((p : Pass) → slice_get passes 0 ≡ Some p → p.phase ≡ Idle) → ((p : Pass) → slice_get passes 1 ≡ Some p → p.phase ≡ Idle) → ((p : Pass) → slice_get passes 2 ≡ Some p → p.phase ≡ Idle)

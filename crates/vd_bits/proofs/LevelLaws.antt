@@ -1,12 +1,13 @@
 -- The levels above a set, where one more of them is as the set's next state needs it.
-use Rattle.std.proofs.Common.{◌≡◌, ◌≢◌, ◌⊎◌, ⊎_elim, inl, inr, ℕ, zero, suc, ◌+◌, ◌*◌, ◌/◌, ◌^◌, ◌<◌, ◌≤◌, Bool, true, false, List, [], ◌∷◌, ◌++◌, length, take, get_or, set, replicate, Some, refl, sym, ap, ◌∙◌, arith, subst}
+use Rattle.std.proofs.Common.{◌≡◌, ◌≢◌, ◌⊎◌, ⊎_elim, ℕ, ◌+◌, ◌*◌, ◌/◌, ◌^◌, ◌<◌, ◌≤◌, Bool, true, false, List, [], ◌∷◌, ◌++◌, length, take, get_or, set, replicate, Some, sym, ap, ◌∙◌, arith, subst}
 use Rattle.std.specs.List.{slice_get}
 use Rattle.std.proofs.lemmas.Bool.{cases_eq, cases_lt}
 use Rattle.std.proofs.Math.Nat.{mul-le-mul_left, mul-le-mul_right}
 use Rattle.std.proofs.lemmas.Option.{same_Some, slice_get-get_or, slice_get_within}
+use Rattle.vd_lists.proofs.Changes.{slice_set_inside, slice_set_other}
+use Rattle.vd_lists.proofs.Places.{slice_get_taken, slice_get_pushed}
 use Rattle.vd_bits.specs.Summaries.{Summarizes, AreLevels, IsCovered}
 use Rattle.vd_bits.specs.Searches.{HasOne, NoneOf}
-use Rattle.vd_bits.proofs.SetLaws.{set_same, set_other}
 use Rattle.vd_bits.proofs.SummaryLaws.{by_word, has_word, not_both, marked-summarizes, shown-summarizes, kept-summarizes, emptied-summarizes, full-summarizes}
 use Rattle.vd_bits.proofs.WordLaws.{span_some, next_span, next_word, same_above}
 
@@ -26,14 +27,14 @@ pub each_more : (Q : ℕ → List Bool → Type 0) (xs : List (List Bool)) (i : 
     → (n : ℕ) (y : List Bool) → n < i + 1 → slice_get (set xs i x) n ≡ Some y → Q n y
 each_more Q xs i x inside before here n y h at = ⊎_elim
     (λ (e : n ≡ i).
-    let is : x ≡ y = same_Some x y (sym (set_same xs i x inside) ∙ ap (λ k. slice_get (set xs i x) k) (sym e) ∙ at) in
+    let is : x ≡ y = same_Some x y (sym (slice_set_inside xs i x inside) ∙ ap (λ k. slice_get (set xs i x) k) (sym e) ∙ at) in
     subst (λ (z : List Bool). Q n z) is (subst (λ (k : ℕ). Q k x) (sym e) here))
-    (λ (ne : n ≢ i). before n y (omega (arith, h, ne)) (sym (set_other xs i n x ne) ∙ at))
+    (λ (ne : n ≢ i). before n y (omega (arith, h, ne)) (sym (slice_set_other xs i n x ne) ∙ at))
     (cases_eq n i)
 
 -- and the levels from there on are those that they were
 pub later_more : (ls xs : List (List Bool)) (i : ℕ) (x : List Bool) → ((n : ℕ) → i ≤ n → slice_get xs n ≡ slice_get ls n) → (n : ℕ) → i + 1 ≤ n → slice_get (set xs i x) n ≡ slice_get ls n
-later_more ls xs i x later n h = set_other xs i n x (omega (arith, h)) ∙ later n (omega (arith, h))
+later_more ls xs i x later n h = slice_set_other xs i n x (omega (arith, h)) ∙ later n (omega (arith, h))
 
 -- all levels, where those before level i are as they are to be, and those from there on are as they were and may stay
 pub each_level : (Q : ℕ → List Bool → Type 0) (ls xs : List (List Bool)) (i : ℕ) → ((n : ℕ) → i ≤ n → slice_get xs n ≡ slice_get ls n) → ((n : ℕ) (y : List Bool) → n < i → slice_get xs n ≡ Some y → Q n y)
@@ -96,18 +97,12 @@ module _ (marked : List Bool) (ls : List (List Bool)) (page : ℕ) (inside : pag
       there
 
 -- one more level of an empty set
-at_push : (xs : List (List Bool)) (x y : List Bool) (n : ℕ) → slice_get (xs ++ x ∷ []) n ≡ Some y → (slice_get xs n ≡ Some y) ⊎ ((n ≡ length xs) × (x ≡ y))
-at_push [] x y zero at = inr (refl, same_Some x y at)
-at_push [] x y (suc n) at = cc
-at_push (z ∷ xs) x y zero at = inl at
-at_push (z ∷ xs) x y (suc n) at = ⊎_elim (λ l. inl l) (λ r. inr (ap suc r.0, r.1)) (at_push xs x y n at)
-
 pub levels-push : (marked : List Bool) (ls new : List (List Bool)) (level : List Bool) → AreLevels marked ls → new ≡ ls ++ level ∷ [] → Summarizes (64 ^ (length ls + 1)) marked level → AreLevels marked new
 levels-push marked ls new level levels is s n y at = ⊎_elim
-    (λ (before : slice_get ls n ≡ Some y). levels n y before)
-    (λ (here : (n ≡ length ls) × (level ≡ y)).
-    subst (λ (k : ℕ). Summarizes (64 ^ (k + 1)) marked y) (sym here.0) (subst (Summarizes (64 ^ (length ls + 1)) marked) here.1 s))
-    (at_push ls level y n (subst (λ (all : List (List Bool)). slice_get all n ≡ Some y) is at))
+    (λ (before : (n < length ls) × (slice_get ls n ≡ Some y)). levels n y before.1)
+    (λ (here : (n ≡ length ls) × (y ≡ level)).
+    subst (λ (k : ℕ). Summarizes (64 ^ (k + 1)) marked y) (sym here.0) (subst (Summarizes (64 ^ (length ls + 1)) marked) (sym here.1) s))
+    (slice_get_pushed ls level y n (subst (λ (all : List (List Bool)). slice_get all n ≡ Some y) is at))
 
 -- the words of the next level are as many as it needs
 pub grown-enough : (pages span words more : ℕ) → pages ≤ span * words → words ≤ more * 64 → pages ≤ span * 64 * more
@@ -121,12 +116,6 @@ grown-needed pages span words more needed h =
 pub word_above : (marked : List Bool) (ls : List (List Bool)) (page : ℕ) → page < length marked → AreLevels marked ls → (n : ℕ) (level : List Bool) → slice_get ls n ≡ Some level → page / 64 ^ (n + 1) < length level
 word_above marked ls page inside levels n level at = has_word (64 ^ (n + 1)) (span_some (n + 1)) marked level (levels n level at) page inside
 
-at_take : (xs : List (List Bool)) (k n : ℕ) (x : List Bool) → slice_get (take k xs) n ≡ Some x → slice_get xs n ≡ Some x
-at_take xs zero n x at = cc
-at_take [] (suc k) n x at = at
-at_take (y ∷ xs) (suc k) zero x at = at
-at_take (y ∷ xs) (suc k) (suc n) x at = at_take xs k n x at
-
 -- the first of them
 pub levels-take : (marked : List Bool) (ls : List (List Bool)) (k : ℕ) → AreLevels marked ls → AreLevels marked (take k ls)
-levels-take marked ls k levels n level at = levels n level (at_take ls k n level at)
+levels-take marked ls k levels n level at = levels n level (slice_get_taken ls k n level at)

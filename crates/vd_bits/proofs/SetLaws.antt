@@ -1,5 +1,5 @@
 -- A list of truth values of which one is changed.
-use Rattle.std.proofs.Common.{◌≡◌, ◌≢◌, ℕ, zero, suc, ◌+◌, ◌<◌, ◌≤◌, Bool, true, false, cond, List, [], ◌∷◌, ◌++◌, length, get_or, set, replicate, Some, sym, refl, ap, ◌∙◌, arith}
+use Rattle.std.proofs.Common.{◌≡◌, ℕ, suc, ◌+◌, ◌<◌, ◌≤◌, Bool, true, false, cond, List, [], ◌∷◌, ◌++◌, length, get_or, set, replicate, Some, sym, refl, ap, ◌∙◌, arith}
 use Rattle.std.specs.List.{slice_get}
 use Rattle.std.specs.Int.RustNames.{count_ones}
 use Rattle.std.proofs.Math.Nat.{mul-one, mul-zero}
@@ -10,23 +10,6 @@ use Rattle.std.proofs.lemmas.Option.{same_Some, get_or_from_slice_get}
 use Rattle.std.proofs.lemmas.Simd.{ones-mask_l}
 use Rattle.vd_bits.specs.Marks.{count_true, NoneFrom}
 use Rattle.vd_bits.specs.Masks.{mask_of}
-
-pub set_same : {X : Type 0} (xs : List X) (i : ℕ) (x : X) → i < length xs → slice_get (set xs i x) i ≡ Some x
-set_same [] i x h = absurd (omega arith)
-set_same (z ∷ xs) zero x h = refl
-set_same (z ∷ xs) (suc i) x h = set_same xs i x (omega arith)
-
-pub set_other : {X : Type 0} (xs : List X) (i j : ℕ) (x : X) → j ≢ i → slice_get (set xs i x) j ≡ slice_get xs j
-set_other [] i j x ne = refl
-set_other (z ∷ xs) zero zero x ne = absurd (ne refl)
-set_other (z ∷ xs) zero (suc j) x ne = refl
-set_other (z ∷ xs) (suc i) zero x ne = refl
-set_other (z ∷ xs) (suc i) (suc j) x ne = set_other xs i j x (λ e. ne (ap suc e))
-
-pub set_there : {X : Type 0} (xs : List X) (i : ℕ) (x : X) → slice_get xs i ≡ Some x → set xs i x ≡ xs
-set_there [] i x h = refl
-set_there (z ∷ xs) zero x h = ap (λ y. y ∷ xs) (sym (same_Some z x h))
-set_there (z ∷ xs) (suc i) x h = ap (λ ys. z ∷ ys) (set_there xs i x h)
 
 -- a member more makes the count one larger, and one less makes it one smaller
 module _ (s : List Bool) (i : ℕ) (h : i < length s) where

@@ -3,11 +3,12 @@ use Rattle.std.proofs.Common.{◌≡◌, ◌≢◌, ℕ, ◌+◌, ◌*◌, ◌/�
 use Rattle.std.specs.List.{slice_get}
 use Rattle.std.proofs.Math.Nat.{mul_comm, mul-div_cancel_left, mul-le-mul_left}
 use Rattle.std.proofs.lemmas.Bool.{cases_eq, cases_Bool, false≢true}
-use Rattle.std.proofs.lemmas.List.{length-replicate, get_or-replicate}
+use Rattle.std.proofs.lemmas.List.{length-replicate}
 use Rattle.std.proofs.lemmas.Nat.{div_below}
 use Rattle.std.proofs.lemmas.Option.{same_Some, slice_get-get_or, slice_get_within}
+use Rattle.vd_lists.proofs.Changes.{slice_set_inside, slice_set_other, slice_set_unchanged}
+use Rattle.vd_lists.proofs.Places.{slice_get_replicate}
 use Rattle.vd_bits.specs.Summaries.{Summarizes}
-use Rattle.vd_bits.proofs.SetLaws.{set_same, set_other, set_there}
 
 -- what is not marked is not
 pub unmarked : (s : List Bool) (i : ℕ) → i < length s → (slice_get s i ≡ Some true → ⊥) → slice_get s i ≡ Some false
@@ -17,9 +18,6 @@ unmarked s i h not_true =
 
 pub not_both : (s : List Bool) (i : ℕ) → slice_get s i ≡ Some false → slice_get s i ≡ Some true → ⊥
 not_both s i f t = false≢true (same_Some false true (sym f ∙ t))
-
-pub get-replicate : (n i : ℕ) (b : Bool) → i < n → slice_get (replicate n b) i ≡ Some b
-get-replicate n i b h = slice_get-get_or (replicate n b) i b (omega (arith, length-replicate n b)) ∙ ap (λ x. Some x) (get_or-replicate n i b b h)
 
 -- where there are enough words, each number has its word
 pub word_inside : (span n m i : ℕ) → 0 < span → n ≤ span * m → i < n → i / span < m
@@ -40,27 +38,27 @@ module _ (span : ℕ) (some : 0 < span) (low high : List Bool) (s : Summarizes s
       enough = rw (length-set, length-set) s.enough;
       needed = rw (length-set, length-set) s.needed;
       up = λ j m. ⊎_elim
-          (λ (e : j / span ≡ i / span). rw e (set_same high (i / span) true (has_word i h)))
-          (λ (ne : j / span ≢ i / span). set_other high (i / span) (j / span) true ne ∙ s.up j (sym (set_other low i j true (λ e. ne (ap (λ k. k / span) e))) ∙ m))
+          (λ (e : j / span ≡ i / span). rw e (slice_set_inside high (i / span) true (has_word i h)))
+          (λ (ne : j / span ≢ i / span). slice_set_other high (i / span) (j / span) true ne ∙ s.up j (sym (slice_set_other low i j true (λ e. ne (ap (λ k. k / span) e))) ∙ m))
           (cases_eq (j / span) (i / span));
       down = λ word m. ⊎_elim
-          (λ (e : word ≡ i / span). let there : (j : ℕ) × (j / span ≡ word) × (slice_get (set low i true) j ≡ Some true) = (i, sym e, set_same low i true h) in there)
+          (λ (e : word ≡ i / span). let there : (j : ℕ) × (j / span ≡ word) × (slice_get (set low i true) j ≡ Some true) = (i, sym e, slice_set_inside low i true h) in there)
           (λ (ne : word ≢ i / span).
-          let w = s.down word (sym (set_other high (i / span) word true ne) ∙ m) in
-          let there : (j : ℕ) × (j / span ≡ word) × (slice_get (set low i true) j ≡ Some true) = (w.0, w.1, set_other low i w.0 true (λ e. ne (sym w.1 ∙ ap (λ k. k / span) e)) ∙ w.2) in there)
+          let w = s.down word (sym (slice_set_other high (i / span) word true ne) ∙ m) in
+          let there : (j : ℕ) × (j / span ≡ word) × (slice_get (set low i true) j ≡ Some true) = (w.0, w.1, slice_set_other low i w.0 true (λ e. ne (sym w.1 ∙ ap (λ k. k / span) e)) ∙ w.2) in there)
           (cases_eq word (i / span));
     }
 
     -- whose word is already up
     pub shown-summarizes : slice_get high (i / span) ≡ Some true → Summarizes span (set low i true) high
-    shown-summarizes shown = subst (λ (words : List Bool). Summarizes span (set low i true) words) (set_there high (i / span) true shown) marked-summarizes
+    shown-summarizes shown = subst (λ (words : List Bool). Summarizes span (set low i true) words) (slice_set_unchanged high (i / span) true shown) marked-summarizes
 
     -- a number is no longer marked
     was_marked : (j : ℕ) → slice_get (set low i false) j ≡ Some true → (j ≢ i) × (slice_get low j ≡ Some true)
     was_marked j m =
         ⊎_elim
-        (λ (e : j ≡ i). absurd (not_both (set low i false) i (set_same low i false h) (rw e at m)))
-        (λ (ne : j ≢ i). let both : (j ≢ i) × (slice_get low j ≡ Some true) = (ne, sym (set_other low i j false ne) ∙ m) in both)
+        (λ (e : j ≡ i). absurd (not_both (set low i false) i (slice_set_inside low i false h) (rw e at m)))
+        (λ (ne : j ≢ i). let both : (j ≢ i) × (slice_get low j ≡ Some true) = (ne, sym (slice_set_other low i j false ne) ∙ m) in both)
         (cases_eq j i)
 
     -- and another one of its word is
@@ -73,7 +71,7 @@ module _ (span : ℕ) (some : 0 < span) (low high : List Bool) (s : Summarizes s
           let w = s.down word m in
           ⊎_elim
           (λ (e : w.0 ≡ i). let other : (j : ℕ) × (j / span ≡ word) × (slice_get (set low i false) j ≡ Some true) = (k, same ∙ (ap (λ n. n / span) (sym e) ∙ w.1), there) in other)
-          (λ (ne : w.0 ≢ i). let it : (j : ℕ) × (j / span ≡ word) × (slice_get (set low i false) j ≡ Some true) = (w.0, w.1, set_other low i w.0 false ne ∙ w.2) in it)
+          (λ (ne : w.0 ≢ i). let it : (j : ℕ) × (j / span ≡ word) × (slice_get (set low i false) j ≡ Some true) = (w.0, w.1, slice_set_other low i w.0 false ne ∙ w.2) in it)
           (cases_eq w.0 i);
     }
 
@@ -82,13 +80,13 @@ module _ (span : ℕ) (some : 0 < span) (low high : List Bool) (s : Summarizes s
     emptied-summarizes none = record {
       enough = rw (length-set, length-set) s.enough;
       needed = rw (length-set, length-set) s.needed;
-      up = λ j m. set_other high (i / span) (j / span) false (λ e. none j e m) ∙ s.up j (was_marked j m).1;
+      up = λ j m. slice_set_other high (i / span) (j / span) false (λ e. none j e m) ∙ s.up j (was_marked j m).1;
       down = λ word m.
           ⊎_elim
-          (λ (e : word ≡ i / span). absurd (not_both (set high (i / span) false) (i / span) (set_same high (i / span) false (has_word i h)) (rw e at m)))
+          (λ (e : word ≡ i / span). absurd (not_both (set high (i / span) false) (i / span) (slice_set_inside high (i / span) false (has_word i h)) (rw e at m)))
           (λ (ne : word ≢ i / span).
-          let w = s.down word (sym (set_other high (i / span) word false ne) ∙ m) in
-          let it : (j : ℕ) × (j / span ≡ word) × (slice_get (set low i false) j ≡ Some true) = (w.0, w.1, set_other low i w.0 false (λ e. ne (sym w.1 ∙ ap (λ k. k / span) e)) ∙ w.2) in it)
+          let w = s.down word (sym (slice_set_other high (i / span) word false ne) ∙ m) in
+          let it : (j : ℕ) × (j / span ≡ word) × (slice_get (set low i false) j ≡ Some true) = (w.0, w.1, slice_set_other low i w.0 false (λ e. ne (sym w.1 ∙ ap (λ k. k / span) e)) ∙ w.2) in it)
           (cases_eq word (i / span));
     }
 
@@ -98,11 +96,11 @@ module _ (span n m : ℕ) (some : 0 < span) (enough : n ≤ span * m) (needed : 
   full-summarizes = record {
     enough = rw (length-replicate, length-replicate) enough;
     needed = rw (length-replicate, length-replicate) needed;
-    up = λ i h. get-replicate m (i / span) true (word_inside span n m i some enough (omega (arith, slice_get_within (replicate n true) i true h, length-replicate n true)));
+    up = λ i h. slice_get_replicate m true (i / span) (word_inside span n m i some enough (omega (arith, slice_get_within (replicate n true) i true h, length-replicate n true)));
     down = λ word h.
         let inside : word + 1 ≤ m = omega (arith, slice_get_within (replicate m true) word true h, length-replicate m true) in
         let it : (i : ℕ) × (i / span ≡ word) × (slice_get (replicate n true) i ≡ Some true) =
-        (span * word, mul-div_cancel_left word some, get-replicate n (span * word) true (omega (arith, mul-le-mul_left span inside, needed))) in
+        (span * word, mul-div_cancel_left word some, slice_get_replicate n true (span * word) (omega (arith, mul-le-mul_left span inside, needed))) in
         it;
   }
 
@@ -110,6 +108,6 @@ module _ (span n m : ℕ) (some : 0 < span) (enough : n ≤ span * m) (needed : 
   empty-summarizes = record {
     enough = rw (length-replicate, length-replicate) enough;
     needed = rw (length-replicate, length-replicate) needed;
-    up = λ i h. absurd (not_both (replicate n false) i (get-replicate n i false (omega (arith, slice_get_within (replicate n false) i true h, length-replicate n false))) h);
-    down = λ word h. absurd (not_both (replicate m false) word (get-replicate m word false (omega (arith, slice_get_within (replicate m false) word true h, length-replicate m false))) h);
+    up = λ i h. absurd (not_both (replicate n false) i (slice_get_replicate n false i (omega (arith, slice_get_within (replicate n false) i true h, length-replicate n false))) h);
+    down = λ word h. absurd (not_both (replicate m false) word (slice_get_replicate m false word (omega (arith, slice_get_within (replicate m false) word true h, length-replicate m false))) h);
   }

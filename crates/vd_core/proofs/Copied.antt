@@ -5,7 +5,8 @@ use Rattle.std.proofs.lemmas.List.{length-replicate}
 use Rattle.std.proofs.lemmas.Option.{slice_get_past}
 use Rattle.vd_bits.specs.Marks.{IsLowest, NoneFrom}
 use Rattle.vd_passes.proofs.Lists.{length-set', get-set-same, get-set-other}
-use Rattle.vd_lists.proofs.Lists.{same_list, slice_get_replicate}
+use Rattle.vd_lists.proofs.Lists.{same_list}
+use Rattle.vd_lists.proofs.Places.{slice_get_replicate}
 
 -- below this number the copy has the same marks, and none from there on
 pub record IsCopied (from : ℕ) (marks copy : List Bool) : Type 0 where

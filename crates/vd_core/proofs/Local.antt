@@ -2,18 +2,17 @@
 use Rattle.std.proofs.Common.{◌≡◌, ◌≢◌, ◌⊎◌, ℕ, ◌+◌, ◌*◌, ◌/◌, ◌<◌, ◌≤◌, max, Bool, true, false, List, [], ◌∷◌, ◌++◌, length, map, refl, sym, ◌∙◌, ap, subst, inl, inr, arith, Option, Some, None, slice_get, slice_set}
 use Rattle.std.specs.Prelude.{◌↔◌}
 use Rattle.std.specs.List.{find, filter}
-use Rattle.std.proofs.lemmas.Bool.{cases_eq}
+use Rattle.std.proofs.lemmas.Bool.{cases_eq, cases_Bool}
+use Rattle.vd_lists.proofs.Places.{some_place}
 use Rattle.vd_law.specs.declared.entry.Sector.{Sector}
 use Rattle.vd_law.specs.declared.entry.CallId.{CallId}
 use Rattle.vd_law.specs.Entries.{Entry, Ask, Issue, Done, Broke, Seen, Reply, same_call, Past, nothing, ◌▸◌, past}
 use Rattle.vd_law.specs.Contents.{sector_in, issued_contents, Open, open_after_issue, is_of, is_of_another, open_writes, open_write, issue_number, last_done}
 use Rattle.vd_law.proofs.Appending.{after-push}
-use Rattle.vd_law.proofs.Opening.{case}
 use Rattle.vd_device.specs.declared.ticket.Ticket.{Ticket}
 use Rattle.vd_format.specs.declared.map.Entry.{Entry as MapEntry}
 use Rattle.vd_replay.specs.declared.state.State.{State}
 use Rattle.vd_replay.specs.States.{IsWholeState}
-use Rattle.vd_replay.proofs.ListLaws.{get_some}
 use Rattle.vd_replay.proofs.StateLaws.{in_mask}
 use Rattle.vd_keeper.specs.Entries.{union_of}
 use Rattle.vd_keeper.proofs.Owed.{either-left}
@@ -70,7 +69,7 @@ Counted (w ∷ ws) = (0 < w.number) × Counted ws
 counted-filter : (t : Open → Bool) (ws : List Open) → Counted ws → Counted (filter t ws)
 unfolding Counted
 counted-filter t [] all = tt
-counted-filter t (w ∷ ws) all = elim (case (t w)) [
+counted-filter t (w ∷ ws) all = elim (cases_Bool (t w)) [
   | inl in_it ↦ rw in_it (all.0, counted-filter t ws all.1)
   | inr out ↦ rw out (counted-filter t ws all.1)
 ]
@@ -176,7 +175,7 @@ module _ {shape : Shape} {fresh : List Bool} {places : ℕ → Option ℕ} {pass
       each : (b : ℕ) → b < shape.blocks → (slice_get (slice_set fresh p.block true) b ≡ Some true) ↔ ((was_local shape had b ≡ true) ⊎ IsWrittenIn shape (history ++ Done id ∷ []) b)
       each b inside = elim (cases_eq b p.block) [
         | inl e ↦
-            let old = get_some fresh b (let size = co.size in omega (arith, inside, size)) in
+            let old = some_place fresh b (let size = co.size in omega (arith, inside, size)) in
             let set : slice_get (slice_set fresh p.block true) b ≡ Some true = ap (slice_get (slice_set fresh p.block true)) e ∙ get-set-same fresh p.block true old.0 (ap (slice_get fresh) (sym e) ∙ old.1) in
             let issued_contents : IsWrittenIn shape (history ++ Done id ∷ []) b = (at, subst (λ (x : ℕ). IsIn shape.block x at) (sym e) within, (let d = done-is at in let own = own-open in omega (arith, d, own))) in
             (λ is. inr issued_contents, λ why. set)
@@ -198,7 +197,7 @@ module _ {shape : Shape} {fresh : List Bool} {places : ℕ → Option ℕ} {pass
 pub new-local : (s : State) (base_sectors : ℕ) → IsWholeState s → AreLocalBy (disk_shape s.header base_sectors) s.map s.fresh.bits []
 new-local s base_sectors whole = record {
   each = λ b within.
-      let bit = get_some s.fresh.bits b (let size = whole.sized.fresh in omega (arith, within, size)) in
+      let bit = some_place s.fresh.bits b (let size = whole.sized.fresh in omega (arith, within, size)) in
       let m = in_mask s.header s.map s.fresh b bit.0 whole.sized.valid whole.sized.map whole.sized.chunk whole.sized.fresh whole.spread bit.1 in
       let same : was_local (disk_shape s.header base_sectors) s.map b ≡ bit.0 = ap (λ (o : Option MapEntry). is_in o (b / s.header.chunk * s.header.chunk) b) m.1 ∙ sym m.2 in (
         (λ is. inl (same ∙ some-inj (sym bit.1 ∙ is))),

@@ -27,7 +27,6 @@ use Rattle.vd_image.proofs.Openings.{same_format, same_layout}
 use Rattle.vd_regions.specs.declared.regions.Region.{Region}
 use Rattle.vd_replay.specs.declared.state.State.{State}
 use Rattle.vd_replay.specs.Images.{image_of}
-use Rattle.vd_replay.proofs.ListLaws.{get_some}
 use Rattle.vd_keeper.specs.Keeping.{KeeperState}
 use Rattle.vd_passes.specs.declared.shape.Shape.{Shape}
 use Rattle.vd_passes.specs.declared.pass.Pass.{Pass}
@@ -47,6 +46,7 @@ use Rattle.vd_core.proofs.Agreeing.{told-agrees}
 use Rattle.vd_core.proofs.Securing.Words.{all-inside}
 use Rattle.vd_core.proofs.StartingDisk.{sector-block}
 use Rattle.vd_format.specs.Background.{background, background_of, base_at, zero_sector}
+use Rattle.vd_lists.proofs.Places.{some_place}
 
 listed : (log : List Entry) → list_of (past log) ≡ log
 listed log = list_of-fold log nothing
@@ -151,7 +151,7 @@ module _ {shape : Shape} {state : State} {regions : List (Option Region)} {passe
     -- the block isn't in every image: then no write in it is done, and it isn't local
     unstale-other : bit_of k.stale b ≡ false → slice_get state.fresh.bits b ≡ Some false
     unstale-other unstale =
-        let bit = get_some state.fresh.bits b (let size = kept.coherent.size in let inside = in_disk in omega arith) in
+        let bit = some_place state.fresh.bits b (let size = kept.coherent.size in let inside = in_disk in omega arith) in
         by bit.0 bit.1
       where
         unwritten : IsWrittenIn shape history.log.entries b → ⊥

@@ -5,7 +5,7 @@ use Rattle.std.specs.List.{AllByRecursion, count_by, range_with_len}
 use Rattle.std.proofs.Math.Path.{fun_ext}
 use Rattle.std.proofs.Math.Bool.{or-true, and-false}
 use Rattle.std.proofs.Math.Seq.{drop-cons, take-append_seam}
-use Rattle.std.proofs.lemmas.Bool.{cases_lt, cases_eq}
+use Rattle.std.proofs.lemmas.Bool.{cases_lt, cases_eq, cases_Bool}
 use Rattle.std.proofs.lemmas.List.{take_all}
 use Rattle.std.proofs.lemmas.List.Sums.{sum_by-cons}
 use Rattle.std.proofs.lemmas.Option.{slice_get_within, slice_get_cases}
@@ -15,7 +15,7 @@ use Rattle.vd_law.specs.declared.entry.Answer.TheVariants.{Full}
 use Rattle.vd_format.specs.declared.map.Entry.{Entry as MapEntry}
 use Rattle.vd_law.specs.Entries.{Asked, Read, Write, Flush, Entry, Ask, Reply, same_call}
 use Rattle.vd_law.specs.Rules.{IsRegular}
-use Rattle.vd_law.proofs.Opening.{same_call-is, case}
+use Rattle.vd_law.proofs.Opening.{same_call-is}
 use Rattle.vd_table.specs.Tables.{TableState, used_chunks}
 use Rattle.vd_table.specs.Runs.{lacking}
 use Rattle.vd_device.specs.declared.ticket.Ticket.{Ticket}
@@ -52,7 +52,7 @@ count-run {X} f g xs from (suc count) inside same = elim (slice_get_cases xs fro
 
 counted-some : {shape : Shape} {had : List MapEntry} {table : TableState} {history : List Entry} → IsStoredBy shape had table history → (k : ℕ) (x : Option ℕ) → slice_get table.chunks k ≡ Some x → is_counted shape had history history k ≡ is_some x
 counted-some {shape} {had} {table} {history} stored k None at = (stored.counted k (slice_get_within table.chunks k None at)).0 at
-counted-some {shape} {had} {table} {history} stored k (Some p) at = elim (case (is_counted shape had history history k)) [
+counted-some {shape} {had} {table} {history} stored k (Some p) at = elim (cases_Bool (is_counted shape had history history k)) [
   | inl is ↦ is
   | inr not_it ↦ absurd (let none = (stored.counted k (slice_get_within table.chunks k (Some p) at)).1 not_it in let e = sym at ∙ none in cc)
 ]
@@ -72,7 +72,7 @@ used-counts {shape} {had} {table} {history} stored =
     ∙ ap (λ (xs : List (Option ℕ)). count_by (λ (x : Option ℕ). is_some x) xs) (take_all (length table.chunks) table.chunks (omega arith))
 
 turned : (a b : CallId) → same_call a b ≡ false → same_call b a ≡ false
-turned a b apart = elim (case (same_call b a)) [
+turned a b apart = elim (cases_Bool (same_call b a)) [
   | inl same ↦ absurd (let e = ap (same_call a) (same_call-is b a same) ∙ same-itself a in let f = sym apart ∙ e in cc)
   | inr differ ↦ differ
 ]

@@ -23,7 +23,7 @@ ghost use Rattle.vd_core.specs.Flushing.{HasAskedFlush, IsBetween, IsAway, flush
 use crate::outcome::Step;
 use crate::state::Core;
 use vd_device::{Base, Settled, Store};
-use vd_header::{Header, layout_of};
+use vd_format::{Header, layout_of};
 use vd_keeper::{Put, Route};
 use vd_law::entry::Sector;
 use vd_passes::pass::Fault;

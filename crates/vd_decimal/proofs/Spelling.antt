@@ -9,6 +9,7 @@ use Rattle.std.proofs.lemmas.Fmt.{IsAscii-from_digits, digits_decimal, length-de
 use Rattle.std.proofs.lemmas.Slice.Eq.{bytes_eq-Decides}
 use Rattle.std.proofs.lemmas.Str.{IsUtf8-from_ascii}
 use Rattle.std.proofs.lemmas.Str.Parse.{IsNumeralModel, numerals_by_value, tells_by_index, parse_digits, digits_value_short}
+use Rattle.std.proofs.lemmas.Option.{cond_some}
 use Rattle.vd_decimal.specs.Numbers.{SpellsNumber, number_in, AreDigits, ArePlain}
 
 own : IsNumeralModel AreDigits (digits_value 10)
@@ -65,10 +66,6 @@ parse-spells most bytes r p parsed n = parsed-some most bytes p r (parse_digits 
 pub plain-none : (most : ℕ) (bytes : List ℕ) → (ArePlain most bytes → ⊥) → (n : ℕ) → (None ≡ Some n) ↔ SpellsNumber most bytes n
 plain-none most bytes other n = (λ e. absurd (cc), λ s. absurd (other (spells-plain most bytes n s)))
 
-some-if : (b : Bool) (m n : ℕ) → cond b (Some m) None ≡ Some n → (b ≡ true) × (m ≡ n)
-some-if true m n e = (refl, cc)
-some-if false m n e = absurd (cc)
-
 if-some : (b : Bool) (m n : ℕ) → b ≡ true → m ≡ n → cond b (Some m) None ≡ Some n
 if-some true m n t e = ap Some e
 if-some false m n t e = absurd (cc)
@@ -77,7 +74,7 @@ pub number_in-exact : (most : ℕ) (bytes : List ℕ) (n : ℕ) → (number_in m
 unfolding number_in
 number_in-exact most bytes n = (
   λ e.
-      let found = some-if _ _ _ e in
+      let found = cond_some _ _ _ e in
       let both = and_parts _ _ found.0 in
       let first = and_parts _ _ both.0 in
       subst (SpellsNumber most bytes) found.1 (record {

@@ -1,5 +1,5 @@
 -- Calls that write nothing.
-use Rattle.std.proofs.Common.{ℕ, zero, suc, ◌≡◌, ◌≤◌, length-append, List, [], ◌∷◌, ◌++◌, length, take, Some, None, Result, Ok, Err, inl, inr, refl, ap, sym, ◌∙◌, subst, arith}
+use Rattle.std.proofs.Common.{ℕ, zero, suc, ◌≡◌, ◌≤◌, length-append, List, [], ◌∷◌, ◌++◌, length, take, Result, Ok, Err, inl, inr, refl, ap, sym, ◌∙◌, subst, arith}
 use Rattle.std.specs.Prelude.{slice_get, ⊤, OnOk, IfErr}
 use Rattle.std.specs.List.{All, AllByRecursion, fold}
 use Rattle.std.proofs.lemmas.List.Elements.{All-head}
@@ -18,6 +18,7 @@ use Rattle.vd_device.specs.Stores.{CallsStore}
 use Rattle.vd_device.specs.Bases.{CallsBase}
 use Rattle.vd_device.proofs.Keeping.{keeps-on, keeps-same, base-keeps-on, base-keeps-same}
 use Rattle.vd_device.specs.Quiet.{IsAtRest, IsNoWrite, AddsNoWrite, AddsFlush, IsReady, OnlyReads, EndsBadly, IsCallFault, IsStoreFault, OnlyReadsBase, IsFault}
+use Rattle.vd_lists.proofs.Places.{slice_get_second_last, slice_get_longer}
 
 -- the entry opens and ends no write
 abbrev pub IsIdle : Entry → Type 0
@@ -171,15 +172,11 @@ flush_before {old} {mid} {new} flushed adds = record {
 
 -- ---- calls that failed
 
-last_of_two : {X : Type 0} (xs : List X) (a b : X) → slice_get (xs ++ a ∷ b ∷ []) (suc (length xs)) ≡ Some b
-last_of_two [] a b = refl
-last_of_two (x ∷ xs) a b = last_of_two xs a b
-
 -- the log has got the two entries of a call that failed
 ended_badly : (ticket : ℕ) (asked : Entry) (old new : List Entry) → new ≡ old ++ asked ∷ Reply (call_number ticket) (StoreFault ticket 0) ∷ [] → EndsBadly ticket (length old) new
 ended_badly ticket asked old new grown = record {
   at = suc (length old);
-  reply = ap (λ (l : List Entry). slice_get l (suc (length old))) grown ∙ last_of_two old asked (Reply (call_number ticket) (StoreFault ticket 0));
+  reply = ap (λ (l : List Entry). slice_get l (suc (length old))) grown ∙ slice_get_second_last old asked (Reply (call_number ticket) (StoreFault ticket 0));
   after = omega arith;
 }
 

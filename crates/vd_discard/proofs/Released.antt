@@ -1,7 +1,7 @@
 -- The run, primitive by primitive.
 use Rattle.std.proofs.Common.{ℕ, zero, suc, ◌≡◌, ◌≢◌, ◌+◌, ◌<◌, ◌⊎◌, ◌↔◌, ◌||◌, inl, inr, Bool, true, false, List, [], ◌∷◌, ◌++◌, length, Some, None, refl, sym, ap, ◌∙◌, subst, arith}
 use Rattle.std.specs.Prelude.{◌==◌, if◌then◌else◌}
-use Rattle.std.proofs.lemmas.Bool.{cases_eq, eq-eqb, ne_eqb, or_cases, or_left, or_right}
+use Rattle.std.proofs.lemmas.Bool.{cases_eq, eq-eqb, ne_eqb, or_cases, or_left, or_right, both_ways}
 use Rattle.vd_image.specs.Log.{Sector, CallId, Entry, Write, Flush, Fine, Ask, Issue, Done, Reply, At}
 use Rattle.vd_image.specs.Image.{Fact}
 use Rattle.vd_image.proofs.Logs.{at_below}
@@ -38,13 +38,10 @@ without_in o c old b is = ap (λ (t : Bool). if t then false else old b) (eq-eqb
 without_out : (o : Opening) (c : ℕ) (old : ℕ → Bool) (b : ℕ) → o.layout.chunk_of b ≢ c → without o c old b ≡ old b
 without_out o c old b ne = ap (λ (t : Bool). if t then false else old b) (ne_eqb (o.layout.chunk_of b) c ne)
 
-not_both : (x : Bool) → x ≡ false → x ≡ true → ⊥
-not_both x false_is true_is = cc
-
 others : (o : Opening) (c : ℕ) (old : ℕ → Bool) → AreOthers o old (without o c old) c
 others o c old b = (
   λ is. elim (cases_eq (o.layout.chunk_of b) c) [
-    | inl same ↦ absurd (not_both _ (without_in o c old b same) is)
+    | inl same ↦ absurd (both_ways _ (without_in o c old b same) is)
     | inr ne ↦ (sym (without_out o c old b ne) ∙ is, ne)
   ],
   λ both. without_out o c old b both.1 ∙ both.0,
@@ -52,13 +49,13 @@ others o c old b = (
 
 -- none is left where there was none
 none_left : (o : Opening) (c : ℕ) (old : ℕ → Bool) (b : ℕ) → old b ≡ false → without o c old b ≡ true → ⊥
-none_left o c old b none is = not_both (old b) none ((((others o c old b).0) is).0)
+none_left o c old b none is = both_ways (old b) none ((((others o c old b).0) is).0)
 
 -- the only chunk that is lost
 lost_only : (old : ℕ → Bool) (c e : ℕ) → old e ≡ false → put old c true e ≡ true → e ≡ c
 lost_only old c e none is = elim (cases_eq e c) [
   | inl same ↦ same
-  | inr ne ↦ absurd (not_both (old e) none (sym ((is_put old c true).other e ne) ∙ is))
+  | inr ne ↦ absurd (both_ways (old e) none (sym ((is_put old c true).other e ne) ∙ is))
 ]
 
 -- the one sector of a write
@@ -131,17 +128,17 @@ snapshot o log m c d f first content = snapshot_of (after_drop o m c) (asked_flu
 
 wanted_not : (o : Opening) (log : List Entry) (m : Memory) (c : ℕ) (d f : CallId) (first : ℕ) (content : List Sector) (b : ℕ) → o.layout.chunk_of b ≡ c → (snapshot o log m c d f first content).wanted b ≡ true → ⊥
 wanted_not o log m c d f first content b is want = elim (or_cases (without o c m.index.stale b) (without o c m.owed b) want) [
-  | inl stale ↦ not_both _ (without_in o c m.index.stale b is) stale
-  | inr owed ↦ not_both _ (without_in o c m.owed b is) owed
+  | inl stale ↦ both_ways _ (without_in o c m.index.stale b is) stale
+  | inr owed ↦ both_ways _ (without_in o c m.owed b is) owed
 ]
 
 wanted_mapping : (o : Opening) (log : List Entry) (m : Memory) (c : ℕ) (d f : CallId) (first : ℕ) (content : List Sector) → o.layout.discards ≡ true
     → IsWantedMapping o (after_drop o m c) (snapshot o log m c d f first content) c (record { storage = None; zeros = true; has = λ b. false })
 wanted_mapping o log m c d f first content allowed = record {
   kind = sym ((is_put m.discards.zeros c true).same);
-  in_grammar = λ no. absurd (not_both o.layout.discards no allowed);
-  blocks = λ b. (λ no. absurd (not_both false refl no), λ both. absurd (wanted_not o log m c d f first content b both.0 both.1));
-  storage = λ s. (λ no. absurd (cc), λ both. absurd (not_both false refl both.1.1));
+  in_grammar = λ no. absurd (both_ways o.layout.discards no allowed);
+  blocks = λ b. (λ no. absurd (both_ways false refl no), λ both. absurd (wanted_not o log m c d f first content b both.0 both.1));
+  storage = λ s. (λ no. absurd (cc), λ both. absurd (both_ways false refl both.1.1));
 }
 
 wanted_record : (o : Opening) (log : List Entry) (m : Memory) (c : ℕ) (d f : CallId) (first : ℕ) (content : List Sector) → c < o.layout.chunks → o.layout.discards ≡ true
@@ -178,7 +175,7 @@ logged o log m c d f first content cursor start = record {
   off_is = off;
   owed_was = λ b is. is;
   owed_still = λ b is. inl is;
-  lost_was = λ e is. absurd (not_both false refl is);
+  lost_was = λ e is. absurd (both_ways false refl is);
   lost_still = λ j n e since drop. let b = at_below (asked_flush log d f first content) j _ drop.stands in absurd (omega arith);
   reach = refl;
   table = each;
@@ -205,7 +202,7 @@ logged o log m c d f first content cursor start = record {
         none = ap (sealing o m c).table same ∙ (is_put m.index.table c None).same;
         lost = ap (put m.discards.lost c true) same ∙ (is_put m.discards.lost c true).same;
         unwanted = λ b is want. wanted_not o log m c d f first content b (is ∙ same) want;
-        not_local = λ b is local. not_both _ (without_in o c m.fresh b (is ∙ same)) local;
+        not_local = λ b is local. both_ways _ (without_in o c m.fresh b (is ∙ same)) local;
         calm = λ b is. start.pending b;
       })
       | inr ne ↦ inl ((is_put m.index.table c None).other e ne)
@@ -310,7 +307,7 @@ releasing o log m marked c first content v d f t start within allowed room write
     begun_run = Then _ _ _ flush_asked_run (Begins log h m1 all idle f t 4 n refl)
 
     data_run : Interleaves o (at_rest log m marked) (state log2 h m1 all idle (Working f 4 n n p1))
-    data_run = Then _ _ _ begun_run (Data_flushed log1 h m1 all idle f t 4 n n (snapshot_of m1 h) none (λ e is. absurd (not_both false refl is)))
+    data_run = Then _ _ _ begun_run (Data_flushed log1 h m1 all idle f t 4 n n (snapshot_of m1 h) none (λ e is. absurd (both_ways false refl is)))
 
     put_run : Interleaves o (at_rest log m marked) (state log3 h m2 all idle (Putting f 4 n n p1 (o.layout.slot_at m.index.cursor) (length log2) v t))
     put_run = Then _ _ _ data_run (Puts_record log2 h m1 all idle f t 4 n n p1 put_entry v (loss m.index.generation c) (λ k has. has) refl room (one_sector t (o.layout.slot_at m.index.cursor) v) (0, omega arith, refl) reads
@@ -319,13 +316,13 @@ releasing o log m marked c first content v d f t start within allowed room write
     named : IsLoggedBy o m2 (o.layout.slot_at m.index.cursor) v of_chunk none p1
     named = record {
       records = λ b is. inr (m.index.cursor, refl, omega arith, omega arith, room, record { item = loss m.index.generation c; fact = record { chunk = c; mapping = record { storage = None; zeros = true; has = λ e. false } }; place = 0; reads = reads; current = (refl, refl); stands = refl; is = sym (is_chunk b is) });
-      pages = λ e is. absurd (not_both false refl is);
+      pages = λ e is. absurd (both_ways false refl is);
     }
       where
         is_chunk : (b : ℕ) → of_chunk b ≡ true → o.layout.chunk_of b ≡ c
         is_chunk b is = elim (cases_eq (o.layout.chunk_of b) c) [
           | inl same ↦ same
-          | inr ne ↦ absurd (not_both (of_chunk b) (ne_eqb (o.layout.chunk_of b) c ne) is)
+          | inr ne ↦ absurd (both_ways (of_chunk b) (ne_eqb (o.layout.chunk_of b) c ne) is)
         ]
 
     done_run : Interleaves o (at_rest log m marked) (state log4 h m2 all idle (Working f 4 n n p2))
@@ -335,7 +332,7 @@ releasing o log m marked c first content v d f t start within allowed room write
     syncs_run = Then _ _ _ done_run (Syncs log4 h m2 all idle f t 4 n n p2)
 
     flush_run : Interleaves o (at_rest log m marked) (state log6 h m2 all idle (Working f 4 n n p3))
-    flush_run = Then _ _ _ syncs_run (Synced log5 h m2 all idle f t 4 n n (length log4) p2 of_chunk none all (λ b is. inr is) (λ e is. absurd (not_both false refl is)) (λ e inside is. absurd (not_both true is refl)))
+    flush_run = Then _ _ _ syncs_run (Synced log5 h m2 all idle f t 4 n n (length log4) p2 of_chunk none all (λ b is. inr is) (λ e is. absurd (both_ways false refl is)) (λ e inside is. absurd (both_ways true is refl)))
 
     sealed_step : IsPrimitive o (state log6 h m2 all idle (Working f 4 n n p3)) (state log6 h m3 all answering Resting)
     sealed_step = Seals log6 h m2 all idle answering 0 f 4 n n p3 z refl (is_put idle 0 (Answering f 4 n)) (logged o log m c d f first content (m.index.cursor + 1) start) start.sure

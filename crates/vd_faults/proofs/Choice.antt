@@ -5,6 +5,8 @@ use Rattle.std.specs.Option.{option_to_list, option_map_or}
 use Rattle.std.specs.List.{Contains}
 use Rattle.std.proofs.lemmas.Bool.{cases_eq, cases_lt, lt-ltb, le-ltb}
 use Rattle.std.proofs.lemmas.Option.{slice_get_cases, slice_get_within, get_or_from_slice_get}
+use Rattle.vd_lists.proofs.Changes.{slice_set_inside, slice_set_other}
+use Rattle.vd_lists.proofs.Places.{slice_get_drop}
 use Rattle.vd_law.specs.declared.entry.Sector.{Sector}
 use Rattle.vd_law.specs.Entries.{past}
 use Rattle.vd_law.specs.Contents.{issued_contents, versions, firm_after, may}
@@ -14,8 +16,6 @@ use Rattle.vd_faults.specs.declared.versions.Versions.{Versions}
 use Rattle.vd_faults.specs.Choices.{asked, answer_at, member, contents_at, IsChosen}
 use Rattle.vd_faults.specs.Versions.{count_of, counts_in, after_choice}
 use Rattle.vd_faults.proofs.Counting.{written-le}
-use Rattle.vd_faults.proofs.Laying.{get-set-same, get-set-other}
-use Rattle.vd_faults.proofs.Getting.{get-drop}
 
 -- a chooser that is told the same numbers is in the same state
 pub asked-same : {C : Type 0} (choice : C → ℕ → ℕ → ℕ × C) (chooser : C) (counts counts' : ℕ → ℕ) (s : ℕ) → ((k : ℕ) → k < s → counts k ≡ counts' k) → asked choice chooser counts s ≡ asked choice chooser counts' s
@@ -64,9 +64,9 @@ module _ {C : Type 0} (choice : C → ℕ → ℕ → ℕ × C) (first now : C) 
       elim (cases_eq k s) [
         | inl here ↦
             let v_is : x ≡ v = same_versions x v (sym choose-read ∙ ap (slice_get init) (sym here) ∙ at) in
-            rw here (get-set-same all s y (slice_get_within all s x read) ∙ ap (λ (z : Versions). Some z) (is ∙ answered v v_is)
+            rw here (slice_set_inside all s y (slice_get_within all s x read) ∙ ap (λ (z : Versions). Some z) (is ∙ answered v v_is)
             ∙ sym (ap (λ (b : Bool). Some (if b then after_choice v (answer_at choice first (counts_in init) s) else v)) (lt-ltb s (s + 1) (omega arith))))
-        | inr apart ↦ get-set-other all s k y apart ∙ so_far k v at ∙ ap (λ (b : Bool). Some (if b then after_choice v (answer_at choice first (counts_in init) k) else v)) (same_test apart)
+        | inr apart ↦ slice_set_other all s k y apart ∙ so_far k v at ∙ ap (λ (b : Bool). Some (if b then after_choice v (answer_at choice first (counts_in init) k) else v)) (same_test apart)
       ]
     where
       answered : (v : Versions) → x ≡ v → after_choice x (choice now s (count_of x)).0 ≡ after_choice v (answer_at choice first (counts_in init) s)
@@ -145,8 +145,8 @@ module _ (d : Disk) (all : List Versions) (size : length all ≡ length d.start)
   pub target-member : {C : Type 0} (choice : C → ℕ → ℕ → ℕ × C) (chooser : C) (s : ℕ) → s < length d.start → slice_get (versions d.start (past d.log) s) (target choice chooser s) ≡ member (may d.start d.log s) (answer_at choice chooser (contents_at d) s)
   target-member choice chooser s within =
       let a = answer_at choice chooser (contents_at d) s in let vs = versions d.start (past d.log) s in
-      let place : min a (length (may d.start d.log s) - 1) + firms s ≡ target choice chooser s = omega (arith, may-length s within) in
-      sym (get-drop vs (firms s) (min a (length (may d.start d.log s) - 1)) ∙ ap (slice_get vs) place)
+      let place : firms s + min a (length (may d.start d.log s) - 1) ≡ target choice chooser s = omega (arith, may-length s within) in
+      sym (slice_get_drop (firms s) vs (min a (length (may d.start d.log s) - 1)) ∙ ap (slice_get vs) place)
 
   -- the whole image
   pub image-chosen : {C : Type 0} (choice : C → ℕ → ℕ → ℕ × C) (chooser : C) (image : List Sector) → length image ≡ length d.start

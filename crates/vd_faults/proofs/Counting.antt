@@ -4,8 +4,9 @@ use Rattle.std.specs.Prelude.{slice_get}
 use Rattle.std.specs.Option.{option_map, option_to_list}
 use Rattle.std.specs.List.{fold}
 use Rattle.std.proofs.lemmas.Bool.{cases_lt}
-use Rattle.std.proofs.lemmas.Option.{slice_get_cases}
+use Rattle.std.proofs.lemmas.Option.{slice_get_cases, same_Some}
 use Rattle.std.proofs.lemmas.List.{append-nil, length-take-le, take_all}
+use Rattle.vd_lists.proofs.Options.{cases_option}
 use Rattle.vd_law.specs.declared.entry.Sector.{Sector}
 use Rattle.vd_law.specs.declared.entry.CallId.{CallId}
 use Rattle.vd_law.specs.Entries.{Entry, Ask, Issue, Done, Broke, Seen, Reply, Past, nothing, ◌▸◌, past}
@@ -17,7 +18,6 @@ use Rattle.vd_faults.specs.declared.versions.Versions.{Versions}
 use Rattle.vd_faults.specs.Tapes.{TapeState}
 use Rattle.vd_faults.specs.Traced.{EndsLastWrites, IsOrigin, IsTracedTape}
 use Rattle.vd_faults.specs.Versions.{changed_if, one_more, made_firm, HasCountedWrites}
-use Rattle.vd_faults.proofs.Getting.{cases-sector}
 
 -- No sector has more writes than there are entries.
 
@@ -106,7 +106,7 @@ module _ (log : List Entry) (sealed i : ℕ) (id : CallId) (first : ℕ) (conten
   pub counted-issue : (s : ℕ) (x : Option Versions) (v : Versions) → ((u : Versions) → x ≡ Some u → HasCountedWrites log sealed i s u) → changed_if one_more (sector_in first content s) x ≡ Some v → HasCountedWrites log sealed (i + 1) s v
   counted-issue s x v before now =
       let e : Entry = Issue id first content in let old = issued_contents (past (take i log)) s in
-      elim (cases-sector (sector_in first content s)) [
+      elim (cases_option (sector_in first content s)) [
         | inl none ↦ counted-same log sealed i e at s v (ap (λ (o : Option Sector). old ++ option_to_list o) none ∙ nil old) refl (before v (change-none one_more (sector_in first content s) x v none now))
         | inr some ↦
             let u = change-some one_more (sector_in first content s) some.0 x v some.1 now in let c = before u.0 u.1 in
@@ -126,7 +126,7 @@ module _ (n : ℕ) (log : List Entry) (sealed i : ℕ) (id : CallId) (first : �
   pub counted-done : (s : ℕ) (x : Option Versions) (v : Versions) → ((u : Versions) → x ≡ Some u → HasCountedWrites log sealed i s u) → changed_if made_firm (sector_in first content s) x ≡ Some v → HasCountedWrites log sealed (i + 1) s v
   counted-done s x v before now =
       let e : Entry = Done id in let q = past (take i log) in
-      elim (cases-sector (sector_in first content s)) [
+      elim (cases_option (sector_in first content s)) [
         | inl none ↦ counted-same log sealed i e at s v refl
             (ap (λ o. max (last_done q s) (issue_number o)) (ends.off s none) ∙ (let same : max (last_done q s) 0 ≡ last_done q s = omega arith in same))
             (before v (change-none made_firm (sector_in first content s) x v none now))
@@ -159,12 +159,9 @@ counted-firm log sealed s v within firm c =
 pub done-origin : (n : ℕ) (tape : TapeState) (i place : ℕ) → IsTracedTape n tape → (at : (id : CallId) × (slice_get tape.log.entries i ≡ Some (Done id))) → slice_get tape.origins i ≡ Some place → IsOrigin n tape.log.entries (past (take i tape.log.entries)) at.0 place
 done-origin n tape i place traced at began = traced.each i (Done at.0) place at.1 began
 
-same-entry : (a b : Entry) → Some a ≡ Some b → a ≡ b
-same-entry a b same = cc
-
 -- the event at the origin is the Issue
 pub origin-event : (log : List Entry) (place : ℕ) (found : Entry) (id : CallId) (first : ℕ) (content : List Sector) → slice_get log place ≡ Some found → slice_get log place ≡ Some (Issue id first content) → found ≡ Issue id first content
-origin-event log place found id first content at is = same-entry found (Issue id first content) (sym at ∙ is)
+origin-event log place found id first content at is = same_Some found (Issue id first content) (sym at ∙ is)
 
 pub issue-inside : (n : ℕ) (tape : TapeState) (i : ℕ) (id : CallId) (first : ℕ) (content : List Sector) → IsTracedTape n tape → i < length tape.log.entries → slice_get tape.log.entries i ≡ Some (Issue id first content) → first + length content ≤ n
 issue-inside n tape i id first content traced within at =

@@ -6,6 +6,9 @@ use Rattle.std.proofs.lemmas.Bool.{cases_lt, cases_eq}
 use Rattle.std.proofs.lemmas.Bool.Decides.{leb_tells, eqb_tells}
 use Rattle.std.proofs.lemmas.List.{length-set, append-nil, append_assoc, length-take, length-take-le, take_all}
 use Rattle.std.proofs.lemmas.Option.{slice_get_past, slice_get_within}
+use Rattle.vd_lists.proofs.Places.{slice_get_front, slice_get_last, slice_get_take}
+use Rattle.vd_lists.proofs.Options.{cases_option}
+use Rattle.vd_lists.proofs.Changes.{slice_set_inside, slice_set_other}
 use Rattle.vd_law.specs.declared.entry.Sector.{Sector}
 use Rattle.vd_law.specs.declared.entry.CallId.{CallId}
 use Rattle.vd_law.specs.Entries.{Entry, Issue, Past, nothing, ◌▸◌, past}
@@ -16,26 +19,13 @@ use Rattle.vd_device.specs.Calls.{next_number}
 use Rattle.vd_faults.specs.declared.versions.Versions.{Versions}
 use Rattle.vd_faults.specs.Versions.{changed_if, one_more, laid, shown, HasLaidVersion}
 use Rattle.vd_faults.proofs.Counting.{change-none, change-some, written-le}
-use Rattle.vd_faults.proofs.Getting.{get-take, get-first, get-push, cases-sector}
 
 -- A list with one element set.
-
-pub get-set-same : {X : Type 0} (xs : List X) (i : ℕ) (y : X) → i < length xs → slice_get (set xs i y) i ≡ Some y
-get-set-same [] i y h = absurd (omega arith)
-get-set-same (x ∷ xs) zero y h = refl
-get-set-same (x ∷ xs) (suc i) y h = get-set-same xs i y (omega arith)
-
-pub get-set-other : {X : Type 0} (xs : List X) (i j : ℕ) (y : X) → j ≢ i → slice_get (set xs i y) j ≡ slice_get xs j
-get-set-other [] i j y apart = refl
-get-set-other (x ∷ xs) zero zero y apart = absurd (apart refl)
-get-set-other (x ∷ xs) zero (suc j) y apart = refl
-get-set-other (x ∷ xs) (suc i) zero y apart = refl
-get-set-other (x ∷ xs) (suc i) (suc j) y apart = get-set-other xs i j y (λ same. apart (ap suc same))
 
 -- One more of the first sectors of a content.
 
 now : (first k : ℕ) (content : List Sector) (c : Sector) → slice_get content k ≡ Some c → sector_in first (take (k + 1) content) (first + k) ≡ Some c
-now first k content c at = sector_in-at first k (take (k + 1) content) ∙ get-take content (k + 1) k (omega arith) ∙ at
+now first k content c at = sector_in-at first k (take (k + 1) content) ∙ slice_get_take (k + 1) content k (omega arith) ∙ at
 
 not-yet : (first k : ℕ) (content : List Sector) → sector_in first (take k content) (first + k) ≡ None
 not-yet first k content = sector_in-at first k (take k content) ∙ slice_get_past (take k content) k (omega (arith, length-take {A = Sector} k content))
@@ -43,7 +33,7 @@ not-yet first k content = sector_in-at first k (take k content) ∙ slice_get_pa
 other-place : (j k : ℕ) (content : List Sector) → j ≢ k → slice_get (take (k + 1) content) j ≡ slice_get (take k content) j
 other-place j k content apart =
     elim (cases_lt j k) [
-      | inl less ↦ get-take content (k + 1) j (omega (arith, less)) ∙ sym (get-take content k j less)
+      | inl less ↦ slice_get_take (k + 1) content j (omega (arith, less)) ∙ sym (slice_get_take k content j less)
       | inr more ↦ slice_get_past (take (k + 1) content) j (omega (arith, length-take {A = Sector} (k + 1) content, more, apart))
           ∙ sym (slice_get_past (take k content) j (omega (arith, length-take {A = Sector} k content, more)))
     ]
@@ -67,9 +57,9 @@ module _ (first k : ℕ) (content : List Sector) (c : Sector) (at : slice_get co
   pub versions-more : (s : ℕ) → slice_get (set all (first + k) (one_more x)) s ≡ changed_if one_more (sector_in first (take (k + 1) content) s) (slice_get init s)
   versions-more s =
       elim (cases_eq s (first + k)) [
-        | inl here ↦ rw here (get-set-same all (first + k) (one_more x) (slice_get_within all (first + k) x read)
+        | inl here ↦ rw here (slice_set_inside all (first + k) (one_more x) (slice_get_within all (first + k) x read)
             ∙ sym (ap (λ (o : Option Sector). changed_if one_more o (slice_get init (first + k))) (now first k content c at) ∙ ap (option_map one_more) unchanged))
-        | inr apart ↦ get-set-other all (first + k) s (one_more x) apart ∙ so_far s
+        | inr apart ↦ slice_set_other all (first + k) s (one_more x) apart ∙ so_far s
             ∙ sym (ap (λ (o : Option Sector). changed_if one_more o (slice_get init s)) (elsewhere first k content s apart))
       ]
 
@@ -87,13 +77,13 @@ module _ (first k : ℕ) (content : List Sector) (c : Sector) (at : slice_get co
 
       at_it : slice_get (if next_number x.written == x.chosen then set image (first + k) c else image) (first + k) ≡ (if next_number x.written == x.chosen then Some c else slice_get before (first + k))
       at_it = elim (next_number x.written == x.chosen) as (λ b. slice_get (if b then set image (first + k) c else image) (first + k) ≡ (if b then Some c else slice_get before (first + k))) [
-        | true ↦ get-set-same image (first + k) c within
+        | true ↦ slice_set_inside image (first + k) c within
         | false ↦ untouched
       ]
 
       off_it : s ≢ first + k → slice_get (if next_number x.written == x.chosen then set image (first + k) c else image) s ≡ slice_get image s
       off_it apart = elim (next_number x.written == x.chosen) as (λ b. slice_get (if b then set image (first + k) c else image) s ≡ slice_get image s) [
-        | true ↦ get-set-other image (first + k) s c apart
+        | true ↦ slice_set_other image (first + k) s c apart
         | false ↦ refl
       ]
 
@@ -116,9 +106,9 @@ shown-more v vs c before after long short was is =
     let more : next_number v.written ≡ v.written + 1 = omega (arith, short) in
     elim (eqb_tells (next_number v.written) v.chosen) [
       | inl chosen ↦ is ∙ ap (λ (b : Bool). if b then Some c else before) chosen.0
-          ∙ sym (ap (slice_get (vs ++ c ∷ [])) (shown_now chosen.1 ∙ sym chosen.1 ∙ more ∙ sym long) ∙ get-push vs c)
+          ∙ sym (ap (slice_get (vs ++ c ∷ [])) (shown_now chosen.1 ∙ sym chosen.1 ∙ more ∙ sym long) ∙ slice_get_last vs c)
       | inr apart ↦ is ∙ ap (λ (b : Bool). if b then Some c else before) apart.0 ∙ was
-          ∙ sym (ap (slice_get (vs ++ c ∷ [])) (shown_still more apart.1) ∙ get-first vs (c ∷ []) (shown v) (omega (arith, shown_within, long)))
+          ∙ sym (ap (slice_get (vs ++ c ∷ [])) (shown_still more apart.1) ∙ slice_get_front vs (c ∷ []) (shown v) (omega (arith, shown_within, long)))
     ]
   where
     shown_now : next_number v.written ≡ v.chosen → shown (one_more v) ≡ v.chosen
@@ -154,7 +144,7 @@ laid-issue start target log i id first content s x v image image' at short withi
     let p = past (take i log) in let old = issued_contents p s in let x0 = option_to_list (slice_get start s) in
     let few = written-le (take i log) s in let long = length-take-le i log (omega (arith, within)) in
     subst (λ (q : Past). HasLaidVersion start target q s v image') (sym (past-more log i (Issue id first content) at))
-    (elim (cases-sector (sector_in first content s)) [
+    (elim (cases_option (sector_in first content s)) [
       | inl none ↦
           let was = change-none one_more (sector_in first content s) x v none versions_now in let l = before v was in
           let same : old ++ option_to_list (sector_in first content s) ≡ old = ap (λ (o : Option Sector). old ++ option_to_list o) none ∙ append-nil old in

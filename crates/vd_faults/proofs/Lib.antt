@@ -1,4 +1,3 @@
-pub mod Getting
 pub mod Choosing
 pub mod Origins
 pub mod Counting

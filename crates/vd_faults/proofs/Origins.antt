@@ -2,10 +2,11 @@
 use Rattle.std.proofs.Common.{◌≡◌, ℕ, zero, suc, ◌≤◌, max, inl, inr, Bool, true, false, List, [], ◌∷◌, ◌++◌, Some, length, take, drop, refl, ap, sym, ◌∙◌, subst, arith, length-append}
 use Rattle.std.specs.Prelude.{if◌then◌else◌, slice_get}
 use Rattle.std.specs.List.{fold}
-use Rattle.std.proofs.lemmas.Bool.{cases_lt}
+use Rattle.std.proofs.lemmas.Bool.{cases_lt, cond_both}
 use Rattle.std.proofs.lemmas.List.{take-append-le, take-append-drop, take-take, take_at}
 use Rattle.std.proofs.lemmas.Option.{slice_get_within}
 use Rattle.std.proofs.Math.Nat.{max-le}
+use Rattle.vd_lists.proofs.Places.{slice_get_front, slice_get_last}
 use Rattle.vd_law.specs.Entries.{Entry, Ask, Issue, Done, Broke, Seen, Reply, Past, nothing, ◌▸◌, past}
 use Rattle.vd_law.specs.Calls.{progress, before_ask}
 use Rattle.vd_law.specs.Contents.{last_done, is_flushed, firm_after}
@@ -15,8 +16,6 @@ use Rattle.vd_law.proofs.RuleLaws.{past-append}
 use Rattle.vd_device.specs.Calls.{next_number}
 use Rattle.vd_faults.specs.Tapes.{TapeState, takes, lengthened, taped}
 use Rattle.vd_faults.specs.Traced.{IsTracedAt, IsTracedTape}
-use Rattle.vd_faults.proofs.Choosing.{choose}
-use Rattle.vd_faults.proofs.Getting.{get-first, get-push}
 
 -- What is done in a beginning of a log.
 
@@ -57,7 +56,7 @@ longer n log x p (Issue id first content) place at = at
 longer n log x p (Done id) place at = record {
   first = at.first;
   content = at.content;
-  issue = get-first log (x ∷ []) place (slice_get_within log place _ at.issue) ∙ at.issue;
+  issue = slice_get_front log (x ∷ []) place (slice_get_within log place _ at.issue) ∙ at.issue;
   ends = at.ends;
 }
 longer n log x p (Broke id) place at = tt
@@ -114,7 +113,7 @@ module _ (n : ℕ) (tape : TapeState) (place : ℕ) (before : IsTracedTape n tap
   sealed-more (Broke id) sealing = omega (arith, before.sealed, length-append log (Broke id ∷ []))
   sealed-more (Seen id first content) sealing = omega (arith, before.sealed, length-append log (Seen id first content ∷ []))
   sealed-more (Reply id answer) sealing =
-      choose (λ (k : ℕ). k ≤ length (log ++ Reply id answer ∷ [])) (is_ok answer) (max tape.sealed place) tape.sealed
+      cond_both (is_ok answer) (max tape.sealed place) tape.sealed (λ (k : ℕ). k ≤ length (log ++ Reply id answer ∷ []))
       (λ ok. omega (arith, before.sealed, (sealing.1 ok).0, length-append log (Reply id answer ∷ [])))
       (λ other. omega (arith, before.sealed, length-append log (Reply id answer ∷ [])))
 
@@ -123,12 +122,12 @@ module _ (n : ℕ) (tape : TapeState) (place : ℕ) (before : IsTracedTape n tap
       elim (cases_lt i (length log)) [
         | inl old ↦
             subst (λ (l : List Entry). IsTracedAt n (log ++ e ∷ []) (past l) x at) (sym (take-append-le i log (e ∷ []) (omega arith)))
-            (longer n log e (past (take i log)) x at (before.each i x at (sym (get-first log (e ∷ []) i old) ∙ entry) (sym (get-first tape.origins (place ∷ []) i (omega (arith, before.all))) ∙ origin)))
+            (longer n log e (past (take i log)) x at (before.each i x at (sym (slice_get_front log (e ∷ []) i old) ∙ entry) (sym (slice_get_front tape.origins (place ∷ []) i (omega (arith, before.all))) ∙ origin)))
         | inr late ↦
             let within = slice_get_within (log ++ e ∷ []) i x entry in
             let last : i ≡ length log = omega (arith, within, length-append log (e ∷ [])) in
-            let there : Some e ≡ Some x = sym (get-push log e) ∙ ap (slice_get (log ++ e ∷ [])) (sym last) ∙ entry in
-            let began : Some place ≡ Some at = sym (get-push tape.origins place) ∙ ap (slice_get (tape.origins ++ place ∷ [])) (before.all ∙ sym last) ∙ origin in
+            let there : Some e ≡ Some x = sym (slice_get_last log e) ∙ ap (slice_get (log ++ e ∷ [])) (sym last) ∙ entry in
+            let began : Some place ≡ Some at = sym (slice_get_last tape.origins place) ∙ ap (slice_get (tape.origins ++ place ∷ [])) (before.all ∙ sym last) ∙ origin in
             subst (λ (l : List Entry). IsTracedAt n (log ++ e ∷ []) (past l) x at) (sym (take_at log (e ∷ []) i (sym last)))
             (longer n log e (past log) x at (subst (λ (y : Entry). IsTracedAt n log (past log) y at) (same_entry e x there) (subst (λ (k : ℕ). IsTracedAt n log (past log) e k) (same_place place at began) new)))
       ]
@@ -150,7 +149,7 @@ module _ (n : ℕ) (tape : TapeState) (place : ℕ) (before : IsTracedTape n tap
   -- the tape after a call
   pub traced-taped : (e : Entry) → (takes tape.log tape.fuse tape.over e ≡ true → IsTracedAt n log (past log) e place × IsSealing log e place) → IsTracedTape n (taped e place tape)
   traced-taped e new =
-      choose (IsTracedTape n) (takes tape.log tape.fuse tape.over e) (lengthened e place tape) (record tape { over = next_number tape.over })
+      cond_both (takes tape.log tape.fuse tape.over e) (lengthened e place tape) (record tape { over = next_number tape.over }) (IsTracedTape n)
       (λ can. let facts = new can in traced-push e facts.0 facts.1)
       (λ full. record { all = before.all; each = before.each; sealed = before.sealed; firm = before.firm })
 

@@ -1,42 +1,32 @@
 -- Tickets that come and go.
-use Rattle.std.proofs.Common.{◌≡◌, ◌+◌, ◌<◌, List, [], ◌∷◌, ◌++◌, length, refl, arith, length-append}
-use Rattle.std.specs.List.{AllByRecursion}
+use Rattle.std.proofs.Common.{◌≡◌, ◌+◌, ◌<◌, List, ◌∷◌, ◌++◌, length, refl, arith}
 use Rattle.vd_device.specs.declared.ticket.Ticket.{Ticket}
 use Rattle.vd_device.specs.Tickets.{Puts, Takes, IsInFlight}
 use Rattle.std.specs.Prelude.{Bool, true, false, IsFalse, if◌then◌else◌}
+use Rattle.vd_lists.proofs.Elements.{each_without, each_with}
+use Rattle.vd_lists.proofs.Lists.{length_with}
 use Rattle.vd_law.specs.declared.entry.Sector.{Sector}
 use Rattle.vd_device.specs.declared.settled.Waited.{Waited}
 use Rattle.vd_device.specs.declared.settled.Waited.TheVariants.{Done, Failed}
 use Rattle.vd_device.specs.Calls.{Settles, settled_of}
 use Rattle.vd_file.specs.Standing.{FileState, ReadsInside, AreFlying}
 
-all_but : (P : Ticket → Type 0) (before after : List Ticket) (t : Ticket) → AllByRecursion P (before ++ t ∷ after) → P t × AllByRecursion P (before ++ after)
-all_but P [] after t all = all
-all_but P (x ∷ before) after t (here, there) = let rest = all_but P before after t there in (rest.0, (here, rest.1))
-
-all_with : (P : Ticket → Type 0) (before after : List Ticket) (t : Ticket) → P t → AllByRecursion P (before ++ after) → AllByRecursion P (before ++ t ∷ after)
-all_with P [] after t it all = (it, all)
-all_with P (x ∷ before) after t it (here, there) = (here, all_with P before after t it there)
-
-length-with : (before after : List Ticket) (t : Ticket) → length (before ++ t ∷ after) ≡ length (before ++ after) + 1
-length-with before after t = omega (arith, length-append before (t ∷ after), length-append before after)
-
 pub put : (s s' : FileState) (t : Ticket) → s'.flying ≡ s.flying + 1 → s'.sectors ≡ s.sectors → ReadsInside s.sectors t → Puts t (AreFlying s) (AreFlying s')
 put s s' t more same it others all among flying = record {
-  many = rw among.with_it (let o : s.flying ≡ length (among.before ++ among.after) = rw (← among.without) flying.many in omega (arith, length-with among.before among.after t));
-  inside = rw (same, among.with_it) (all_with _ among.before among.after t it (rw among.without at flying.inside));
+  many = rw among.with_it (let o : s.flying ≡ length (among.before ++ among.after) = rw (← among.without) flying.many in omega (arith, length_with among.before among.after t));
+  inside = rw (same, among.with_it) (each_with _ among.before among.after t it (rw among.without at flying.inside));
 }
 
 pub taken : (s s' : FileState) (t : Ticket) → s'.flying + 1 ≡ s.flying → s'.sectors ≡ s.sectors → Takes t (AreFlying s) (AreFlying s')
 taken s s' t fewer same others all among flying = record {
-  many = rw among.without (let a : s.flying ≡ length (among.before ++ t ∷ among.after) = rw (← among.with_it) flying.many in omega (arith, length-with among.before among.after t));
-  inside = rw (same, among.without) (all_but _ among.before among.after t (rw among.with_it at flying.inside)).1;
+  many = rw among.without (let a : s.flying ≡ length (among.before ++ t ∷ among.after) = rw (← among.with_it) flying.many in omega (arith, length_with among.before among.after t));
+  inside = rw (same, among.without) (each_without _ among.before among.after t (rw among.with_it at flying.inside)).1;
 }
 
 pub known : (s : FileState) (t : Ticket) → IsInFlight (AreFlying s) t → ReadsInside s.sectors t × (0 < s.flying)
 known s t (others, all, among, flying) =
     let a : s.flying ≡ length (among.before ++ t ∷ among.after) = rw (← among.with_it) flying.many in
-    ((all_but _ among.before among.after t (rw among.with_it at flying.inside)).0, omega (arith, length-with among.before among.after t))
+    ((each_without _ among.before among.after t (rw among.with_it at flying.inside)).0, omega (arith, length_with among.before among.after t))
 
 -- a wait that ends the ticket, and gives nothing where it failed
 pub settles : (is_done : Bool) (answer : Waited) (t : Ticket) (out out' : List Sector) (old new : List Ticket → Type 0)

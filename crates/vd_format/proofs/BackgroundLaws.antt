@@ -7,9 +7,10 @@ use Rattle.std.proofs.lemmas.List.FromFn.{length-map-range_with_len}
 use Rattle.std.proofs.lemmas.Bool.Decides.{leb_tells}
 use Rattle.vd_law.specs.declared.entry.Sector.{Sector}
 use Rattle.vd_law.specs.Contents.{sector_in}
-use Rattle.vd_lists.proofs.Lists.{same_list, slice_get_front, slice_get_back, slice_get_replicate, slice_get_run}
+use Rattle.vd_lists.proofs.Lists.{same_list}
 use Rattle.vd_law.proofs.Sectors.{sector_in-at}
 use Rattle.vd_format.specs.Background.{zero_sector, base_at, background_of, background_run}
+use Rattle.vd_lists.proofs.Places.{slice_get_front, slice_get_back, slice_get_replicate, slice_get_run}
 
 -- what the front has from sector `first` on, the base has there
 abbrev IsIn : (first : ℕ) (front content : List Sector) → Type 0

@@ -1,9 +1,10 @@
 -- The rules of a header's fields and their tests say the same.
-use Rattle.std.proofs.Common.{◌≡◌, ℕ, zero, suc, ◌+◌, ◌-◌, ◌%◌, ◌^◌, ◌<◌, ◌≤◌, ◌⊎◌, Bool, true, false, cond, List, [], ◌∷◌, Option, Some, None, refl, arith, inl, inr}
+use Rattle.std.proofs.Common.{◌≡◌, ℕ, zero, suc, ◌+◌, ◌-◌, ◌%◌, ◌^◌, ◌<◌, ◌≤◌, ◌⊎◌, Bool, true, List, [], ◌∷◌, None, refl, arith, inl, inr}
 use Rattle.std.specs.List.{list_all}
 use Rattle.std.specs.Prelude.{Contains, ◌&&◌, ◌==◌, nat_le, nat_lt}
 use Rattle.std.proofs.Math.Nat.{div-le_self}
 use Rattle.std.proofs.lemmas.Bool.{cond_both, eqb-true, eq-eqb, leb-true, le-leb, ltb-true, lt-ltb, and_parts, and_from, or_cases, or_left, or_right}
+use Rattle.vd_lists.proofs.Options.{test_passed}
 use Rattle.vd_format.specs.declared.header.Header.{Header}
 use Rattle.vd_format.specs.Layouts.{blocks_of, chunks_of}
 use Rattle.vd_format.specs.Headers.{IsValid, block_sizes, chunk_sizes, most_slots, most_sectors, is_among, is_version, is_block, is_chunk, is_size, is_storage, is_slots, is_tracked, is_generation, judged_fields, first_wrong}
@@ -49,21 +50,17 @@ pub record AllPass (h : Header) (zeros : Bool) : Type 0 where
   pub generation : is_generation h.generation ≡ true
   pub zeros_are : zeros ≡ true
 
-passes : (test : Bool) (n : ℕ) (later : Option ℕ) → cond test later (Some n) ≡ None → (test ≡ true) × (later ≡ None)
-passes true n later none = (refl, none)
-passes false n later none = absurd cc
-
 pub none_wrong : (h : Header) (zeros : Bool) → first_wrong (judged_fields h zeros) ≡ None → AllPass h zeros
 unfolding judged_fields
 none_wrong h zeros none =
-    let block = passes (is_block h.block) 1 (first_wrong ((2, is_chunk h.chunk) ∷ (3, is_size h) ∷ (4, is_storage h) ∷ (5, is_slots h.slots) ∷ (6, is_tracked h) ∷ (7, is_generation h.generation) ∷ (8, zeros) ∷ [])) none in
-    let chunk = passes (is_chunk h.chunk) 2 (first_wrong ((3, is_size h) ∷ (4, is_storage h) ∷ (5, is_slots h.slots) ∷ (6, is_tracked h) ∷ (7, is_generation h.generation) ∷ (8, zeros) ∷ [])) block.1 in
-    let size = passes (is_size h) 3 (first_wrong ((4, is_storage h) ∷ (5, is_slots h.slots) ∷ (6, is_tracked h) ∷ (7, is_generation h.generation) ∷ (8, zeros) ∷ [])) chunk.1 in
-    let storage = passes (is_storage h) 4 (first_wrong ((5, is_slots h.slots) ∷ (6, is_tracked h) ∷ (7, is_generation h.generation) ∷ (8, zeros) ∷ [])) size.1 in
-    let slots = passes (is_slots h.slots) 5 (first_wrong ((6, is_tracked h) ∷ (7, is_generation h.generation) ∷ (8, zeros) ∷ [])) storage.1 in
-    let tracked = passes (is_tracked h) 6 (first_wrong ((7, is_generation h.generation) ∷ (8, zeros) ∷ [])) slots.1 in
-    let generation = passes (is_generation h.generation) 7 (first_wrong ((8, zeros) ∷ [])) tracked.1 in
-    let last = passes zeros 8 None generation.1 in
+    let block = test_passed (is_block h.block) 1 (first_wrong ((2, is_chunk h.chunk) ∷ (3, is_size h) ∷ (4, is_storage h) ∷ (5, is_slots h.slots) ∷ (6, is_tracked h) ∷ (7, is_generation h.generation) ∷ (8, zeros) ∷ [])) none in
+    let chunk = test_passed (is_chunk h.chunk) 2 (first_wrong ((3, is_size h) ∷ (4, is_storage h) ∷ (5, is_slots h.slots) ∷ (6, is_tracked h) ∷ (7, is_generation h.generation) ∷ (8, zeros) ∷ [])) block.1 in
+    let size = test_passed (is_size h) 3 (first_wrong ((4, is_storage h) ∷ (5, is_slots h.slots) ∷ (6, is_tracked h) ∷ (7, is_generation h.generation) ∷ (8, zeros) ∷ [])) chunk.1 in
+    let storage = test_passed (is_storage h) 4 (first_wrong ((5, is_slots h.slots) ∷ (6, is_tracked h) ∷ (7, is_generation h.generation) ∷ (8, zeros) ∷ [])) size.1 in
+    let slots = test_passed (is_slots h.slots) 5 (first_wrong ((6, is_tracked h) ∷ (7, is_generation h.generation) ∷ (8, zeros) ∷ [])) storage.1 in
+    let tracked = test_passed (is_tracked h) 6 (first_wrong ((7, is_generation h.generation) ∷ (8, zeros) ∷ [])) slots.1 in
+    let generation = test_passed (is_generation h.generation) 7 (first_wrong ((8, zeros) ∷ [])) tracked.1 in
+    let last = test_passed zeros 8 None generation.1 in
     record { block = block.0; chunk = chunk.0; size = size.0; storage = storage.0; slots = slots.0; tracked = tracked.0; generation = generation.0; zeros_are = last.0 }
 
 pub wrong_none : (h : Header) (zeros : Bool) → AllPass h zeros → first_wrong (judged_fields h zeros) ≡ None

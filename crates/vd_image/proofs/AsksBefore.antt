@@ -1,13 +1,13 @@
 -- What the law says stood before the ask of a call.
 use Rattle.std.proofs.Common.{ℕ, ◌≡◌, ◌<◌, ◌⊎◌, inl, inr, [], ◌∷◌, ◌++◌, Some, Bool, true, false, arith, refl, ap, sym, subst, ◌∙◌}
 use Rattle.std.specs.Prelude.{if◌then◌else◌}
-use Rattle.std.proofs.lemmas.Bool.{cases_lt}
+use Rattle.std.proofs.lemmas.Bool.{cases_lt, cases_Bool}
+use Rattle.std.proofs.lemmas.List.{length_push}
 use Rattle.vd_law.specs.Entries.{call_of, same_call, Past, nothing, ◌▸◌}
 use Rattle.vd_law.specs.Calls.{progress, progress_after, before_ask}
-use Rattle.vd_law.proofs.Opening.{same_call-is, same_call-refl, case}
+use Rattle.vd_law.proofs.Opening.{same_call-is, same_call-refl}
 use Rattle.vd_image.specs.Log.{Sector, CallId, Asked, Entry, Ask, Issue, Done, Broke, Seen, Reply, At, Ends}
 use Rattle.vd_image.proofs.Logs.{at_push, at_end, at_below, at_pushed, at_one, ends_push, ends_pushed}
-use Rattle.vd_image.proofs.Logs.{length_push}
 use Rattle.vd_image.proofs.NthWrites.{list_of, size, IsNth}
 use Rattle.vd_image.proofs.OpenWrites.{differs}
 
@@ -112,7 +112,7 @@ known_ask (p ▸ e) id request is = by_entry (known_ask p id request) e is
     same_asked e false same is_now = is_now
 
     by_entry : ((progress p id).asked ≡ Some request → (a : ℕ) × IsLastAsk p a id request) → (e : Entry) → (progress (p ▸ e) id).asked ≡ Some request → (a : ℕ) × IsLastAsk (p ▸ e) a id request
-    by_entry again (Ask c other) is_now = elim (case (same_call c id)) [
+    by_entry again (Ask c other) is_now = elim (cases_Bool (same_call c id)) [
       | inl same ↦
           let asked : Some other ≡ Some request = sym (ap (λ (b : Bool). (if b then progress_after (progress p id) (Ask c other) else progress p id).asked) same) ∙ is_now in
           let request_is : other ≡ request = cc in

@@ -5,14 +5,13 @@ use Rattle.std.specs.List.{Contains, slice_index_or}
 use Rattle.std.specs.Option.{option_to_list}
 use Rattle.std.proofs.lemmas.Option.{slice_get-get_or}
 use Rattle.std.proofs.lemmas.Bool.{cases_lt}
+use Rattle.std.proofs.lemmas.List.{length_push}
 use Rattle.vd_law.specs.declared.entry.Answer.TheVariants as answers
 use Rattle.vd_law.specs.Entries.{Past, nothing, ◌▸◌, past}
 use Rattle.vd_law.specs.Calls.{progress, before_ask}
 use Rattle.vd_law.specs.Contents.{issued_contents, last_done, is_flushed, firm_after, versions, may}
-use Rattle.vd_image.specs.Log.{Sector, CallId, Answer, Fine, Asked, Flush, Entry, Ask, Issue, Done, Broke, Seen, Reply, At, Writes, Ends, Flushes, IsSure, May, IsImage}
-use Rattle.vd_image.specs.Log.{IsOpen}
+use Rattle.vd_image.specs.Log.{Sector, CallId, Answer, Fine, Asked, Flush, Entry, Ask, Issue, Done, Broke, Seen, Reply, At, Writes, Ends, Flushes, IsSure, May, IsImage, IsOpen}
 use Rattle.vd_image.proofs.Logs.{at_push, at_end, at_below, at_pushed, ends_push, ends_pushed, sure_push}
-use Rattle.vd_image.proofs.Logs.{length_push}
 use Rattle.vd_image.proofs.NthWrites.{list_of, size, list_of-fold, IsNth, nth_writes, writes_nth, nth_within, nth_order, nth_one, nth_at, at_nth}
 use Rattle.vd_image.proofs.OpenWrites.{done_below, done_is}
 use Rattle.vd_image.proofs.AsksBefore.{before_nth, nth_before, before_ends, ends_before, IsLastAsk, ask_known, known_ask}

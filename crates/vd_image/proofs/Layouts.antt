@@ -1,5 +1,5 @@
 -- The parts of a store lie apart.
-use Rattle.std.proofs.Common.{ℕ, ◌≡◌, ◌+◌, ◌-◌, ◌*◌, ◌/◌, ◌%◌, ◌<◌, ◌≤◌, arith, ap, sym, ◌∙◌, Contains}
+use Rattle.std.proofs.Common.{ℕ, ◌≡◌, ◌+◌, ◌-◌, ◌*◌, ◌/◌, ◌%◌, ◌<◌, arith, ap, sym, ◌∙◌, Contains}
 use Rattle.std.proofs.lemmas.Nat.{div-mul-add, mod-mul-add, div_below, mod_below, div-add-mod'}
 use Rattle.std.proofs.Math.Nat.{div-div-eq-div-mul}
 use Rattle.vd_format.specs.Layouts.{blocks_of, chunks_of, storage_start, store_need}
@@ -7,23 +7,11 @@ use Rattle.vd_format.specs.Headers.{block_sizes, chunk_sizes, IsValid}
 use Rattle.vd_format.proofs.Places.{in-storage-chunk}
 use Rattle.vd_image.specs.Image.{Header, IsApart}
 use Rattle.vd_image.specs.Layouts.{layout_of, FitsInStore}
+use Rattle.vd_lists.proofs.Numbers.{part_below, row_below}
 
 -- the sectors of a chunk, and of a storage chunk
 abbrev chunk_sectors : Header → ℕ
 chunk_sectors h = h.block * h.chunk
-
--- as many chunks as hold all blocks
-enough : (n k : ℕ) → 0 < k → n ≤ (n + k - 1) / k * k
-enough n k more =
-    let whole = div-add-mod' (n + k - 1) k in
-    let rest = mod_below (n + k - 1) k more in
-    omega arith
-
-chunk_below : (n k b : ℕ) → 0 < k → b < n → b / k < (n + k - 1) / k
-chunk_below n k b more below =
-    let all = enough n k more in
-    let less : b < (n + k - 1) / k * k = omega arith in
-    div_below b k ((n + k - 1) / k) more less
 
 same_number : (w p q r t : ℕ) → r < w → t < w → p * w + r ≡ q * w + t → p ≡ q
 same_number w p q r t less also same = sym (div-mul-add p w r less) ∙ ap (λ (n : ℕ). n / w) same ∙ div-mul-add q w t also
@@ -45,9 +33,6 @@ map_within chunks c less = omega arith
 some_product : (a b : ℕ) → 0 < a → 0 < b → 0 < a * b
 some_product a b some also = grind arith
 
-row_below : (p n r w : ℕ) → p < n → r < w → p * w + r < n * w
-row_below p n r w below less = grind arith
-
 product_turned : (n a b : ℕ) → n * b * a ≡ n * (a * b)
 product_turned n a b = grind arith
 
@@ -65,7 +50,7 @@ whole_blocks size block none = let whole = div-add-mod' size block in omega arit
 pub parts_apart : (h : Header) → IsValid h → IsApart (layout_of h)
 parts_apart h valid = record {
   blocks = λ s below. div_below s h.block (blocks_of h) block (let w = whole_blocks h.size h.block valid.whole_blocks in omega arith);
-  chunks = λ b below. chunk_below (blocks_of h) h.chunk b chunk below;
+  chunks = λ b below. part_below (blocks_of h) h.chunk b chunk below;
   places = λ p q s t p_below q_below same.
       let r = mod_below s (chunk_sectors h) sectors in
       let u = mod_below t (chunk_sectors h) sectors in

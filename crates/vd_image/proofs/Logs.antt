@@ -1,12 +1,7 @@
 -- What one more event at the end of a log changes.
 use Rattle.std.proofs.Common.{ℕ, zero, suc, ◌≡◌, ◌+◌, ◌<◌, ◌≤◌, ◌⊎◌, inl, inr, List, [], ◌∷◌, ◌++◌, length, arith, refl, ap, sym, subst}
-use Rattle.std.proofs.lemmas.List.{length-append}
 use Rattle.std.proofs.lemmas.Bool.{cases_lt}
-use Rattle.vd_image.specs.Log.{IsOpen}
-use Rattle.vd_image.specs.Log.{Sector, CallId, Asked, Flush, Fine, Entry, Ask, Issue, Done, Broke, Seen, Reply, At, Covers, Writes, Ends, Flushes, IsSure, NoneSureFrom, May}
-
-pub length_push : {A : Type 0} (xs : List A) (x : A) → length (xs ++ x ∷ []) ≡ length xs + 1
-length_push xs x = length-append xs (x ∷ [])
+use Rattle.vd_image.specs.Log.{IsOpen, Sector, CallId, Asked, Flush, Fine, Entry, Ask, Issue, Done, Broke, Seen, Reply, At, Covers, Writes, Ends, Flushes, IsSure, NoneSureFrom, May}
 
 -- what stands at a place stands there after one more
 pub at_push : {A : Type 0} (xs : List A) (y : A) (i : ℕ) (x : A) → At xs i x → At (xs ++ y ∷ []) i x

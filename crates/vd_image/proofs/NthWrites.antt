@@ -2,13 +2,12 @@
 use Rattle.std.proofs.Common.{ℕ, ◌≡◌, ◌+◌, ◌-◌, ◌<◌, ◌≤◌, ◌⊎◌, inl, inr, List, [], ◌∷◌, ◌++◌, length, Option, Some, None, arith, refl, ap, sym, subst, ◌∙◌}
 use Rattle.std.specs.List.{fold}
 use Rattle.std.specs.Option.{option_to_list}
-use Rattle.std.proofs.lemmas.List.{append_assoc, append-nil}
+use Rattle.std.proofs.lemmas.List.{append_assoc, append-nil, length_push}
 use Rattle.vd_law.specs.Entries.{Past, nothing, ◌▸◌}
 use Rattle.vd_law.specs.Contents.{sector_in, issued_contents}
 use Rattle.vd_law.proofs.Sectors.{sector_in-at, sector_in-place}
 use Rattle.vd_image.specs.Log.{Sector, CallId, Entry, Ask, Issue, Done, Broke, Seen, Reply, At, Covers, Writes}
 use Rattle.vd_image.proofs.Logs.{at_push, at_end, at_pushed, covers_one, writes_push, writes_end, writes_pushed}
-use Rattle.vd_image.proofs.Logs.{length_push}
 
 -- the entries of a history, in order
 abbrev pub list_of : Past → List Entry

@@ -2,14 +2,13 @@
 use Rattle.std.proofs.Common.{ℕ, ◌≡◌, ◌+◌, ◌<◌, ◌≤◌, ◌⊎◌, inl, inr, max, List, [], ◌∷◌, ◌++◌, length, Option, Some, None, Bool, false, arith, refl, ap, sym, subst, ◌∙◌}
 use Rattle.std.specs.Prelude.{if◌then◌else◌}
 use Rattle.std.specs.List.{filter, find}
-use Rattle.std.proofs.lemmas.Bool.{cases_lt}
+use Rattle.std.proofs.lemmas.Bool.{cases_lt, cases_Bool}
+use Rattle.std.proofs.lemmas.List.{length_push}
 use Rattle.vd_law.specs.Entries.{same_call, Past, nothing, ◌▸◌}
 use Rattle.vd_law.specs.Contents.{sector_in, issued_contents, Open, open_after_issue, is_of, is_of_another, open_writes, open_write, issue_number, last_done}
-use Rattle.vd_law.proofs.Opening.{same_call-is, same_call-refl, case, find-closed}
-use Rattle.vd_image.specs.Log.{Sector, CallId, Entry, Ask, Issue, Done, Broke, Seen, Reply, At, Covers, IsIssueOf, Ends}
-use Rattle.vd_image.specs.Log.{IsWriteInFlight}
+use Rattle.vd_law.proofs.Opening.{same_call-is, same_call-refl, find-closed}
+use Rattle.vd_image.specs.Log.{Sector, CallId, Entry, Ask, Issue, Done, Broke, Seen, Reply, At, Covers, IsIssueOf, Ends, IsWriteInFlight}
 use Rattle.vd_image.proofs.Logs.{at_push, at_end, at_below, at_pushed, ends_push, ends_pushed, ends_end}
-use Rattle.vd_image.proofs.Logs.{length_push}
 use Rattle.vd_image.proofs.NthWrites.{list_of, size, IsNth, covers_in, in_covers, nth_within}
 
 -- an open write of the longer history is one of the shorter, or its last entry is the issue
@@ -28,7 +27,7 @@ flight_pushed p e i id h = elim (at_pushed (list_of p) e i h.event h.stands) [
     grown m (inr a) = inr (at_push (list_of p) e m (Broke id) a)
 
 pub differs : (c id : CallId) → (id ≡ c → ⊥) → same_call c id ≡ false
-differs c id other = elim (case (same_call c id)) [ inl same ↦ absurd (other (sym (same_call-is c id same))) | inr differ ↦ differ ]
+differs c id other = elim (cases_Bool (same_call c id)) [ inl same ↦ absurd (other (sym (same_call-is c id same))) | inr differ ↦ differ ]
 
 -- what is open of a call has at least the number of each of its writes in flight
 abbrev pub HasOpen : Past → CallId → ℕ → ℕ → Type 0
@@ -47,7 +46,7 @@ open_first p c id first content s v e same =
 pub open_issued : (p : Past) (c id : CallId) (first : ℕ) (content : List Sector) (s : ℕ) → (x : Option Sector) → sector_in first content s ≡ x
     → (open_write (p ▸ Issue c first content) id s ≡ open_write p id s) ⊎ ((v : Sector) × (x ≡ Some v) × (c ≡ id) × (open_write (p ▸ Issue c first content) id s ≡ Some (record { call = c; number = length (issued_contents p s) + 1; content = v })))
 open_issued p c id first content s None e = inl (ap (λ (y : Option Sector). find (is_of id) (open_after_issue c (length (issued_contents p s) + 1) y ++ open_writes p s)) e)
-open_issued p c id first content s (Some v) e = elim (case (same_call c id)) [
+open_issued p c id first content s (Some v) e = elim (cases_Bool (same_call c id)) [
   | inl same ↦ inr (v, refl, same_call-is c id same, open_first p c id first content s v e (same_call-is c id same))
   | inr differ ↦ inl (ap (λ (y : Option Sector). find (is_of id) (open_after_issue c (length (issued_contents p s) + 1) y ++ open_writes p s)) e
       ∙ ap (λ (b : Bool). if b then Some (record { call = c; number = length (issued_contents p s) + 1; content = v }) else find (is_of id) (open_writes p s)) differ)
@@ -99,7 +98,7 @@ open_flight (p ▸ e) s id w is = by_entry (open_flight p s id w) e is
         running i f m after (inr a) = elim (at_pushed (list_of p) e m (Broke id) a) [ inl k ↦ f.running m after (inr k) | inr k ↦ no_broke (sym k.1) ]
 
     closed : (c : CallId) → find (is_of id) (filter (is_of_another c) (open_writes p s)) ≡ Some w → (id ≡ c → ⊥) × (open_write p id s ≡ Some w)
-    closed c was = elim (case (same_call c id)) [
+    closed c was = elim (cases_Bool (same_call c id)) [
       | inl same ↦ absurd (let e = sym (ap (λ (b : Bool). if b then None else find (is_of id) (open_writes p s)) same) ∙ sym (find-closed c id (open_writes p s)) ∙ was in cc)
       | inr differ ↦ (
         (λ equal. let same = ap (λ (d : CallId). same_call d id) equal ∙ differ in let told = same_call-refl id in absurd cc),

@@ -3,7 +3,7 @@ use Rattle.std.proofs.Common.{◌≡◌, ◌⊎◌, ⊎_elim, inl, inr, ℕ, suc
 use Rattle.std.specs.Prelude.{◌||◌, ◌&&◌, nat_lt, is_some, IfSome, IsNone, ◌↔◌}
 use Rattle.std.specs.List.{list_any}
 use Rattle.std.proofs.lemmas.Bool.{and_parts, cases_eq, cases_lt, cond-false, cond-true, eq-eqb, false_from_ne_true, false≢true, le-ltb, lt-ltb, ltb-true, ne_eqb, not-true, not_from_false, not_from_true}
-use Rattle.std.proofs.lemmas.List.{length-drop, nil_from_length}
+use Rattle.std.proofs.lemmas.List.{length-drop, nil_from_length, get_or_past}
 use Rattle.std.proofs.lemmas.List.Sums.{sum_by-cons}
 use Rattle.vd_bits.specs.Blocks.{Blocks}
 use Rattle.vd_bits.specs.Marks.{NoneFrom, count_true}
@@ -24,7 +24,6 @@ use Rattle.vd_keeper.proofs.NextChunks.{any-none, all-none, none-from-blocks, sk
 use Rattle.vd_keeper.proofs.Pouring.{unmarked-place}
 use Rattle.vd_format.proofs.Rules.{chunk_within}
 use Rattle.vd_keeper.proofs.Begun.{owed-later, owed-chunks}
-use Rattle.std.proofs.lemmas.List.{get_or_past}
 
 pub any-count : (xs : List Bool) → list_any (λ (x : Bool). x) xs ≡ nat_lt 0 (count_true xs)
 any-count [] = refl

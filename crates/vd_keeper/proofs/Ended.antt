@@ -1,16 +1,14 @@
 -- A flush that is given up, and one that is sealed.
-use Rattle.std.proofs.Common.{◌≡◌, ◌⊎◌, ⊎_elim, inl, inr, ℕ, ◌+◌, ◌-◌, ◌*◌, ◌/◌, ◌^◌, ◌<◌, ◌≤◌, Bool, true, false, not, cond, List, [], ◌∷◌, length, get_or, drop, replicate, Some, sym, refl, ap, ◌∙◌, arith, subst}
+use Rattle.std.proofs.Common.{◌≡◌, ◌⊎◌, ⊎_elim, inl, inr, ℕ, ◌+◌, ◌-◌, ◌*◌, ◌<◌, ◌≤◌, Bool, true, false, not, cond, List, [], length, get_or, drop, replicate, sym, refl, ap, ◌∙◌, arith, subst}
 use Rattle.std.specs.Prelude.{◌||◌, ◌&&◌}
-use Rattle.std.specs.List.{slice_get}
-use Rattle.std.proofs.lemmas.Bool.{cases_lt, cases_Bool, false_from_ne_true, false≢true, not_from_false, not_from_true, and_right, or_right}
+use Rattle.std.proofs.lemmas.Bool.{cases_lt, or_right}
 use Rattle.std.proofs.lemmas.List.{length-replicate, drop_all}
-use Rattle.std.proofs.lemmas.Option.{slice_get_within}
+use Rattle.std.proofs.Math.Bool.{or-false}
 use Rattle.vd_bits.specs.Blocks.{Blocks}
 use Rattle.vd_format.specs.declared.header.Header.{Header}
 use Rattle.vd_format.specs.Headers.{IsValid}
 use Rattle.vd_format.specs.Layouts.{blocks_of, chunks_of}
 use Rattle.vd_keeper.specs.declared.keeper.Keeper.TheInside.{Inside}
-use Rattle.vd_keeper.specs.declared.stage.Stage.{Stage}
 use Rattle.vd_keeper.specs.declared.stage.Stage.TheVariants.{Rest, DataFlush, Puts, Syncs, Seals, Broken}
 use Rattle.vd_keeper.specs.declared.stage.Way as way
 use Rattle.vd_keeper.specs.declared.stage.Way.TheVariants as ways
@@ -20,9 +18,9 @@ use Rattle.vd_keeper.specs.Flushes.{IsKeeping, IsPossible, is_recycle, last_gene
 use Rattle.vd_keeper.specs.Moves.{difference_of, after_break, after_seal, next_header}
 use Rattle.vd_keeper.specs.Sets.{chunks_from, chunk_count, has_any, empty_of}
 use Rattle.vd_keeper.specs.KeeperFields.{keeper_state, IsKeeper}
-use Rattle.vd_keeper.proofs.Rows.{or-false, and-true, get_or-either, get_or-without, length-either, length-without, either-nothing, get_or-nothing, same_rows, within}
+use Rattle.vd_keeper.proofs.Rows.{get_or-either, get_or-without, length-either, length-without, either-nothing, get_or-nothing, same_rows, within}
 use Rattle.vd_keeper.proofs.NextChunks.{none-from-blocks, skip-chunks, past-chunks}
-use Rattle.vd_keeper.proofs.Owed.{is-true, there, not-there, either-cases, either-left, without-parts}
+use Rattle.vd_keeper.proofs.Owed.{is-true, not-there, either-cases, either-left, without-parts, there}
 use Rattle.vd_keeper.proofs.Flushed.{chunks-with, is-possible}
 use Rattle.vd_keeper.proofs.Begun.{none-put-elsewhere}
 

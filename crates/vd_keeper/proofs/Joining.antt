@@ -5,9 +5,10 @@ use Rattle.std.specs.Int.{bit_at}
 use Rattle.std.specs.List.{list_any}
 use Rattle.std.proofs.Math.Nat.{mul-le-mul_left, mul_comm, div-add-mod}
 use Rattle.std.proofs.lemmas.Bool.{cases_lt}
-use Rattle.std.proofs.lemmas.List.{length-replicate, get_or_past}
+use Rattle.std.proofs.lemmas.List.{length-replicate}
 use Rattle.std.proofs.lemmas.Nat.Bits.{bit_at_or, bit_at-zero, same_from_bits}
 use Rattle.std.proofs.lemmas.Simd.{bit_mask_l}
+use Rattle.std.proofs.Math.Bool.{or-false}
 use Rattle.vd_bits.specs.Blocks.{Blocks, bits_in}
 use Rattle.vd_bits.specs.Masks.{mask_of}
 use Rattle.vd_keeper.specs.declared.sets.BlockSet.TheInside.{Inside}
@@ -15,7 +16,7 @@ use Rattle.vd_keeper.specs.SetFields.{IsIndexed}
 use Rattle.vd_keeper.specs.Entries.{union_of}
 use Rattle.vd_keeper.specs.Moves.{difference_of}
 use Rattle.vd_keeper.specs.Sets.{HasMore, Adopted, IsOutsideChunk, chunk_count, has_any, marks_of, empty_of}
-use Rattle.vd_keeper.proofs.Rows.{or-false, or-true, get_or-either, get_or-without, length-either, length-without, same_rows, any-either}
+use Rattle.vd_keeper.proofs.Rows.{get_or-either, get_or-without, length-either, length-without, same_rows, any-either}
 use Rattle.vd_keeper.proofs.Chunked.{length-bits_in, get_or-bits_in, bit_of, bit_without, same-chunk}
 use Rattle.vd_keeper.proofs.NextChunks.{length-marks_of, get_or-marks_of, marks-none, block-chunk, block-place, block-within}
 use Rattle.vd_keeper.proofs.Pouring.{blocks-same}

@@ -1,21 +1,18 @@
 -- What owing a block makes of what a keeper keeps.
-use Rattle.std.proofs.Common.{◌≡◌, ◌⊎◌, ⊎_elim, inl, inr, ℕ, zero, suc, ◌+◌, ◌-◌, ◌*◌, ◌/◌, ◌<◌, ◌≤◌, Bool, true, false, not, cond, List, [], ◌∷◌, length, get_or, set, drop, replicate, Some, sym, refl, ap, ◌∙◌, arith, subst, length-set, get_or-set_same, get_or-set_other}
-use Rattle.std.specs.Prelude.{◌||◌, ◌&&◌, filter}
-use Rattle.std.specs.List.{slice_get, list_any, range_with_len}
-use Rattle.std.proofs.lemmas.Bool.{cases_eq, cases_lt, cases_Bool, or_cases, and_parts, not-true, or_left, or_right, false≢true, cond-true, cond-false}
+use Rattle.std.proofs.Common.{◌≡◌, ◌⊎◌, ⊎_elim, inl, inr, ℕ, zero, suc, ◌-◌, ◌<◌, Bool, true, false, not, List, [], ◌∷◌, length, get_or, set, Some, sym, ap, ◌∙◌, arith, subst, length-set, get_or-set_same, get_or-set_other}
+use Rattle.std.specs.Prelude.{◌||◌}
+use Rattle.std.specs.List.{slice_get}
+use Rattle.std.proofs.lemmas.Bool.{cases_eq, or_cases, and_parts, not-true, or_left, or_right, false≢true, cond-true, cond-false}
 use Rattle.std.proofs.lemmas.Option.{slice_get-get_or, get_or_from_slice_get, slice_get_within}
-use Rattle.vd_bits.specs.Blocks.{Blocks}
-use Rattle.vd_bits.proofs.SetLaws.{set_there}
-use Rattle.vd_format.specs.declared.header.Header.{Header}
+use Rattle.vd_lists.proofs.Changes.{slice_set_unchanged}
 use Rattle.vd_format.specs.Layouts.{blocks_of, chunks_of}
 use Rattle.vd_keeper.specs.declared.keeper.Keeper.TheInside.{Inside}
 use Rattle.vd_keeper.specs.Keeping.{KeeperState, AreDisjoint, no_marks}
 use Rattle.vd_keeper.specs.Entries.{union_of, chunks_with, has_block}
 use Rattle.vd_keeper.specs.Flushes.{IsKeeping, IsPossible}
 use Rattle.vd_keeper.specs.Moves.{difference_of, after_owe, after_adopt}
-use Rattle.vd_keeper.specs.Sets.{chunks_from, chunk_count, has_any}
 use Rattle.vd_keeper.specs.KeeperFields.{keeper_state, IsKeeper}
-use Rattle.vd_keeper.proofs.Rows.{or-false, or-true, get_or-either, get_or-without, length-either, length-without, same_rows, within, either-nothing, get_or-nothing}
+use Rattle.vd_keeper.proofs.Rows.{get_or-either, get_or-without, length-either, length-without, same_rows, within, either-nothing, get_or-nothing}
 
 -- a true value, two ways
 pub is-true : (xs : List Bool) (i : ℕ) → slice_get xs i ≡ Some true → get_or xs i false ≡ true
@@ -149,7 +146,7 @@ module _ (i : Inside) (block : ℕ) (kept : IsKeeper i) (inside : block < blocks
   -- the flush under way logs it
   pub logged-view : get_or i.stale.bits block false ≡ false → slice_get i.snapshot.bits block ≡ Some true → keeper_state i ≡ after_owe block (keeper_state i)
   logged-view fresh_block is =
-      ap (λ (xs : List Bool). record (keeper_state i) { owed = xs }) (sym (set_there (union_of i.later.bits i.snapshot.bits) block true (either-right i.later.bits i.snapshot.bits block is)))
+      ap (λ (xs : List Bool). record (keeper_state i) { owed = xs }) (sym (slice_set_unchanged (union_of i.later.bits i.snapshot.bits) block true (either-right i.later.bits i.snapshot.bits block is)))
       ∙ sym (cond-false (get_or i.stale.bits block false) (keeper_state i) (record (keeper_state i) { owed = set (union_of i.later.bits i.snapshot.bits) block true }) fresh_block)
 
 -- all fresh blocks come to be owed, at rest

@@ -1,14 +1,15 @@
 -- The marks of the map's sectors.
-use Rattle.std.proofs.Common.{◌≡◌, ◌⊎◌, ⊎_elim, inl, inr, ℕ, ◌+◌, ◌-◌, ◌*◌, ◌/◌, ◌<◌, ◌≤◌, nat_eq, Bool, true, false, List, [], ◌∷◌, length, get_or, set, sym, refl, ap, ◌∙◌, arith, length-set, get_or-set_same, get_or-set_other}
+use Rattle.std.proofs.Common.{◌≡◌, ◌⊎◌, ⊎_elim, ℕ, ◌+◌, ◌-◌, ◌*◌, ◌/◌, ◌<◌, ◌≤◌, nat_eq, Bool, true, false, List, [], ◌∷◌, length, get_or, set, sym, refl, ap, ◌∙◌, arith, length-set, get_or-set_same, get_or-set_other}
 use Rattle.std.specs.Prelude.{◌||◌}
 use Rattle.std.specs.List.{list_any}
 use Rattle.std.proofs.lemmas.Bool.{cases_eq, eq-eqb, ne_eqb}
 use Rattle.std.proofs.lemmas.List.FromFn.{length-map-range_with_len, get_or-map-range_with_len}
+use Rattle.std.proofs.Math.Bool.{or-true}
 use Rattle.vd_bits.specs.Blocks.{Blocks}
 use Rattle.vd_keeper.specs.Entries.{union_of}
 use Rattle.vd_keeper.specs.Moves.{pages_with}
 use Rattle.vd_keeper.specs.Sets.{IsNextChunk, chunk_count, chunks_from}
-use Rattle.vd_keeper.proofs.Rows.{or-true, or-false, get_or-either, length-either, same_rows, either-nothing, is-nothing}
+use Rattle.vd_keeper.proofs.Rows.{get_or-either, length-either, same_rows, either-nothing, is-nothing}
 
 -- the chunks before `at` are marked
 pub record IsMarking (set : Blocks) (marked0 marked : List Bool) (at : ℕ) : Type 0 where

@@ -3,16 +3,18 @@ use Rattle.std.proofs.Common.{◌≡◌, ◌⊎◌, ⊎_elim, inl, inr, ℕ, ◌
 use Rattle.std.specs.Prelude.{◌||◌, min}
 use Rattle.std.specs.Int.{bit_at}
 use Rattle.std.specs.List.{slice_get}
-use Rattle.std.proofs.Math.Nat.{mul-le-mul_left, div-add-mod, mul_comm}
+use Rattle.std.proofs.Math.Nat.{mul-le-mul_left, mul_comm}
 use Rattle.std.proofs.lemmas.Bool.{cases_lt}
 use Rattle.std.proofs.lemmas.List.{get_or_past}
-use Rattle.std.proofs.lemmas.Option.{slice_get-get_or, get_or_from_slice_get, slice_get_within}
+use Rattle.std.proofs.lemmas.Option.{get_or_from_slice_get, slice_get_within}
+use Rattle.std.proofs.Math.Bool.{or-false}
+use Rattle.std.proofs.lemmas.Nat.{div_below, le-div}
 use Rattle.vd_bits.specs.Blocks.{Blocks, bits_in}
 use Rattle.vd_bits.specs.Masks.{mask_of}
 use Rattle.vd_bits.specs.Marks.{IsLowest, NoneFrom}
 use Rattle.vd_keeper.specs.Entries.{union_of}
 use Rattle.vd_keeper.specs.Sets.{HasMore, LacksChunk, IsOutsideChunk, IsNextChunk, chunk_count, has_any, marks_of, chunks_from, empty_of}
-use Rattle.vd_keeper.proofs.Rows.{or-false, get_or-either, length-either, same_rows, is-nothing}
+use Rattle.vd_keeper.proofs.Rows.{get_or-either, length-either, same_rows, is-nothing}
 use Rattle.vd_keeper.proofs.Chunked.{length-bits_in, get_or-bits_in, bit_of, same-chunk}
 use Rattle.vd_keeper.proofs.NextChunks.{length-marks_of, get_or-marks_of, chunk-inside, inside-chunk, block-place, block-chunk, block-within, none-of-chunk}
 
@@ -46,20 +48,10 @@ unmarked-place b i some inside is =
     let none : has_any b (i / b.chunk) ≡ false = sym (get_or-marks_of b (i / b.chunk) (block-chunk b i some inside)) ∙ get_or_from_slice_get (marks_of b) (i / b.chunk) false false is in
     ap (λ (n : ℕ). get_or b.bits n false) (sym (block-place b i some inside)) ∙ none-of-chunk b (i / b.chunk) (i % b.chunk) none (omega arith)
 
-below-chunk : (c i n : ℕ) → 0 < c → i < n * c → i / c < n
-below-chunk c i n some h =
-    ⊎_elim (λ (less : i / c < n). less)
-    (λ (more : n ≤ i / c). let k : c * n ≤ c * (i / c) = mul-le-mul_left c more in absurd (omega (arith, k, div-add-mod i c, mul_comm n c)))
-    (cases_lt (i / c) n)
-
-from-chunk : (c i n : ℕ) → 0 < c → n * c ≤ i → n ≤ i / c
-from-chunk c i n some h =
-    ⊎_elim (λ (less : i / c < n). let k : c * (i / c + 1) ≤ c * n = mul-le-mul_left c (omega arith) in absurd (omega (arith, k, div-add-mod i c, mul_comm n c))) (λ (more : n ≤ i / c). more) (cases_lt (i / c) n)
-
 -- places from `at` on below the lowest marked chunk have nothing
 between : (b : Blocks) (at chunk i : ℕ) → 0 < b.chunk → IsLowest (marks_of b) at chunk → at * b.chunk ≤ i → i < chunk * b.chunk → i < length b.bits → get_or b.bits i false ≡ false
 between b at chunk i some lowest low high inside =
-    unmarked-place b i some inside (lowest.below (i / b.chunk) (from-chunk b.chunk i at some low) (below-chunk b.chunk i chunk some high))
+    unmarked-place b i some inside (lowest.below (i / b.chunk) (le-div at i b.chunk some low) (div_below i b.chunk chunk some high))
 
 -- one chunk is moved
 module _ (from0 into0 from into from' into' : Blocks) (at chunk : ℕ) (k : IsPouring from0 into0 from into at) (size : length into0.bits ≡ length from0.bits) (same : into0.chunk ≡ from0.chunk) (some : 0 < from0.chunk)
@@ -134,7 +126,7 @@ module _ (from0 into0 from into : Blocks) (at : ℕ) (k : IsPouring from0 into0 
       (λ (after : at * from0.chunk ≤ i).
       k.rest i after
       ∙ ⊎_elim
-      (λ (inside : i < length from0.bits). unmarked-place from0 i some inside (none (i / from0.chunk) (from-chunk from0.chunk i at some after) (omega (arith, length-marks_of from0, block-chunk from0 i some inside))))
+      (λ (inside : i < length from0.bits). unmarked-place from0 i some inside (none (i / from0.chunk) (le-div at i from0.chunk some after) (omega (arith, length-marks_of from0, block-chunk from0 i some inside))))
       (λ (past : length from0.bits ≤ i). get_or_past from0.bits i false past)
       (cases_lt i (length from0.bits)))
       (cases_lt i (at * from0.chunk))

@@ -1,25 +1,12 @@
 -- Rows of truth values, place by place.
-use Rattle.std.proofs.Common.{◌≡◌, ◌≢◌, ◌⊎◌, ⊎_elim, inl, inr, ℕ, zero, suc, ◌+◌, ◌-◌, ◌<◌, ◌≤◌, Bool, true, false, not, cond, List, [], ◌∷◌, ◌++◌, length, get_or, set, take, drop, replicate, Some, sym, refl, ap, ◌∙◌, arith, length-set, length-append, length-take, length-drop, get_or-set_same, get_or-set_other, get_or-take, get_or-drop}
+use Rattle.std.proofs.Common.{◌≡◌, ◌≢◌, ◌⊎◌, ⊎_elim, inl, inr, ℕ, zero, suc, ◌+◌, ◌-◌, ◌<◌, ◌≤◌, Bool, true, false, not, List, [], ◌∷◌, ◌++◌, length, get_or, set, take, drop, replicate, sym, refl, ap, ◌∙◌, arith, length-set, length-append, length-take, length-drop, get_or-set_same, get_or-set_other, get_or-take, get_or-drop}
 use Rattle.std.specs.Prelude.{◌||◌, ◌&&◌, min}
-use Rattle.std.specs.List.{slice_get, list_any}
-use Rattle.std.proofs.lemmas.Bool.{cases_lt, cases_eq, cases_Bool, or_parts, or_left, or_right, or_cases, and_parts, false≢true}
+use Rattle.std.specs.List.{list_any}
+use Rattle.std.proofs.lemmas.Bool.{cases_lt, cases_eq, false≢true}
 use Rattle.std.proofs.lemmas.List.{ext_get_or, length-replicate, get_or-replicate, get_or_past, get_or_append_left, get_or-append_right}
-use Rattle.std.proofs.lemmas.Option.{slice_get-get_or, get_or_from_slice_get, slice_get_within}
-use Rattle.vd_keeper.specs.Keeping.{no_marks, AreDisjoint}
+use Rattle.std.proofs.Math.Bool.{or-false, and-true, or-true}
 use Rattle.vd_keeper.specs.Entries.{union_of}
 use Rattle.vd_keeper.specs.Moves.{difference_of, none_of}
-
-pub or-false : (x : Bool) → (x || false) ≡ x
-or-false true = refl
-or-false false = refl
-
-pub and-true : (x : Bool) → (x && true) ≡ x
-and-true true = refl
-and-true false = refl
-
-pub or-true : (x : Bool) → (x || true) ≡ true
-or-true true = refl
-or-true false = refl
 
 -- a true value stands inside
 pub within : (xs : List Bool) (i : ℕ) → get_or xs i false ≡ true → i < length xs

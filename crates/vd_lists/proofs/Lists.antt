@@ -1,9 +1,8 @@
--- The places of a list by `slice_get`: of one behind another, of copies, and of a function's values; and lists that agree in each place.
-use Rattle.std.proofs.Common.{ℕ, zero, suc, ◌≡◌, ◌+◌, ◌-◌, ◌<◌, ◌≤◌, List, [], ◌∷◌, ◌++◌, length, Some, None, refl, ap, ◌∙◌, arith, map, replicate}
-use Rattle.std.specs.Prelude.{slice_get}
-use Rattle.std.specs.List.{range_with_len}
-use Rattle.std.proofs.lemmas.Option.{slice_get-get_or}
-use Rattle.std.proofs.lemmas.List.FromFn.{get_or-map-range_with_len, length-map-range_with_len}
+-- Whole lists: when two are the same, and lengths of parts.
+use Rattle.std.proofs.Common.{ℕ, zero, suc, ◌≡◌, ◌+◌, ◌-◌, ◌≤◌, List, [], ◌∷◌, ◌++◌, length, take, drop, replicate, Some, None, refl, ap, ◌∙◌, arith, add-one, All}
+use Rattle.std.specs.Prelude.{slice_get, slice_range}
+use Rattle.std.proofs.lemmas.List.{length-take-le, length-append, length-drop}
+use Rattle.std.proofs.lemmas.List.Elements.{All-head, All-tail}
 
 -- two lists are the same where each of their places is
 pub same_list : {X : Type 0} (xs ys : List X) → length xs ≡ length ys → ((i : ℕ) → slice_get xs i ≡ slice_get ys i) → xs ≡ ys
@@ -13,22 +12,25 @@ same_list (x ∷ xs) [] many each = let h : Some x ≡ None = each zero in cc
 same_list (x ∷ xs) (y ∷ ys) many each =
     let h : Some x ≡ Some y = each zero in let e : x ≡ y = cc in let t = same_list xs ys (omega arith) (λ i. each (suc i)) in cc
 
-pub slice_get_front : {X : Type 0} (xs ys : List X) (i : ℕ) → i < length xs → slice_get (xs ++ ys) i ≡ slice_get xs i
-slice_get_front [] ys i h = absurd (omega arith)
-slice_get_front (x ∷ xs) ys zero h = refl
-slice_get_front (x ∷ xs) ys (suc i) h = slice_get_front xs ys i (omega arith)
+-- a list whose elements are all one is copies of it
+pub all_copies : {X : Type 0} (x : X) (xs : List X) → All (λ y. y ≡ x) xs → xs ≡ replicate (length xs) x
+all_copies x [] all = refl
+all_copies {X} x (y ∷ ys) all = ap (λ (z : X). z ∷ ys) (All-head (λ (z : X). z ≡ x) y ys all) ∙ ap (λ (zs : List X). x ∷ zs) (all_copies x ys (All-tail (λ (z : X). z ≡ x) y ys all))
 
-pub slice_get_back : {X : Type 0} (xs ys : List X) (i : ℕ) → length xs ≤ i → slice_get (xs ++ ys) i ≡ slice_get ys (i - length xs)
-slice_get_back [] ys i h = ap (slice_get ys) (omega arith)
-slice_get_back (x ∷ xs) ys zero h = absurd (omega arith)
-slice_get_back (x ∷ xs) ys (suc i) h = slice_get_back xs ys i (omega arith) ∙ ap (slice_get ys) (omega arith)
+-- a list with one more in its middle is one longer
+pub length_with : {X : Type 0} (xs ys : List X) (x : X) → length (xs ++ x ∷ ys) ≡ length (xs ++ ys) + 1
+length_with xs ys x = omega (arith, length-append xs (x ∷ ys), length-append xs ys)
 
-pub slice_get_replicate : {X : Type 0} (n : ℕ) (x : X) (i : ℕ) → i < n → slice_get (replicate n x) i ≡ Some x
-slice_get_replicate zero x i h = absurd (omega arith)
-slice_get_replicate (suc n) x zero h = refl
-slice_get_replicate (suc n) x (suc i) h = slice_get_replicate n x i (omega arith)
+-- how long a list is with a first part of another in front
+pub length_behind : {X : Type 0} (k : ℕ) (part whole : List X) → k ≤ length whole → length (take k whole ++ part) ≡ k + length part
+length_behind k part whole fits =
+    let front : length (take k whole) ≡ k = length-take-le k whole fits in
+    let all : length (take k whole ++ part) ≡ length (take k whole) + length part = length-append (take k whole) part in
+    omega arith
 
-pub slice_get_run : {X : Type 0} (f : ℕ → X) (a n i : ℕ) → i < n → slice_get (map f (range_with_len a n)) i ≡ Some (f (a + i))
-slice_get_run f a n i h =
-    slice_get-get_or (map f (range_with_len a n)) i (f 0) (omega (arith, length-map-range_with_len f a n, h))
-    ∙ ap Some (get_or-map-range_with_len f a n i (a + i) (f 0) h refl)
+-- a part has the length that was asked of it, where there is so much
+pub length_part : {X : Type 0} (xs : List X) (from count : ℕ) → from + count ≤ length xs → length (slice_range xs from (from + count)) ≡ count
+length_part xs from count fits =
+    let dropped : length (drop from xs) ≡ length xs - from = length-drop from xs in
+    let taken : length (take (from + count - from) (drop from xs)) ≡ from + count - from = length-take-le (from + count - from) (drop from xs) (omega arith) in
+    omega arith

@@ -1,20 +1,15 @@
 -- What is remembered of contents when sectors are put behind the others, and copies of one sector.
-use Rattle.std.proofs.Common.{◌≡◌, ℕ, ◌+◌, ◌-◌, ◌<◌, ◌≤◌, List, [], ◌∷◌, ◌++◌, length, take, drop, refl, ap, sym, ◌∙◌, subst, arith, length-append}
+use Rattle.std.proofs.Common.{◌≡◌, ℕ, ◌+◌, ◌-◌, ◌<◌, ◌≤◌, List, [], ◌++◌, length, take, drop, refl, ap, sym, ◌∙◌, subst, arith, length-append}
 use Rattle.std.specs.Prelude.{replicate, slice_index_or}
 use Rattle.std.proofs.lemmas.List.{get_or-drop, get_or-take, get_or-replicate, take-take, take-replicate, length-replicate}
 use Rattle.std.proofs.Math.Seq.{drop-append_seam}
 use Rattle.std.specs.List.{All}
-use Rattle.std.proofs.lemmas.List.Elements.{All-head, All-tail, All-weaker, All-replicate}
+use Rattle.std.proofs.lemmas.List.Elements.{All-weaker, All-replicate}
 use Rattle.vd_law.specs.declared.entry.Sector.{Sector}
 use Rattle.vd_log.specs.declared.sharing.Stretch.{Stretch}
 use Rattle.vd_log.specs.declared.sharing.Shared.{Shared}
 use Rattle.vd_log.specs.StoredEntries.{content_in, IsAmong, IsOfOneSector, IsShared}
 use Rattle.vd_log.proofs.Storing.{content_at-append}
-
--- copies of one sector
-pub alike : (x : Sector) (vs : List Sector) → All (λ v. v ≡ x) vs → vs ≡ replicate (length vs) x
-alike x [] all = refl
-alike x (v ∷ vs) all = ap (λ (w : Sector). w ∷ vs) (All-head (λ (w : Sector). w ≡ x) v vs all) ∙ ap (λ (ws : List Sector). x ∷ ws) (alike x vs (All-tail (λ (w : Sector). w ≡ x) v vs all))
 
 pub run-append : (xs ys : List Sector) (run : Stretch) → IsOfOneSector xs run → IsOfOneSector (xs ++ ys) run
 run-append xs ys run is = (let long = length-append xs ys in let within = is.0 in omega (arith, long, within), is.1, content_at-append xs ys run is.0 ∙ is.2)

@@ -5,7 +5,7 @@ use Rattle.std.specs.Option.{option_to_list}
 use Rattle.std.specs.List.{All}
 use Rattle.std.proofs.lemmas.List.{drop-drop}
 use Rattle.std.proofs.lemmas.List.Elements.{All-head}
-use Rattle.std.proofs.lemmas.Bool.{eqb-true}
+use Rattle.std.proofs.lemmas.Bool.{eqb-true, cases_Bool}
 use Rattle.std.proofs.lemmas.Option.{slice_get-get_or}
 use Rattle.vd_law.specs.declared.entry.Sector.{Sector}
 use Rattle.vd_law.specs.declared.entry.CallId.{CallId}
@@ -21,7 +21,7 @@ use Rattle.vd_law.proofs.CleanLaws.{IsSettled, clean}
 use Rattle.vd_law.proofs.Inside.{still_asked}
 use Rattle.vd_log.proofs.JoinLaws.{onto, onto-fold, raised_is, written-onto, could-onto, last_done-onto}
 use Rattle.vd_law.proofs.OpenLaws.{open-pending}
-use Rattle.vd_law.proofs.Opening.{same_call-is, case}
+use Rattle.vd_law.proofs.Opening.{same_call-is}
 use Rattle.vd_law.proofs.RuleLaws.{past-append}
 
 -- The disk after a history.
@@ -42,7 +42,7 @@ length-after p n (x ∷ rest) = ap suc (length-after p (n + 1) rest)
 
 pub kept : (P : Progress → Type 0) (p : Past) (e : Entry) (id : CallId) → (call_of e ≡ id → P (progress_after (progress p id) e)) → P (progress p id) → P (progress (p ▸ e) id)
 kept P p e id own before =
-    elim (case (same_call (call_of e) id)) [
+    elim (cases_Bool (same_call (call_of e) id)) [
       | inl same ↦ subst (λ (b : Bool). P (if b then progress_after (progress p id) e else progress p id)) (sym same) (own (same_call-is (call_of e) id same))
       | inr other ↦ subst (λ (b : Bool). P (if b then progress_after (progress p id) e else progress p id)) (sym other) before
     ]
@@ -168,7 +168,7 @@ progress-onto by h (q ▸ e) new id positive =
 pub last_call-onto : (by : ℕ → ℕ) (h q : Past) (pass : ℕ) → last_call h pass ≡ by pass → last_call (onto by h q) pass ≡ by pass + last_call q pass
 last_call-onto by h nothing pass is = omega (arith, is)
 last_call-onto by h (q ▸ Ask id request) pass is =
-    elim (case (id.pass == pass)) [
+    elim (cases_Bool (id.pass == pass)) [
       | inl same ↦ (let bys : by id.pass ≡ by pass = ap by (eqb-true id.pass pass same) in
           ap (λ (b : Bool). if b then by id.pass + id.call else last_call (onto by h q) pass) same
           ∙ ap (λ (n : ℕ). n + id.call) bys
@@ -191,7 +191,7 @@ before_ask-onto : (by : ℕ → ℕ) (h q : Past) (id : CallId) → IsSome (prog
 before_ask-onto by h nothing id some = (let impossible : false ≡ true = some in cc)
 before_ask-onto by h (q ▸ Ask c request) id some =
     ap (λ (b : Bool). if b then onto by h q else before_ask (onto by h q) (raised_id by id)) (raised_is by c id)
-    ∙ elim (case (same_call c id)) [
+    ∙ elim (cases_Bool (same_call c id)) [
       | inl same ↦ ap (λ (b : Bool). if b then onto by h q else before_ask (onto by h q) (raised_id by id)) same ∙ ap (λ (b : Bool). onto by h (if b then q else before_ask q id)) (sym same)
       | inr differ ↦ (let earlier : IsSome (progress q id).asked = subst (λ (b : Bool). IsSome (if b then progress_after (progress q id) (Ask c request) else progress q id).asked) differ some in
           ap (λ (b : Bool). if b then onto by h q else before_ask (onto by h q) (raised_id by id)) differ ∙ before_ask-onto by h q id earlier ∙ ap (λ (b : Bool). onto by h (if b then q else before_ask q id)) (sym differ))
@@ -221,7 +221,7 @@ firm-onto by h (q ▸ Reply id answer) s new counted none all firm =
     let m = length (issued_contents h s) in let j = onto by h q in let before = firm-onto by h q s new counted.0 none all firm in
     let chosen : Bool → ℕ = λ b. if b then max (firm_after j s) (last_done (before_ask j (raised_id by id)) s) else firm_after j s in
     ap (λ (c : Progress). chosen (is_flushed c.asked answer)) (progress-onto by h q new id counted.1)
-    ∙ elim (case (is_flushed (progress q id).asked answer)) [
+    ∙ elim (cases_Bool (is_flushed (progress q id).asked answer)) [
       | inl flushed ↦ (let asked = flushed_some (progress q id).asked answer flushed in
           let done : last_done (before_ask j (raised_id by id)) s ≡ m + last_done (before_ask q id) s = ap (λ (r : Past). last_done r s) (before_ask-onto by h q id asked) ∙ last_done-onto by h (before_ask q id) s none all in
           let sum : max (firm_after j s) (last_done (before_ask j (raised_id by id)) s) ≡ m + max (firm_after q s) (last_done (before_ask q id) s) = omega (arith, before, done) in

@@ -4,12 +4,13 @@ use Rattle.std.specs.Prelude.{if◌then◌else◌, ◌==◌, slice_get, map}
 use Rattle.std.specs.Option.{option_to_list, option_map}
 use Rattle.std.specs.List.{fold, filter, find, list_any}
 use Rattle.std.proofs.lemmas.List.{append-nil, append_assoc}
+use Rattle.std.proofs.lemmas.Bool.{cases_Bool}
 use Rattle.vd_law.specs.declared.entry.Sector.{Sector}
 use Rattle.vd_law.specs.declared.entry.CallId.{CallId}
 use Rattle.vd_law.specs.Entries.{Entry, Ask, Issue, Done, Broke, Seen, Reply, same_call, Past, nothing, ◌▸◌}
 use Rattle.vd_law.specs.Contents.{sector_in, issued_contents, Open, open_after_issue, is_of, is_of_another, open_writes, open_write, contents_after_done, contents_after_seen, could_after, issue_number, last_done}
 use Rattle.vd_law.specs.Joining.{raised_id, raised_entry}
-use Rattle.vd_law.proofs.Opening.{same_call-is, same_call-refl, case}
+use Rattle.vd_law.proofs.Opening.{same_call-is, same_call-refl}
 
 -- h, and then the raised entries of q
 abbrev pub onto : (ℕ → ℕ) → Past → Past → Past
@@ -23,9 +24,9 @@ onto-fold by h q (e ∷ es) = onto-fold by h (q ▸ e) es
 -- raised calls are the same where the calls are
 pub raised_is : (by : ℕ → ℕ) (a b : CallId) → same_call (raised_id by a) (raised_id by b) ≡ same_call a b
 raised_is by a b =
-    elim (case (same_call a b)) [
+    elim (cases_Bool (same_call a b)) [
       | inl same ↦ ap (λ (c : CallId). same_call (raised_id by a) (raised_id by c)) (sym (same_call-is a b same)) ∙ same_call-refl (raised_id by a) ∙ sym same
-      | inr differ ↦ elim (case (same_call (raised_id by a) (raised_id by b))) [
+      | inr differ ↦ elim (cases_Bool (same_call (raised_id by a) (raised_id by b))) [
         | inl raised_same ↦ (let one = same_call-is (raised_id by a) (raised_id by b) raised_same in
             let pass : a.pass ≡ b.pass = ap (λ (c : CallId). c.pass) one in
             let sums : by a.pass + a.call ≡ by b.pass + b.call = ap (λ (c : CallId). c.call) one in

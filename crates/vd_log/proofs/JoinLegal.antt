@@ -6,8 +6,8 @@ use Rattle.std.specs.List.{All, Contains}
 use Rattle.std.proofs.Math.Seq.{take-append-add}
 use Rattle.std.proofs.lemmas.List.{take-map}
 use Rattle.std.proofs.lemmas.List.Elements.{All-map, All-weaker}
-use Rattle.std.proofs.lemmas.Option.{slice_get-get_or}
-use Rattle.std.proofs.lemmas.Bool.{eqb-true, cases_lt}
+use Rattle.std.proofs.lemmas.Option.{slice_get-get_or, slice_get_within}
+use Rattle.std.proofs.lemmas.Bool.{eqb-true, cases_lt, cases_Bool}
 use Rattle.vd_law.specs.declared.entry.Sector.{Sector}
 use Rattle.vd_law.specs.declared.entry.CallId.{CallId}
 use Rattle.vd_law.specs.Entries.{Entry, Ask, Issue, Done, Broke, Seen, Reply, call_of, same_call, Past, nothing, ◌▸◌, past}
@@ -20,15 +20,15 @@ use Rattle.vd_law.proofs.Inside.{lies-inside}
 use Rattle.vd_log.proofs.JoinContents.{could-joined, may-joined, AreNew, IsCounted, kept, progress-onto, last_call-onto, quiet-closed, length-after, past-joined, are_new, held-after}
 use Rattle.vd_log.proofs.JoinLaws.{onto, open_writes-onto, shifted, could-onto}
 use Rattle.vd_law.proofs.OpenLaws.{progress-own, progress-other}
-use Rattle.vd_law.proofs.Opening.{same_call-is, case}
+use Rattle.vd_law.proofs.Opening.{same_call-is}
 use Rattle.vd_law.proofs.RuleLaws.{legal-take}
-use Rattle.vd_law.proofs.Sectors.{sector_in-place, slice_get-inside}
+use Rattle.vd_law.proofs.Sectors.{sector_in-place}
 
 -- Calls are counted from 1.
 
 differ_by_call : (c id : CallId) → (c.call ≡ id.call → ⊥) → same_call c id ≡ false
 differ_by_call c id apart =
-    elim (case (same_call c id)) [ inl same ↦ absurd (apart (ap (λ (d : CallId). d.call) (same_call-is c id same))) | inr differ ↦ differ ]
+    elim (cases_Bool (same_call c id)) [ inl same ↦ absurd (apart (ap (λ (d : CallId). d.call) (same_call-is c id same))) | inr differ ↦ differ ]
 
 zero-call : (size : ℕ) (q : Past) → Each (IsInTurn size) q → (id : CallId) → id.call ≡ 0 → progress q id ≡ no_progress
 zero-call size nothing each id is_zero = refl
@@ -65,7 +65,7 @@ some_stays p e id before after_history = kept (λ (c : Progress). IsSome c.asked
 last-asked : (p : Past) (pass : ℕ) → 0 < last_call p pass → IsSome (progress p (record { pass = pass; call = last_call p pass })).asked
 last-asked nothing pass some = absurd (omega (arith, some))
 last-asked (p ▸ Ask c request) pass some =
-    elim (case (c.pass == pass)) [
+    elim (cases_Bool (c.pass == pass)) [
       | inl same ↦ (let id_is : record { pass = c.pass; call = c.call } ≡ record { pass = pass; call = c.call } = ap (λ (n : ℕ). record { pass = n; call = c.call }) (eqb-true c.pass pass same) in
           let now : IsSome (progress (p ▸ Ask c request) c).asked = subst (λ (g : Progress). IsSome g.asked) (sym (progress-own p (Ask c request))) refl in
           subst (λ (b : Bool). IsSome (progress (p ▸ Ask c request) (record { pass = pass; call = (if b then c.call else last_call p pass) })).asked) (sym same)
@@ -84,7 +84,7 @@ last-asked (p ▸ Reply c answer) pass some = let before = last-asked p pass som
 
 old_apart : (by : ℕ → ℕ) (c id : CallId) → 0 < c.call → id.call ≤ by id.pass → same_call (raised_id by c) id ≡ false
 old_apart by c id counted old =
-    elim (case (same_call (raised_id by c) id)) [
+    elim (cases_Bool (same_call (raised_id by c) id)) [
       | inl same ↦ (let one = same_call-is (raised_id by c) id same in
           let pass : by c.pass ≡ by id.pass = ap (λ (d : CallId). by d.pass) one in
           let call : by c.pass + c.call ≡ id.call = ap (λ (d : CallId). d.call) one in absurd (omega (arith, counted, old, pass, call)))
@@ -193,7 +193,7 @@ shown-onto start next by h (q ▸ Seen id begin content) held none first turn pl
   shown-onto start next by h q held none first turn.0 place.0 each.0,
   λ s v covers.
       let at = sector_in-place begin content s v covers in
-      let within = slice_get-inside content (s - begin) v at.1 in
+      let within = slice_get_within content (s - begin) v at.1 in
       let inside = lies-inside (length next) q (Seen id begin content) turn.0 place.1 in
       subst (λ (contents : List Sector). Contains contents v) (sym (could-onto start next by h q s (none s) (held s (omega (arith, at.0, within, inside))))) (each.1 s v covers),
 )

@@ -1,29 +1,15 @@
 -- The steps of a history that takes over the entries of another.
-use Rattle.std.proofs.Common.{◌≡◌, ℕ, zero, suc, ◌+◌, ◌≤◌, List, [], ◌∷◌, ◌++◌, Some, length, take, refl, ap, sym, ◌∙◌, subst, arith, add-one}
+use Rattle.std.proofs.Common.{◌≡◌, ℕ, zero, suc, ◌+◌, ◌≤◌, List, [], ◌∷◌, ◌++◌, Some, length, take, refl, ap, sym, ◌∙◌, subst, arith}
 use Rattle.std.specs.Prelude.{slice_get, map}
-use Rattle.std.specs.List.{All}
 use Rattle.std.proofs.lemmas.List.{append-nil, append_assoc, take_at, map_push}
-use Rattle.std.proofs.lemmas.List.Elements.{All-head, All-tail}
 use Rattle.std.proofs.lemmas.List.Sums.{sum_by-append, sum_by-take-le}
+use Rattle.vd_law.proofs.Going.{take_one_more}
 use Rattle.vd_law.specs.Entries.{Read, Write, Flush, Entry, Ask, Issue, Done, Broke, Seen, Reply, past}
 use Rattle.vd_law.specs.Calls.{last_call}
 use Rattle.vd_law.specs.Logs.{content_of}
 use Rattle.vd_law.specs.Histories.{IsRising, last_number}
 use Rattle.vd_law.specs.Joining.{raised_entry, sectors_told}
 use Rattle.vd_law.proofs.Numbers.{last_number-push}
-
-pub at_take : {X : Type 0} (xs : List X) (i : ℕ) (x : X) → slice_get xs i ≡ Some x → take (suc i) xs ≡ take i xs ++ x ∷ []
-at_take [] i x at = cc
-at_take (y ∷ xs) zero x at = let same : y ≡ x = cc in ap (λ z. z ∷ []) same
-at_take (y ∷ xs) (suc i) x at = ap (λ rest. y ∷ rest) (at_take xs i x at)
-
-pub at_more : {X : Type 0} (xs : List X) (i : ℕ) (x : X) → slice_get xs i ≡ Some x → take (i + 1) xs ≡ take i xs ++ x ∷ []
-at_more xs i x at = ap (λ (n : ℕ). take n xs) (add-one i) ∙ at_take xs i x at
-
-pub at_all : {X : Type 0} (P : X → Type 0) (xs : List X) (i : ℕ) (x : X) → slice_get xs i ≡ Some x → All P xs → P x
-at_all P [] i x at all = cc
-at_all P (y ∷ xs) zero x at all = let same : y ≡ x = cc in subst P same (All-head P y xs all)
-at_all P (y ∷ xs) (suc i) x at all = at_all P xs i x at (All-tail P y xs all)
 
 pub count_before : (old more es : List Entry) (before pass' pass by : ℕ) → by ≡ last_call (past (take before es)) pass' → es ≡ old ++ more → before ≡ length old → pass' ≡ pass → by ≡ last_call (past old) pass
 count_before old more es before pass' pass by by_is es_is before_is pass_is =
@@ -44,7 +30,7 @@ content-raised calls (Seen id first content) = refl
 content-raised calls (Reply id answer) = refl
 
 pub sectors_more : (es : List Entry) (i : ℕ) (e : Entry) → slice_get es i ≡ Some e → sectors_told (take (i + 1) es) ≡ sectors_told (take i es) + length (content_of e)
-sectors_more es i e at = ap sectors_told (at_more es i e at) ∙ sum_by-append (λ (e : Entry). length (content_of e)) (take i es) (e ∷ []) ∙ omega arith
+sectors_more es i e at = ap sectors_told (take_one_more es i e at) ∙ sum_by-append (λ (e : Entry). length (content_of e)) (take i es) (e ∷ []) ∙ omega arith
 
 pub sectors-le : (es : List Entry) (i : ℕ) → sectors_told (take i es) ≤ sectors_told es
 sectors-le es i = sum_by-take-le (λ (e : Entry). length (content_of e)) es i
@@ -64,11 +50,11 @@ entries_more calls old next es new i e entry at is before now =
     ∙ ap (λ (xs : List Entry). xs ++ raised_entry calls e ∷ []) before
     ∙ append_assoc old (map (raised_entry calls) (take i next)) (raised_entry calls e ∷ [])
     ∙ ap (λ (xs : List Entry). old ++ xs) (sym (map_push (raised_entry calls) (take i next) e))
-    ∙ ap (λ (xs : List Entry). old ++ map (raised_entry calls) xs) (sym (at_more next i e at))
+    ∙ ap (λ (xs : List Entry). old ++ map (raised_entry calls) xs) (sym (take_one_more next i e at))
 
 pub numbers_more : (old next ns new : List ℕ) (i n : ℕ) → slice_get next i ≡ Some n → ns ≡ old ++ take i next → new ≡ ns ++ n ∷ [] → new ≡ old ++ take (i + 1) next
 numbers_more old next ns new i n at before now =
     now
     ∙ ap (λ (xs : List ℕ). xs ++ n ∷ []) before
     ∙ append_assoc old (take i next) (n ∷ [])
-    ∙ ap (λ (xs : List ℕ). old ++ xs) (sym (at_more next i n at))
+    ∙ ap (λ (xs : List ℕ). old ++ xs) (sym (take_one_more next i n at))

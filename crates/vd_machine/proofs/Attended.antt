@@ -1,7 +1,6 @@
 -- Each step of a flush keeps what holds of the keeper and the passes.
 use Rattle.std.proofs.Common.{◌≡◌, ◌⊎◌, inl, inr, ℕ, ◌-◌, Bool, true, false, not, cond, List, length, sym, refl, ap, ◌∙◌, arith, subst, Option, Some, None, slice_get}
 use Rattle.std.specs.Prelude.{◌||◌, nat_lt}
-use Rattle.vd_bits.proofs.SetLaws.{set_there}
 use Rattle.vd_device.specs.declared.ticket.Ticket.{Ticket}
 use Rattle.vd_device.specs.declared.ticket.Kind.TheVariants.{Write, Flush}
 use Rattle.vd_device.specs.declared.settled.Settled.TheVariants as settled
@@ -37,6 +36,7 @@ use Rattle.vd_machine.proofs.Due.{begun-due}
 use Rattle.vd_machine.proofs.Kept.{put-kept}
 use Rattle.vd_machine.proofs.Stages.{IsPutInStage, no-ticket, put-out, done-stage, out-stage, none-stage, gone-left, gone-kept, gone-in-stage, still-none-put}
 use Rattle.vd_machine.proofs.Followed.{IsFollowed, not-asked, not-ready, goes-on, ends, passed}
+use Rattle.vd_lists.proofs.Changes.{slice_set_unchanged}
 
 -- ---- the pass whose flush is under way
 
@@ -165,7 +165,7 @@ pub late-attended : {same : Ticket} {shape : Shape} {table : TableState} {fresh 
     → KeeperAgrees shape table fresh passes flusher k → SettlesMeta g (settled.NotYet same) i (meta_state k passes) (meta_state k' passes') s s' → KeeperAgrees shape table fresh passes' flusher k'
 late-attended {same} {shape} {table} {fresh} {i} {k} {k'} {passes} {passes'} {flusher} a m =
     let s = m.settles in
-    let is : passes' ≡ passes = s.after ∙ set_there passes i s.pass s.there in
+    let is : passes' ≡ passes = s.after ∙ slice_set_unchanged passes i s.pass s.there in
     subst (λ (x : KeeperState). KeeperAgrees shape table fresh passes' flusher x) (sym m.after) (subst (λ (ps : List Pass). KeeperAgrees shape table fresh ps flusher k) (sym is) a)
 
 pub failed-attended : {number : ℕ} {shape : Shape} {table : TableState} {fresh : List Bool} {i : ℕ} {k k' : KeeperState} {passes passes' : List Pass} {flusher : Option ℕ} {S : Type 0} {g : store.Ghosts S} {s s' : S}

@@ -1,13 +1,13 @@
 -- Which pass flushes, once one pass has changed.
 use Rattle.std.proofs.Common.{◌≡◌, ◌≢◌, ◌⊎◌, inl, inr, ℕ, List, sym, ap, ◌∙◌, Option, Some, None, slice_get, slice_set}
 use Rattle.std.specs.Prelude.{◌↔◌}
-use Rattle.vd_bits.proofs.SetLaws.{set_other}
 use Rattle.vd_keeper.specs.declared.stage.Stage.TheVariants.{Rest, Broken}
 use Rattle.vd_keeper.specs.Keeping.{KeeperState}
 use Rattle.vd_passes.specs.declared.pass.Pass.{Pass}
 use Rattle.vd_passes.specs.declared.pass.Phase.TheVariants.{Asked, Flushing, Ready}
 use Rattle.vd_machine.specs.Attending.{IsAtStage}
 use Rattle.vd_machine.proofs.Members.{at-set, set-here, same-member}
+use Rattle.vd_lists.proofs.Changes.{slice_set_other}
 
 -- the pass that flushes is the one that is remembered
 abbrev pub AreFlushing : List Pass → Option ℕ → Type 0
@@ -81,5 +81,5 @@ module _ (passes : List Pass) (i : ℕ) (old new : Pass) (flusher : Option ℕ) 
     working = λ j mine.
         let w = working j mine in
         let ne : j ≢ i = λ e. not_old (ap (λ (x : Pass). x.phase) (same-member passes i old w.0 there (ap (slice_get passes) (sym e) ∙ w.1)) ∙ (was j w.0 w.1).1 mine) in
-        (w.0, set_other passes i j new ne ∙ w.1, w.2);
+        (w.0, slice_set_other passes i j new ne ∙ w.1, w.2);
   }

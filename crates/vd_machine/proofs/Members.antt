@@ -2,7 +2,7 @@
 use Rattle.std.proofs.Common.{◌≡◌, ◌≢◌, ◌⊎◌, ℕ, zero, suc, List, [], ◌∷◌, length, get_or, refl, sym, ◌∙◌, ap, inl, inr, Some, slice_get, slice_set}
 use Rattle.std.proofs.lemmas.Bool.{cases_eq}
 use Rattle.std.proofs.lemmas.Option.{slice_get_read, slice_get_within}
-use Rattle.vd_bits.proofs.SetLaws.{set_same, set_other}
+use Rattle.vd_lists.proofs.Changes.{slice_set_inside, slice_set_other}
 use Rattle.vd_passes.specs.declared.pass.Pass.{Pass}
 use Rattle.vd_passes.specs.Steps.{IsAt}
 
@@ -10,13 +10,13 @@ pub same-member : {X : Type 0} (xs : List X) (i : ℕ) (x y : X) → slice_get x
 same-member xs i x y is is' = let e : Some x ≡ Some y = sym is ∙ is' in cc
 
 pub set-here : {X : Type 0} (xs : List X) (i : ℕ) (x old : X) → slice_get xs i ≡ Some old → slice_get (slice_set xs i x) i ≡ Some x
-set-here xs i x old there = set_same xs i x (slice_get_within xs i old there)
+set-here xs i x old there = slice_set_inside xs i x (slice_get_within xs i old there)
 
 -- a member of the changed list is the new one or an old one
 pub at-set : {X : Type 0} (xs : List X) (i j : ℕ) (x old y : X) → slice_get xs i ≡ Some old → slice_get (slice_set xs i x) j ≡ Some y → ((j ≡ i) × (y ≡ x)) ⊎ ((j ≢ i) × (slice_get xs j ≡ Some y))
 at-set xs i j x old y there is = elim (cases_eq j i) [
   | inl e ↦ inl (e, same-member (slice_set xs i x) i y x (ap (slice_get (slice_set xs i x)) (sym e) ∙ is) (set-here xs i x old there))
-  | inr ne ↦ inr (ne, sym (set_other xs i j x ne) ∙ is)
+  | inr ne ↦ inr (ne, sym (slice_set_other xs i j x ne) ∙ is)
 ]
 
 pub set-twice : {X : Type 0} (xs : List X) (i : ℕ) (x y : X) → slice_set (slice_set xs i x) i y ≡ slice_set xs i y

@@ -3,7 +3,6 @@ use Rattle.std.proofs.Common.{◌≡◌, ◌≢◌, ◌⊎◌, inl, inr, ℕ, �
 use Rattle.std.proofs.lemmas.Bool.{cases_Bool, cases_eq, cond-true, cond-false}
 use Rattle.std.proofs.lemmas.Option.{slice_get_within}
 use Rattle.vd_bits.specs.Blocks.{Blocks}
-use Rattle.vd_bits.proofs.SetLaws.{set_same, set_other}
 use Rattle.vd_format.specs.declared.header.Header.{Header}
 use Rattle.vd_format.specs.Headers.{IsValid}
 use Rattle.vd_format.specs.Layouts.{blocks_of, chunks_of, storage_start}
@@ -23,6 +22,7 @@ use Rattle.vd_machine.specs.Attending.{KeeperAgrees}
 use Rattle.vd_machine.proofs.Stages.{owed-stage}
 use Rattle.vd_machine.proofs.Followed.{passed}
 use Rattle.vd_machine.proofs.Attended.{attended}
+use Rattle.vd_lists.proofs.Changes.{slice_set_inside, slice_set_other}
 
 -- ---- the passes
 
@@ -88,12 +88,12 @@ fresh-attended {k = k} a more = more-owed k.owed a a.keeping more (λ b is. more
 -- ---- a block comes to be owed
 
 set-cases : (xs : List Bool) (block b : ℕ) → slice_get (slice_set xs block true) b ≡ Some true → (b ≡ block) ⊎ (slice_get xs b ≡ Some true)
-set-cases xs block b is = elim (cases_eq b block) [ inl e ↦ inl e | inr ne ↦ inr (sym (set_other xs block b true ne) ∙ is) ]
+set-cases xs block b is = elim (cases_eq b block) [ inl e ↦ inl e | inr ne ↦ inr (sym (slice_set_other xs block b true ne) ∙ is) ]
 
 pub still-set : (xs : List Bool) (block b : ℕ) → slice_get xs b ≡ Some true → slice_get (slice_set xs block true) b ≡ Some true
 still-set xs block b is = elim (cases_eq b block) [
-  | inl e ↦ ap (slice_get (slice_set xs block true)) e ∙ set_same xs block true (subst (λ (n : ℕ). n < length xs) e (slice_get_within xs b true is))
-  | inr ne ↦ set_other xs block b true ne ∙ is
+  | inl e ↦ ap (slice_get (slice_set xs block true)) e ∙ slice_set_inside xs block true (subst (λ (n : ℕ). n < length xs) e (slice_get_within xs b true is))
+  | inr ne ↦ slice_set_other xs block b true ne ∙ is
 ]
 
 owing-kept : (k : KeeperState) (block : ℕ) → IsKeeping k → get_or k.stale block false ≡ false → IsKeeping (record k { owed = slice_set k.owed block true })
@@ -112,7 +112,7 @@ owing-attended {shape} {table} {fresh} {fresh'} {passes} {flusher} {k} {k'} bloc
       | inl stale ↦ subst (λ (x : KeeperState). KeeperAgrees shape table (slice_set fresh block true) passes flusher x) (sym (cond-true (get_or k.stale block false) k owed stale)) (fresh-attended a more)
       | inr off ↦ subst (λ (x : KeeperState). KeeperAgrees shape table (slice_set fresh block true) passes flusher x) (sym (cond-false (get_or k.stale block false) k owed off))
           (more-owed (slice_set k.owed block true) a (owing-kept k block a.keeping off) more
-          (λ b is. elim (set-cases k.owed block b is) [ inl e ↦ ap (slice_get (slice_set fresh block true)) e ∙ set_same fresh block true inside | inr was ↦ more b (a.owed_fresh b was) ]))
+          (λ b is. elim (set-cases k.owed block b is) [ inl e ↦ ap (slice_get (slice_set fresh block true)) e ∙ slice_set_inside fresh block true inside | inr was ↦ more b (a.owed_fresh b was) ]))
     ] in
     subst (λ (x : KeeperState). KeeperAgrees shape table fresh' passes flusher x) (sym after) (subst (λ (xs : List Bool). KeeperAgrees shape table xs passes flusher (after_owe block k)) (sym set_is) done)
 

@@ -22,10 +22,11 @@ use Rattle.vd_image.proofs.CrashImages.{at_inside, past_end}
 use Rattle.vd_make.specs.Putting.{IsPut, IsNoSuccess, PutsRange, MayHave, IsDurable, EachFrom, Story, Begun, Blanked, Headed, IsImageWritten}
 use Rattle.vd_make.specs.Images.{IsNewImage, IsNoImage, IsEntryOfMaking, HasFlushed, MakesSafely, HasNewImage}
 use Rattle.vd_make.proofs.VersionLaws.{Fits, fits_weaker, Left, left_more}
-use Rattle.vd_make.proofs.PutLaws.{join, each_event, fits_inside, fits_outside}
+use Rattle.vd_make.proofs.PutLaws.{each_event, fits_inside, fits_outside}
 use Rattle.vd_make.proofs.StoryLaws.{firm_after_puts}
 use Rattle.vd_make.proofs.NewImages.{new_image, zeros_no_image}
 use Rattle.vd_format.specs.Background.{zero_sector}
+use Rattle.vd_lists.proofs.Elements.{each_append, each_take}
 
 -- Where a success stands in a log.
 
@@ -39,11 +40,6 @@ behind : (old quiet rest : List Entry) (i : ℕ) (id : CallId) → AllByRecursio
 behind [] quiet rest i id none from is = let h = behind_quiet quiet rest i id none is in omega (arith, h)
 behind (x ∷ xs) quiet rest zero id none from is = absurd (omega (arith, from))
 behind (x ∷ xs) quiet rest (suc i) id none from is = let h = behind xs quiet rest i id none (omega (arith, from)) is in omega (arith, h)
-
-take_each : (P : Entry → Type 0) (n : ℕ) (es : List Entry) → AllByRecursion P es → AllByRecursion P (take n es)
-take_each P zero es all = tt
-take_each P (suc n) [] all = tt
-take_each P (suc n) (e ∷ es) all = (all.0, take_each P n es all.1)
 
 -- a front that reaches into the second part
 take_into : (k : ℕ) (xs ys : List Entry) → length xs ≤ k → take k (xs ++ ys) ≡ xs ++ take (k - length xs) ys
@@ -69,7 +65,7 @@ blank_at : (first more : List Entry) (mid new : Disk) (end k : ℕ) (image : Lis
 blank_at first more mid new end k image kept puts from crash =
     let part = take (k - length mid.log) more in
     let log : take k new.log ≡ mid.log ++ part = ap (take k) puts.log ∙ take_into k mid.log more from in
-    let fits = each_event (IsPut zero_sector 1 end) (Fits (λ x. x ≡ zero_sector) 0) (fits_outside (λ x. x ≡ zero_sector) zero_sector 1 end 0 (inl (lit< tt))) part (take_each (IsPut zero_sector 1 end) (k - length mid.log) more puts.only) in
+    let fits = each_event (IsPut zero_sector 1 end) (Fits (λ x. x ≡ zero_sector) 0) (fits_outside (λ x. x ≡ zero_sector) zero_sector 1 end 0 (inl (lit< tt))) part (each_take (IsPut zero_sector 1 end) (k - length mid.log) more puts.only) in
     let there : Left (λ x. x ≡ zero_sector) new.start (past mid.log) 0 = subst (λ (start : List Sector). Left (λ x. x ≡ zero_sector) start (past mid.log) 0) (sym puts.start) (kept.firm 0 (lit≤ tt) (lit< tt)) in
     let left = subst (λ (l : List Entry). Left (λ x. x ≡ zero_sector) new.start (past l) 0) (sym log) (left_more (λ x. x ≡ zero_sector) new.start mid.log part 0 fits there) in
     ap header_of (image_sector (λ x. x ≡ zero_sector) new.start (take k new.log) image 0 crash refl left) ∙ zeros_no_image
@@ -105,7 +101,7 @@ header_at : (h : Header) (more : List Entry) (ready new : Disk) (k : ℕ) (image
 header_at h more ready new k image valid version room zeros rest puts from crash =
     let part = take (k - length ready.log) more in
     let log : take k new.log ≡ ready.log ++ part = ap (take k) puts.log ∙ take_into k ready.log more from in
-    let only = take_each (IsPut (header_sector h) 0 1) (k - length ready.log) more puts.only in
+    let only = each_take (IsPut (header_sector h) 0 1) (k - length ready.log) more puts.only in
     let start = λ (P : Sector → Type 0) (s : ℕ) (l : Left P ready.start (past ready.log) s). subst (λ (xs : List Sector). Left P xs (past ready.log) s) (sym puts.start) l in
     let back = λ (P : Sector → Type 0) (s : ℕ) (l : Left P new.start (past (ready.log ++ part)) s). subst (λ (es : List Entry). Left P new.start (past es) s) (sym log) l in
     let first = image_sector (Either h) new.start (take k new.log) image 0 crash (inl refl)
@@ -164,7 +160,7 @@ safe_blanked h old mid new first more puts kept last = record {
   start = last.start ∙ puts.start;
   more = first ++ more;
   log = last.log ∙ ap (λ (l : List Entry). l ++ more) puts.log ∙ append_assoc old.log first more;
-  writes = join (IsEntryOfMaking h) first more (each_event (IsPut zero_sector 0 1) (IsEntryOfMaking h) (making_zeros h 0 1 (omega arith)) first puts.only)
+  writes = each_append (IsEntryOfMaking h) first more (each_event (IsPut zero_sector 0 1) (IsEntryOfMaking h) (making_zeros h 0 1 (omega arith)) first puts.only)
       (each_event (IsPut zero_sector 1 (storage_start h)) (IsEntryOfMaking h) (making_zeros h 1 (storage_start h) (omega arith)) more last.only);
   safe = λ k image flushed crash. inl (blank_at first more mid new (storage_start h) k image kept last (reaches old mid new first more k puts.log kept last.log flushed) crash);
 }
@@ -177,8 +173,8 @@ safe_headed h old mid ready new first second more valid version room puts kept z
       start = last.start ∙ zeros.start ∙ puts.start;
       more = first ++ (second ++ more);
       log = log ∙ ap (λ (l : List Entry). l ++ (second ++ more)) puts.log ∙ append_assoc old.log first (second ++ more);
-      writes = join (IsEntryOfMaking h) first (second ++ more) (each_event (IsPut zero_sector 0 1) (IsEntryOfMaking h) (making_zeros h 0 1 (omega arith)) first puts.only)
-          (join (IsEntryOfMaking h) second more (each_event (IsPut zero_sector 1 (storage_start h)) (IsEntryOfMaking h) (making_zeros h 1 (storage_start h) (omega arith)) second zeros.only)
+      writes = each_append (IsEntryOfMaking h) first (second ++ more) (each_event (IsPut zero_sector 0 1) (IsEntryOfMaking h) (making_zeros h 0 1 (omega arith)) first puts.only)
+          (each_append (IsEntryOfMaking h) second more (each_event (IsPut zero_sector 1 (storage_start h)) (IsEntryOfMaking h) (making_zeros h 1 (storage_start h) (omega arith)) second zeros.only)
           (each_event (IsPut (header_sector h) 0 1) (IsEntryOfMaking h) (making_header h) more last.only));
       safe = λ k image flushed crash. (
           let from = reaches old mid new first (second ++ more) k puts.log kept log flushed in

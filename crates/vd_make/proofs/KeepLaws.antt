@@ -3,6 +3,7 @@ use Rattle.std.proofs.Common.{ℕ, ◌≡◌, List, [], ◌∷◌, ◌++◌, len
 use Rattle.std.specs.Prelude.{slice_get, ⊤}
 use Rattle.std.specs.List.{AllByRecursion}
 use Rattle.std.proofs.lemmas.List.{append_assoc}
+use Rattle.vd_lists.proofs.Elements.{each_append}
 use Rattle.vd_law.specs.declared.entry.Sector.{Sector}
 use Rattle.vd_law.specs.declared.entry.Answer.TheVariants as answers
 use Rattle.vd_law.specs.Entries.{Flush, Entry, Ask, Reply, Past, ◌▸◌, past}
@@ -10,7 +11,7 @@ use Rattle.vd_device.specs.Disks.{Disk}
 use Rattle.vd_device.specs.Now.{call_number, flush_entries}
 use Rattle.vd_make.specs.Putting.{IsPut, IsNoSuccess, PutsRange, MayHave, IsRangeWritten, TriesWrites, Syncs, KeptBy, Fills}
 use Rattle.vd_make.proofs.VersionLaws.{Since, Left, left_flushed}
-use Rattle.vd_make.proofs.PutLaws.{two_events, join, puts_twice}
+use Rattle.vd_make.proofs.PutLaws.{two_events, puts_twice}
 
 only_flush : (v : Sector) (from to number : ℕ) (result : Result ⊤ ℕ) → AllByRecursion (IsPut v from to) (flush_entries number result)
 only_flush v from to number (Ok done) = (tt, (tt, tt))
@@ -44,11 +45,11 @@ kept_by v from to number (Ok done) old mid new first quiet laid sync = record {
   before = first ++ Ask (call_number number) Flush ∷ [];
   id = call_number number;
   ends = sym (append_assoc first (Ask (call_number number) Flush ∷ []) (Reply (call_number number) answers.Ok ∷ []));
-  quiet = join IsNoSuccess first (Ask (call_number number) Flush ∷ []) quiet (tt, tt);
+  quiet = each_append IsNoSuccess first (Ask (call_number number) Flush ∷ []) quiet (tt, tt);
   firm = λ s low high. firm_now v number s mid new sync (laid.done s low high);
   held = λ s low high x is. laid.held s low high x (ap (λ (h : List Sector). slice_get h s) (sym sync.held) ∙ is);
 }
-kept_by v from to number (Err failed) old mid new first quiet laid sync = join IsNoSuccess first (flush_entries number (Err failed)) quiet (tt, (tt, tt))
+kept_by v from to number (Err failed) old mid new first quiet laid sync = each_append IsNoSuccess first (flush_entries number (Err failed)) quiet (tt, (tt, tt))
 
 -- the range was written, and a flush was tried
 pub keeps_one : (v : Sector) (from to number : ℕ) (result : Result ⊤ ℕ) (old mid new : Disk) → TriesWrites v from to old mid → IsRangeWritten v from to mid → Syncs (flush_entries number result) mid new → Fills result v from to old new

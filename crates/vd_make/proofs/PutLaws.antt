@@ -19,7 +19,8 @@ use Rattle.vd_device.specs.Quiet.{IsAtRest}
 use Rattle.vd_device.proofs.QuietLaws.{flush_idle, held_after, rest_after}
 use Rattle.vd_make.specs.Putting.{AreAll, IsPut, IsNoSuccess, PutsRange, HasDone, IsRangeWritten, TriesWrites, Syncs}
 use Rattle.vd_make.proofs.VersionLaws.{only_one, Fits, Since, since_more, own_open, since_written}
-use Rattle.vd_lists.proofs.Lists.{slice_get_front}
+use Rattle.vd_lists.proofs.Elements.{each_append}
+use Rattle.vd_lists.proofs.Places.{slice_get_front}
 
 -- the log after two events
 pub two_events : (log : List Entry) (a b : Entry) → past (log ++ a ∷ b ∷ []) ≡ past log ▸ a ▸ b
@@ -123,10 +124,6 @@ all_first v n xs all k x is =
 
 -- Several events.
 
-pub join : (P : Entry → Type 0) (xs ys : List Entry) → AllByRecursion P xs → AllByRecursion P ys → AllByRecursion P (xs ++ ys)
-join P [] ys p q = q
-join P (e ∷ xs) ys p q = (p.0, join P xs ys p.1 q)
-
 pub each_event : (P Q : Entry → Type 0) → ((e : Entry) → P e → Q e) → (es : List Entry) → AllByRecursion P es → AllByRecursion Q es
 each_event P Q f [] all = tt
 each_event P Q f (e ∷ es) all = (f e all.0, each_event P Q f es all.1)
@@ -157,7 +154,7 @@ pub puts_twice : (v : Sector) (from to : ℕ) (xs ys : List Entry) (a b c : Disk
 puts_twice v from to xs ys a b c p q = record {
   start = q.start ∙ p.start;
   log = q.log ∙ ap (λ (l : List Entry). l ++ ys) p.log ∙ append_assoc a.log xs ys;
-  only = join (IsPut v from to) xs ys p.only q.only;
+  only = each_append (IsPut v from to) xs ys p.only q.only;
   size = q.size ∙ p.size;
   others = λ s apart. q.others s apart ∙ p.others s apart;
   rest = q.rest;
@@ -195,7 +192,7 @@ pub lays_more : (v : Sector) (from to first end : ℕ) (a b c : Disk) → from �
 lays_more v from to first end a b c low high x y = record {
   more = x.more ++ y.more;
   puts = puts_twice v from to x.more y.more a b c x.puts (puts_wider v first end from to y.more b c low high y.puts);
-  quiet = join IsNoSuccess x.more y.more x.quiet y.quiet;
+  quiet = each_append IsNoSuccess x.more y.more x.quiet y.quiet;
 }
 
 pub laid_none : (v : Sector) (from : ℕ) (d : Disk) → IsRangeWritten v from from d

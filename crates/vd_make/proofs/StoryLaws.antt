@@ -7,12 +7,12 @@ use Rattle.vd_device.specs.Disks.{Disk}
 use Rattle.vd_format.specs.declared.header.Header.{Header}
 use Rattle.std.proofs.lemmas.List.{length-replicate}
 use Rattle.std.proofs.lemmas.Option.{slice_get_within}
+use Rattle.vd_lists.proofs.Places.{slice_get_replicate}
 use Rattle.vd_image.specs.Made.{header_sector}
 use Rattle.vd_format.specs.Headers.{spelling}
 use Rattle.vd_make.specs.Putting.{AreAll, IsPut, PutsRange, IsDurable, Fills, Story, Begun, Blanked, Headed, IsImageWritten}
 use Rattle.vd_make.proofs.VersionLaws.{Fits, Left, left_more}
 use Rattle.vd_make.proofs.PutLaws.{each_event, fits_outside}
-use Rattle.vd_lists.proofs.Lists.{slice_get_replicate}
 use Rattle.vd_format.specs.Background.{zero_sector}
 
 -- writes of a range leave what a crash may leave elsewhere

@@ -23,7 +23,7 @@ use Rattle.vd_mem.specs.StoreState.{MemStoreState, StillRuns, disk_of, can_add, 
 use Rattle.vd_mem.specs.Ends.{CanCarryOut}
 use Rattle.vd_mem.specs.Flying.{HasOpenWrite, IsLoggedAs, IsCall, AreCalls, IsTicketWithin, Flies}
 use Rattle.vd_mem.specs.Sound.{IsSoundMemStore}
-use Rattle.vd_faults.proofs.Choosing.{choose, takes-runs, stopped-over}
+use Rattle.vd_faults.proofs.Choosing.{takes-runs, stopped-over}
 use Rattle.vd_mem.proofs.Taking.{Took}
 use Rattle.vd_mem.proofs.Flights.{all-take, put-length}
 use Rattle.vd_mem.proofs.Sectors.{range-held}
@@ -31,6 +31,7 @@ use Rattle.vd_mem.proofs.Opens.{IsOff}
 use Rattle.vd_mem.proofs.Flying.{grown, writes-answered, writes-ended, calls-take}
 use Rattle.vd_mem.proofs.Orders.{order-push, last-follows}
 use Rattle.vd_mem.proofs.Honest.{kept-grows, broke-more, reply-more, seen-grows, broke-written-grows, done-grows}
+use Rattle.std.proofs.lemmas.Bool.{cond_both}
 
 -- The last entries of a ticket of this kind.
 
@@ -152,7 +153,7 @@ module _ (m : MemStoreState) (t : Ticket) (failure : Option Keep) (sound : IsSou
   end-takes others all among flight =
       let count : m.flying - 1 ≡ length others = omega (arith, flight.many, put-length t others all among) in
       let range = (all-take (IsTicketWithin (length m.start)) t others all among flight.within).1 in
-      choose (λ (m' : MemStoreState). Flies m' others) (can_add m e) in_log stopped
+      cond_both (can_add m e) in_log stopped (λ (m' : MemStoreState). Flies m' others)
       (λ can. record {
         many = count;
         within = range;
@@ -165,22 +166,22 @@ module _ (m : MemStoreState) (t : Ticket) (failure : Option Keep) (sound : IsSou
   -- where it still runs, the last entry was added
   pub end-grows : (others all : List Ticket) → HasAmong t others all → Flies m all → StillRuns (ended_by failure t m) → (can_add m e ≡ true) × GrowsBy (e ∷ []) (disk_of m) (disk_of (ended_by failure t m)) × ((ended_by failure t m).held ≡ in_log.held)
   end-grows others all among flight =
-      choose (λ (m' : MemStoreState). StillRuns m' → (can_add m e ≡ true) × GrowsBy (e ∷ []) (disk_of m) (disk_of m') × (m'.held ≡ in_log.held)) (can_add m e) in_log stopped
+      cond_both (can_add m e) in_log stopped (λ (m' : MemStoreState). StillRuns m' → (can_add m e ≡ true) × GrowsBy (e ∷ []) (disk_of m) (disk_of m') × (m'.held ≡ in_log.held))
       (λ can runs. (can, grows-so others all among flight runs, refl))
       (λ full runs. stopped-over m.over runs)
 
   pub end-sound : (others all : List Ticket) → HasAmong t others all → Flies m all → length (ended_by failure t m).log.entries < 2 ^ 63 → IsSoundMemStore (ended_by failure t m)
   end-sound others all among flight short = record {
-    size = choose (λ (m' : MemStoreState). length m'.held ≡ length m'.start) (can_add m e) in_log stopped
+    size = cond_both (can_add m e) in_log stopped (λ (m' : MemStoreState). length m'.held ≡ length m'.start)
         (λ can. (grows-so others all among flight (takes-runs m.log m.fuse m.over e can)).size ∙ sound.size)
         (λ full. sound.size);
     short = short;
     told = λ runs. record {
-      numbers = choose (λ (m' : MemStoreState). StillRuns m' → m'.last ≤ length m'.log.entries) (can_add m e) in_log stopped
+      numbers = cond_both (can_add m e) in_log stopped (λ (m' : MemStoreState). StillRuns m' → m'.last ≤ length m'.log.entries)
           (λ can now. omega (arith, (sound.told now).numbers, length-append m.log.entries (e ∷ [])))
           (λ full now. stopped-over m.over now) runs;
       honest = (end-grows others all among flight runs).1.honest;
-      order = choose (λ (m' : MemStoreState). StillRuns m' → IsInOrder (disk_of m')) (can_add m e) in_log stopped
+      order = cond_both (can_add m e) in_log stopped (λ (m' : MemStoreState). StillRuns m' → IsInOrder (disk_of m'))
           (λ can now. order-push (disk_of m) e in_log.held (sound.told now).order (last-follows failure (disk_of m) t (sound.told now).honest))
           (λ full now. stopped-over m.over now) runs;
     };
@@ -190,7 +191,7 @@ module _ (m : MemStoreState) (t : Ticket) (failure : Option Keep) (sound : IsSou
   -- these are the ticket's last entry where it was added
   pub end-took : (others all : List Ticket) → HasAmong t others all → Flies m all → (es : List Entry) → (can_add m e ≡ true → es ≡ e ∷ []) → Took es m (ended_by failure t m)
   end-took others all among flight es last =
-      choose (λ (m' : MemStoreState). Took es m m') (can_add m e) in_log stopped
+      cond_both (can_add m e) in_log stopped (λ (m' : MemStoreState). Took es m m')
       (λ can. let runs = takes-runs m.log m.fuse m.over e can in
       inl (record { before = runs; after = runs; grows = subst (λ (x : List Entry). GrowsBy x (disk_of m) (disk_of in_log)) (sym (last can)) (grows-so others all among flight runs) }))
       (λ full. inr (record { start = refl; log = refl; over = refl }))
@@ -198,7 +199,7 @@ module _ (m : MemStoreState) (t : Ticket) (failure : Option Keep) (sound : IsSou
   -- where the store has stopped, the last entry was not added
   pub end-full : HasStopped (events_told (ended_by failure t m).log (ended_by failure t m).over) (disk_of (ended_by failure t m)) → can_add m e ≡ false
   end-full =
-      choose (λ (m' : MemStoreState). HasStopped (events_told m'.log m'.over) (disk_of m') → can_add m e ≡ false) (can_add m e) in_log stopped
+      cond_both (can_add m e) in_log stopped (λ (m' : MemStoreState). HasStopped (events_told m'.log m'.over) (disk_of m') → can_add m e ≡ false)
       (λ can above. let runs = takes-runs m.log m.fuse m.over e can in absurd (omega arith))
       (λ full above. full)
 

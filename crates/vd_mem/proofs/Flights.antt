@@ -3,6 +3,7 @@ use Rattle.std.proofs.Common.{◌≡◌, ◌+◌, ◌⊎◌, inl, inr, List, [],
 use Rattle.std.specs.Prelude.{◌≢◌}
 use Rattle.std.specs.List.{AllByRecursion, Contains}
 use Rattle.std.proofs.lemmas.List.Elements.{All-from_recursion, All-contains, Contains-append_left, Contains-append_right, Contains-append_cases, Contains-push, Contains-push_cases}
+use Rattle.vd_lists.proofs.Elements.{each_without, each_with}
 use Rattle.vd_device.specs.declared.ticket.Ticket.{Ticket}
 use Rattle.vd_device.specs.Tickets.{HasAmong}
 use Rattle.vd_mem.specs.Flying.{HaveDistinctNumbers}
@@ -16,21 +17,13 @@ pub all-both : (P R Q : Ticket → Type 0) → ((t : Ticket) → P t → R t →
 all-both P R Q f [] all other = tt
 all-both P R Q f (t ∷ ts) all other = (f t all.0 other.0, all-both P R Q f ts all.1 other.1)
 
-insert : (P : Ticket → Type 0) (before after : List Ticket) (t : Ticket) → AllByRecursion P (before ++ after) → P t → AllByRecursion P (before ++ t ∷ after)
-insert P [] after t all here = (here, all)
-insert P (u ∷ before) after t all here = (all.0, insert P before after t all.1 here)
-
-remove : (P : Ticket → Type 0) (before after : List Ticket) (t : Ticket) → AllByRecursion P (before ++ t ∷ after) → P t × AllByRecursion P (before ++ after)
-remove P [] after t all = (all.0, all.1)
-remove P (u ∷ before) after t all = let rest = remove P before after t all.1 in (rest.0, (all.0, rest.1))
-
 pub all-put : (P : Ticket → Type 0) (t : Ticket) (others all : List Ticket) → HasAmong t others all → AllByRecursion P others → P t → AllByRecursion P all
 all-put P t others all among each here =
-    subst (AllByRecursion P) (sym among.with_it) (insert P among.before among.after t (subst (AllByRecursion P) among.without each) here)
+    subst (AllByRecursion P) (sym among.with_it) (each_with P among.before among.after t here (subst (AllByRecursion P) among.without each))
 
 pub all-take : (P : Ticket → Type 0) (t : Ticket) (others all : List Ticket) → HasAmong t others all → AllByRecursion P all → P t × AllByRecursion P others
 all-take P t others all among each =
-    let parts = remove P among.before among.after t (subst (AllByRecursion P) among.with_it each) in
+    let parts = each_without P among.before among.after t (subst (AllByRecursion P) among.with_it each) in
     (parts.0, subst (AllByRecursion P) (sym among.without) parts.1)
 
 pub all-at : (P : Ticket → Type 0) (ts : List Ticket) (t : Ticket) → AllByRecursion P ts → Contains ts t → P t
@@ -80,12 +73,12 @@ other-turned t u other same = other (sym same)
 distinct-insert : (before after : List Ticket) (t : Ticket) → HaveDistinctNumbers (before ++ after) → AllByRecursion (IsOther t) (before ++ after) → HaveDistinctNumbers (before ++ t ∷ after)
 distinct-insert [] after t distinct others = (others, distinct)
 distinct-insert (u ∷ before) after t distinct others =
-    (insert (IsOther u) before after t distinct.0 (other-turned t u others.0), distinct-insert before after t distinct.1 others.1)
+    (each_with (IsOther u) before after t (other-turned t u others.0) distinct.0, distinct-insert before after t distinct.1 others.1)
 
 distinct-remove : (before after : List Ticket) (t : Ticket) → HaveDistinctNumbers (before ++ t ∷ after) → HaveDistinctNumbers (before ++ after) × AllByRecursion (IsOther t) (before ++ after)
 distinct-remove [] after t distinct = (distinct.1, distinct.0)
 distinct-remove (u ∷ before) after t distinct =
-    let head = remove (IsOther u) before after t distinct.0 in let rest = distinct-remove before after t distinct.1 in
+    let head = each_without (IsOther u) before after t distinct.0 in let rest = distinct-remove before after t distinct.1 in
     ((head.1, rest.0), (other-turned u t head.0, rest.1))
 
 pub distinct-put : (t : Ticket) (others all : List Ticket) → HasAmong t others all → HaveDistinctNumbers others → AllByRecursion (IsOther t) others → HaveDistinctNumbers all

@@ -3,6 +3,7 @@ use Rattle.std.proofs.Common.{◌≡◌, ℕ, ◌+◌, ◌<◌, ◌≤◌, ◌�
 use Rattle.std.specs.Prelude.{if◌then◌else◌}
 use Rattle.std.specs.List.{All, AllByRecursion, Contains, filter, find}
 use Rattle.std.proofs.lemmas.List.Elements.{All-nil, All-cons, All-head, All-tail, All-weaker, All-filter, filter_passes, All-append}
+use Rattle.vd_lists.proofs.Options.{cases_option}
 use Rattle.vd_law.specs.declared.entry.Sector.{Sector}
 use Rattle.vd_law.specs.declared.entry.CallId.{CallId}
 use Rattle.vd_law.specs.Entries.{Entry, call_of, same_call, Past, ◌▸◌, past}
@@ -19,7 +20,6 @@ use Rattle.vd_mem.specs.Flying.{IsLoggedAs, IsCall, HaveDistinctNumbers, AreCall
 use Rattle.vd_mem.proofs.Flights.{all-more, all-both, all-put, all-take, all-at, contains-put, contains-it, contains-take, distinct-put, distinct-take, same-number, IsOther}
 use Rattle.vd_mem.proofs.Sectors.{sector-range, sector-none}
 use Rattle.vd_mem.proofs.Opens.{IsOff, other-call, other-ticket, stands-kept}
-use Rattle.vd_faults.proofs.Getting.{cases-sector}
 
 -- the disk with one more entry, and other contents
 abbrev pub grown : Disk → Entry → List Sector → Disk
@@ -157,7 +157,7 @@ writing-open last d u call write s from to closed =
     at-write : (k : Kind) → IsLoggedAs k d.start d.log u → k ≡ Write → ⊥
     at-write Read stands is = cc
     at-write Write stands is =
-        elim (cases-sector (sector_in u.first stands.content s)) [
+        elim (cases_option (sector_in u.first stands.content s)) [
           | inl none ↦ outside (sector-none u.first stands.content s none) stands.size
           | inr some ↦ let o = stands.only_open s some.0 some.1 in let alone = o.alone in cc
         ]

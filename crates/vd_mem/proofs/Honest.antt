@@ -4,6 +4,8 @@ use Rattle.std.specs.Prelude.{if◌then◌else◌, slice_get, slice_range}
 use Rattle.std.specs.Option.{option_to_list}
 use Rattle.std.specs.List.{Contains, find, list_any}
 use Rattle.std.proofs.lemmas.List.Elements.{Contains-append_left, Contains-push}
+use Rattle.std.proofs.lemmas.Option.{same_Some}
+use Rattle.vd_lists.proofs.Options.{cases_option}
 use Rattle.vd_law.specs.declared.entry.Sector.{Sector}
 use Rattle.vd_law.specs.declared.entry.CallId.{CallId}
 use Rattle.vd_law.specs.Entries.{Entry, Ask, Issue, Done, Broke, Seen, Reply, Past, ◌▸◌, past}
@@ -17,10 +19,6 @@ use Rattle.vd_mem.specs.StoreState.{over_at}
 use Rattle.vd_mem.specs.Flying.{IsOnlyOpen, HaveDistinctNumbers}
 use Rattle.vd_mem.proofs.Sectors.{sector-none, over-at, over-off, over-length, range-held}
 use Rattle.vd_mem.proofs.Flying.{grown, off-none}
-use Rattle.vd_faults.proofs.Getting.{cases-sector}
-
-some-same : (x y : Sector) → Some x ≡ Some y → x ≡ y
-some-same x y same = cc
 
 -- The contents that could be in each sector are at least those from before.
 abbrev pub NoLess : Entry → Type 0
@@ -70,7 +68,7 @@ seen-grows d id first count honest =
       honest_before = honest;
       honest = λ s v at. could-grown d (Seen id first out) d.held s v
           (seen-there (sector_in first out s) (list_any (is_of_another id) (open_writes (past d.log) s)) (could_after d.start (past d.log) s) v
-          (λ w shown. some-same w v (sym (range-held first count d.held s w shown) ∙ at)) (honest s v at));
+          (λ w shown. same_Some w v (sym (range-held first count d.held s w shown) ∙ at)) (honest s v at));
     }
 
 -- A write of a ticket in flight is carried out.
@@ -85,7 +83,7 @@ module _ (d : Disk) (t : Ticket) (content : List Sector) (size : length content 
 
   calm-kept : (s : ℕ) → IsUnwrittenAt d s → slice_get written s ≡ slice_get d.held s
   calm-kept s calm =
-      elim (cases-sector (sector_in t.first content s)) [
+      elim (cases_option (sector_in t.first content s)) [
         | inl none ↦ over-off t.first content d.held s room none
         | inr some ↦ let o = only_open s some.0 some.1 in let alone = o.alone in absurd (let e = sym calm ∙ alone in cc)
       ]
@@ -101,9 +99,9 @@ module _ (d : Disk) (t : Ticket) (content : List Sector) (size : length content 
     others = λ s before after. calm-kept s before;
     honest_before = honest;
     honest = λ s v at. could-grown d e written s v
-        (elim (cases-sector (sector_in t.first content s)) [
+        (elim (cases_option (sector_in t.first content s)) [
           | inl none ↦ off s v none (honest s v (sym (over-off t.first content d.held s room none) ∙ at))
-          | inr some ↦ let same : some.0 ≡ v = some-same some.0 v (sym (over-at t.first content d.held s some.0 (omega (arith, room)) some.1) ∙ at) in
+          | inr some ↦ let same : some.0 ≡ v = same_Some some.0 v (sym (over-at t.first content d.held s some.0 (omega (arith, room)) some.1) ∙ at) in
               subst (λ (x : Sector). Contains (could_after d.start (past d.log ▸ e) s) x) same (on s some.0 some.1 (only_open s some.0 some.1))
         ]);
   }

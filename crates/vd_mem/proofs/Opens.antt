@@ -5,13 +5,15 @@ use Rattle.std.specs.Option.{option_to_list}
 use Rattle.std.specs.List.{Contains, filter, find, list_any}
 use Rattle.std.proofs.lemmas.List.{append-nil, take-append-le}
 use Rattle.std.proofs.lemmas.List.Elements.{Contains-append_left}
+use Rattle.std.proofs.lemmas.Bool.{cases_Bool}
+use Rattle.vd_lists.proofs.Places.{slice_get_front}
 use Rattle.vd_law.specs.declared.entry.Sector.{Sector}
 use Rattle.vd_law.specs.declared.entry.CallId.{CallId}
 use Rattle.vd_law.specs.Entries.{Entry, Ask, Issue, Done, Broke, Seen, Reply, call_of, same_call, Past, ◌▸◌, past}
 use Rattle.vd_law.specs.Calls.{progress, before_ask}
 use Rattle.vd_law.specs.Contents.{sector_in, issued_contents, Open, open_after_issue, is_of, is_of_another, open_writes, contents_after_done, contents_after_seen, could_after}
 use Rattle.vd_law.proofs.Appending.{past-push}
-use Rattle.vd_law.proofs.Opening.{same_call-refl, same_call-is, case}
+use Rattle.vd_law.proofs.Opening.{same_call-refl, same_call-is}
 use Rattle.vd_law.proofs.OpenLaws.{progress-other}
 use Rattle.vd_device.specs.declared.ticket.Ticket.{Ticket}
 use Rattle.vd_device.specs.declared.ticket.Kind.{Kind}
@@ -19,10 +21,9 @@ use Rattle.vd_device.specs.declared.ticket.Kind.TheVariants.{Read, Write, Flush}
 use Rattle.vd_device.specs.Tickets.{ticket_id}
 use Rattle.vd_mem.specs.Flying.{IsOnlyOpen, IsLoggedAs}
 use Rattle.vd_mem.proofs.Sectors.{sector-range}
-use Rattle.vd_faults.proofs.Getting.{get-first}
 
 pub other-call : (a b : CallId) → (a ≡ b → ⊥) → same_call a b ≡ false
-other-call a b apart = elim (case (same_call a b)) [ inl same ↦ absurd (apart (same_call-is a b same)) | inr other ↦ other ]
+other-call a b apart = elim (cases_Bool (same_call a b)) [ inl same ↦ absurd (apart (same_call-is a b same)) | inr other ↦ other ]
 
 pub turned : (a b : CallId) → same_call a b ≡ false → same_call b a ≡ false
 turned a b other = other-call b a (λ same. let here = ap (same_call a) same ∙ same_call-refl a in cc)
@@ -88,7 +89,7 @@ stands-kept Read start log e t other placed off stands = tt
 stands-kept Write start log e t other placed off stands = record {
   content = stands.content;
   size = stands.size;
-  issue = get-first log (e ∷ []) t.mark placed ∙ stands.issue;
+  issue = slice_get_front log (e ∷ []) t.mark placed ∙ stands.issue;
   only_open = λ s v at. let range = sector-range t.first stands.content s v at in
       subst (λ (p : Past). IsOnlyOpen start p (ticket_id t) s v) (sym (past-push log e))
       (open-kept start (past log) e (ticket_id t) s v other (off refl s range.0 (omega (arith, range.1, stands.size))) (stands.only_open s v at));

@@ -3,17 +3,17 @@ use Rattle.std.proofs.Common.{◌≡◌, ℕ, ◌+◌, ◌-◌, ◌<◌, ◌≤�
 use Rattle.std.specs.Prelude.{slice_get, slice_range, if◌then◌else◌}
 use Rattle.std.proofs.lemmas.Bool.Decides.{leb_tells}
 use Rattle.std.proofs.lemmas.List.{length-take}
-use Rattle.std.proofs.lemmas.Option.{slice_get_cases}
+use Rattle.std.proofs.lemmas.Option.{slice_get_cases, slice_get_within}
+use Rattle.vd_lists.proofs.Places.{slice_get_front, slice_get_back, slice_get_take, slice_get_drop}
 use Rattle.vd_law.specs.declared.entry.Sector.{Sector}
 use Rattle.vd_law.specs.Contents.{sector_in}
-use Rattle.vd_law.proofs.Sectors.{sector_in-place, slice_get-inside}
+use Rattle.vd_law.proofs.Sectors.{sector_in-place}
 use Rattle.vd_mem.specs.StoreState.{over_at}
-use Rattle.vd_faults.proofs.Getting.{get-take, get-drop, get-first, get-second}
 
 -- a content has a sector exactly in its range
 pub sector-range : (first : ℕ) (content : List Sector) (s : ℕ) (v : Sector) → sector_in first content s ≡ Some v → (first ≤ s) × (s < first + length content)
 sector-range first content s v at =
-    let place = sector_in-place first content s v at in let inside = slice_get-inside content (s - first) v place.1 in
+    let place = sector_in-place first content s v at in let inside = slice_get_within content (s - first) v place.1 in
     (place.0, omega (arith, place.0, inside))
 
 pub sector-none : (first : ℕ) (content : List Sector) (s : ℕ) → sector_in first content s ≡ None → (s < first) ⊎ (first + length content ≤ s)
@@ -33,8 +33,8 @@ took held first fits = omega (arith, length-take {A = Sector} first held)
 pub over-at : (first : ℕ) (content held : List Sector) (s : ℕ) (v : Sector) → first ≤ length held → sector_in first content s ≡ Some v → slice_get (over_at first content held) s ≡ Some v
 over-at first content held s v fits at =
     let range = sector-range first content s v at in let front = took held first fits in
-    get-second (take first held) _ s (omega (arith, range.0))
-    ∙ get-first content _ (s - length (take first held)) (omega (arith, range.0, range.1))
+    slice_get_back (take first held) _ s (omega (arith, range.0))
+    ∙ slice_get_front content _ (s - length (take first held)) (omega (arith, range.0, range.1))
     ∙ (let e : s - length (take first held) ≡ s - first = omega arith in ap (slice_get content) e)
     ∙ (sector_in-place first content s v at).1
 
@@ -42,12 +42,12 @@ pub over-off : (first : ℕ) (content held : List Sector) (s : ℕ) → first + 
 over-off first content held s fits none =
     let front = took held first (omega arith) in
     elim (sector-none first content s none) [
-      | inl before ↦ get-first (take first held) _ s (omega arith) ∙ get-take held first s before
-      | inr beyond ↦ get-second (take first held) _ s (omega arith)
-          ∙ get-second content _ (s - length (take first held)) (omega arith)
-          ∙ get-drop (drop first held) (length content) (s - length (take first held) - length content)
-          ∙ get-drop held first (s - length (take first held) - length content + length content)
-          ∙ (let e : s - length (take first held) - length content + length content + first ≡ s = omega arith in ap (slice_get held) e)
+      | inl before ↦ slice_get_front (take first held) _ s (omega arith) ∙ slice_get_take first held s before
+      | inr beyond ↦ slice_get_back (take first held) _ s (omega arith)
+          ∙ slice_get_back content _ (s - length (take first held)) (omega arith)
+          ∙ slice_get_drop (length content) (drop first held) (s - length (take first held) - length content)
+          ∙ slice_get_drop first held (length content + (s - length (take first held) - length content))
+          ∙ (let e : first + (length content + (s - length (take first held) - length content)) ≡ s = omega arith in ap (slice_get held) e)
     ]
 
 pub over-length : (first : ℕ) (content held : List Sector) → first + length content ≤ length held → length (over_at first content held) ≡ length held
@@ -60,7 +60,7 @@ pub range-held : (first count : ℕ) (held : List Sector) (s : ℕ) (v : Sector)
 range-held first count held s v at =
     let place = sector_in-place first (slice_range held first (first + count)) s v at in
     let size : (first + count) - first ≡ count = omega arith in
-    let inside = slice_get-inside (take ((first + count) - first) (drop first held)) (s - first) v place.1 in
+    let inside = slice_get_within (take ((first + count) - first) (drop first held)) (s - first) v place.1 in
     let below : s - first < count = omega (arith, inside, length-take {A = Sector} ((first + count) - first) (drop first held)) in
-    let back : s - first + first ≡ s = omega (arith, place.0) in
-    sym (ap (slice_get held) back) ∙ sym (get-drop held first (s - first)) ∙ sym (get-take (drop first held) ((first + count) - first) (s - first) (omega (arith, below))) ∙ place.1
+    let back : first + (s - first) ≡ s = omega (arith, place.0) in
+    sym (ap (slice_get held) back) ∙ sym (slice_get_drop first held (s - first)) ∙ sym (slice_get_take ((first + count) - first) (drop first held) (s - first) (omega (arith, below))) ∙ place.1

@@ -5,6 +5,9 @@ use Rattle.std.specs.Option.{option_to_list}
 use Rattle.std.specs.List.{Contains}
 use Rattle.std.proofs.lemmas.List.{take_at}
 use Rattle.std.proofs.lemmas.List.Elements.{Contains-push}
+use Rattle.std.proofs.lemmas.Bool.{cond_both}
+use Rattle.vd_lists.proofs.Places.{slice_get_last}
+use Rattle.vd_lists.proofs.Options.{cases_option}
 use Rattle.vd_law.specs.declared.entry.Sector.{Sector}
 use Rattle.vd_law.specs.declared.entry.CallId.{CallId}
 use Rattle.vd_law.specs.Entries.{Read as Asks_read, Flush as Asks_flush, Entry, call_of, Past, ◌▸◌, past}
@@ -27,7 +30,7 @@ use Rattle.vd_mem.specs.StoreState.{MemStoreState, StillRuns, disk_of, can_add, 
 use Rattle.vd_mem.specs.Flying.{IsOnlyOpen, IsLoggedAs, AreCalls, IsTicketWithin, Flies}
 use Rattle.vd_mem.specs.Sound.{IsSoundMemStore}
 use Rattle.vd_mem.specs.Devices.{mem_store}
-use Rattle.vd_faults.proofs.Choosing.{choose, takes-runs, stopped-over}
+use Rattle.vd_faults.proofs.Choosing.{takes-runs, stopped-over}
 use Rattle.vd_mem.proofs.Taking.{Took, takes}
 use Rattle.vd_mem.proofs.Flights.{all-put, put-length}
 use Rattle.vd_mem.proofs.Sectors.{sector-range}
@@ -35,7 +38,6 @@ use Rattle.vd_mem.proofs.Opens.{IsOff}
 use Rattle.vd_mem.proofs.Flying.{grown, IsOffOthers, writes-asked, writes-issued, free-closed, calls-put}
 use Rattle.vd_mem.proofs.Honest.{kept-grows, ask-more, issue-more}
 use Rattle.vd_mem.proofs.Orders.{Follows, order-push}
-use Rattle.vd_faults.proofs.Getting.{get-push, cases-sector}
 
 -- the first entry of a call of this kind
 abbrev pub Begins : Kind → MemStoreState → Ticket → Entry → Type 0
@@ -71,7 +73,7 @@ off : (k : Kind) (m : MemStoreState) (t : Ticket) (e : Entry) → StillRuns m �
 off Read m t e runs is s busy = subst (λ (x : Entry). IsOff x s) (sym is) tt
 off Write m t e runs is s busy =
     subst (λ (x : Entry). IsOff x s) (sym is.2)
-    (elim (cases-sector (sector_in t.first is.0 s)) [
+    (elim (cases_option (sector_in t.first is.0 s)) [
       | inl none ↦ none
       | inr some ↦ let range = sector-range t.first is.0 s some.0 some.1 in
           absurd (busy (closed m t.first t.count runs is.3 s range.0 (omega (arith, range.1, is.1))))
@@ -105,7 +107,7 @@ stands Write m t e runs mark is =
     record {
       content = is.0;
       size = is.1;
-      issue = ap (slice_get (log ++ e ∷ [])) mark ∙ get-push log e ∙ ap (λ (x : Entry). Some x) is.2;
+      issue = ap (slice_get (log ++ e ∷ [])) mark ∙ slice_get_last log e ∙ ap (λ (x : Entry). Some x) is.2;
       only_open = λ s v at. let range = sector-range t.first is.0 s v at in
           subst (λ (p : Past). IsOnlyOpen m.start p (ticket_id t) s v) (sym (past-push log e))
           (subst (λ (x : Entry). IsOnlyOpen m.start (past log ▸ x) (ticket_id t) s v) (sym is.2)
@@ -156,19 +158,19 @@ module _ (m : MemStoreState) (t : Ticket) (e : Entry) (submit : IsSubmit m t e) 
   submit-puts others all among flight =
       let count : m.flying + 1 ≡ length all = omega (arith, flight.many, put-length t others all among) in
       let range = all-put (IsTicketWithin (length m.start)) t others all among flight.within submit.within in
-      choose (λ (m' : MemStoreState). Flies m' all) (can_add m e) in_log stopped
+      cond_both (can_add m e) in_log stopped (λ (m' : MemStoreState). Flies m' all)
       (λ can. record { many = count; within = range; calls = λ runs. calls others all among runs flight })
       (λ full. record { many = count; within = range; calls = λ runs. stopped-over m.over runs })
 
   pub submit-adds : StillRuns (submitted e m) → Adds e (disk_of m) (disk_of (submitted e m))
   submit-adds =
-      choose (λ (m' : MemStoreState). StillRuns m' → Adds e (disk_of m) (disk_of m')) (can_add m e) in_log stopped
+      cond_both (can_add m e) in_log stopped (λ (m' : MemStoreState). StillRuns m' → Adds e (disk_of m) (disk_of m'))
       (λ can runs. grows t.kind m t e submit.begins (sound.told runs).honest)
       (λ full runs. stopped-over m.over runs)
 
   pub submit-took : Took (e ∷ []) m (submitted e m)
   submit-took =
-      choose (λ (m' : MemStoreState). Took (e ∷ []) m m') (can_add m e) in_log stopped
+      cond_both (can_add m e) in_log stopped (λ (m' : MemStoreState). Took (e ∷ []) m m')
       (λ can. let runs = takes-runs m.log m.fuse m.over e can in
       inl (record { before = runs; after = runs; grows = grows t.kind m t e submit.begins (sound.told runs).honest }))
       (λ full. inr (record { start = refl; log = refl; over = refl }))
@@ -178,14 +180,14 @@ module _ (m : MemStoreState) (t : Ticket) (e : Entry) (submit : IsSubmit m t e) 
 
   pub submit-sound : length (submitted e m).log.entries < 2 ^ 63 → IsSoundMemStore (submitted e m)
   submit-sound short = record {
-    size = choose (λ (m' : MemStoreState). length m'.held ≡ length m'.start) (can_add m e) in_log stopped (λ can. sound.size) (λ full. sound.size);
+    size = cond_both (can_add m e) in_log stopped (λ (m' : MemStoreState). length m'.held ≡ length m'.start) (λ can. sound.size) (λ full. sound.size);
     short = short;
     told = λ runs. record {
-      numbers = choose (λ (m' : MemStoreState). StillRuns m' → m'.last ≤ length m'.log.entries) (can_add m e) in_log stopped
+      numbers = cond_both (can_add m e) in_log stopped (λ (m' : MemStoreState). StillRuns m' → m'.last ≤ length m'.log.entries)
           (λ can now. omega (arith, (sound.told now).numbers, length-append m.log.entries (e ∷ [])))
           (λ full now. stopped-over m.over now) runs;
       honest = (submit-adds runs).honest;
-      order = choose (λ (m' : MemStoreState). StillRuns m' → IsInOrder (disk_of m')) (can_add m e) in_log stopped
+      order = cond_both (can_add m e) in_log stopped (λ (m' : MemStoreState). StillRuns m' → IsInOrder (disk_of m'))
           (λ can now. order-push (disk_of m) e m.held (sound.told now).order (follows t.kind m t e now submit.within submit.begins))
           (λ full now. stopped-over m.over now) runs;
     };

@@ -2,7 +2,7 @@
 use Rattle.std.proofs.Common.{◌≡◌, ℕ, ◌+◌, ◌<◌, ◌≤◌, ◌==◌, Bool, true, false, List, [], ◌∷◌, ◌++◌, length, refl, sym, ◌∙◌, ap, subst, inl, inr, arith, Option, Some, slice_get, slice_set}
 use Rattle.std.specs.Prelude.{◌-◌, IsSome, if◌then◌else◌, replicate, slice_range}
 use Rattle.std.specs.List.{All, AllByRecursion, fold}
-use Rattle.std.proofs.lemmas.Bool.{eqb-true, eq-eqb, cases_lt}
+use Rattle.std.proofs.lemmas.Bool.{eqb-true, eq-eqb, cases_lt, cases_Bool}
 use Rattle.std.proofs.lemmas.Option.{slice_get_within, slice_get_cases}
 use Rattle.std.proofs.lemmas.List.{append_assoc}
 use Rattle.std.proofs.lemmas.List.Elements.{All-nil, All-head, All-tail, All-push}
@@ -13,7 +13,7 @@ use Rattle.vd_law.specs.declared.entry.Answer.TheVariants.{Full}
 use Rattle.vd_law.specs.Entries.{Asked, Entry, Ask, Issue, Done, Broke, Seen, Reply, call_of, same_call, Past, nothing, ◌▸◌, past}
 use Rattle.vd_law.specs.Calls.{Progress, no_progress, progress, last_call}
 use Rattle.vd_law.specs.Rules.{Each, IsInTurn, IsUnderWay, IsRegular}
-use Rattle.vd_law.proofs.Opening.{same_call-is, case}
+use Rattle.vd_law.proofs.Opening.{same_call-is}
 use Rattle.vd_law.proofs.OpenLaws.{progress-other}
 use Rattle.vd_law.proofs.CallLaws.{fresh-call}
 use Rattle.vd_device.specs.declared.ticket.Ticket.{Ticket}
@@ -45,7 +45,7 @@ not-asked p id none asked = let impossible : IsSome no_progress.asked = subst (�
 
 -- a call that is under way is none of those that have no entry
 other-asked : (p : Past) (c id : CallId) → IsUnderWay (progress p c) → progress p id ≡ no_progress → same_call c id ≡ false
-other-asked p c id under_way none = elim (case (same_call c id)) [
+other-asked p c id under_way none = elim (cases_Bool (same_call c id)) [
   | inl same ↦ absurd (not-asked p id none (subst (λ (d : CallId). IsAsked p d) (same_call-is c id same) under_way.asked))
   | inr other ↦ other
 ]
@@ -69,7 +69,7 @@ zero-call size (p ▸ Reply c answer) each id zero = let before = zero-call size
 
 -- an entry of a call that is under way leaves the calls that have their Reply
 still-answered : (p : Past) (e : Entry) (id : CallId) → IsUnderWay (progress p (call_of e)) → (IsAsked p id → HasReply p id) → IsAsked (p ▸ e) id → HasReply (p ▸ e) id
-still-answered p e id under_way before asked = elim (case (same_call (call_of e) id)) [
+still-answered p e id under_way before asked = elim (cases_Bool (same_call (call_of e) id)) [
   | inl same ↦ (let is = same_call-is (call_of e) id same in
       let yes : HasReply p id = before (subst (λ (d : CallId). IsAsked p d) is under_way.asked) in
       let no : (progress p id).answered ≡ false = ap (λ (d : CallId). (progress p d).answered) (sym is) ∙ under_way.unanswered in absurd (cc))
@@ -91,7 +91,7 @@ up-to-last size p each id last earlier within asked = elim (cases_lt id.call (la
 earlier-answered : (size : ℕ) (p : Past) → Each (IsInTurn size) p → (id : CallId) → id.call < last_call p id.pass → IsAsked p id → HasReply p id
 earlier-answered size nothing each id less asked = absurd (omega arith)
 earlier-answered size (p ▸ Ask c request) each id less asked =
-    elim (case (c.pass == id.pass)) [
+    elim (cases_Bool (c.pass == id.pass)) [
       | inl same ↦ (let below : id.call < c.call = subst (λ (b : Bool). id.call < (if b then c.call else last_call p id.pass)) same less in
           let is : c.pass ≡ id.pass = eqb-true c.pass id.pass same in
           let number : c.call ≡ last_call p id.pass + 1 = each.1.0.number ∙ ap (λ (i : ℕ). last_call p i + 1) is in
@@ -143,7 +143,7 @@ OfFirst n e = (call_of e).pass < n
 
 none-of : (n : ℕ) (p : Past) → Each (λ q. OfFirst n) p → (i : ℕ) → n ≤ i → last_call p i ≡ 0
 none-of n nothing each i past_it = refl
-none-of n (p ▸ Ask c request) each i past_it = elim (case (c.pass == i)) [
+none-of n (p ▸ Ask c request) each i past_it = elim (cases_Bool (c.pass == i)) [
   | inl same ↦ (let is = eqb-true c.pass i same in let less = each.1 in absurd (omega arith))
   | inr differ ↦ ap (λ (b : Bool). if b then c.call else last_call p i) differ ∙ none-of n p each.0 i past_it
 ]
@@ -258,7 +258,7 @@ IsOfAnother id e = same_call (call_of e) id ≡ false
 
 fresh-past : (size : ℕ) (p : Past) → Each (IsInTurn size) p → (id : CallId) → last_call p id.pass < id.call → Each (λ q. IsOfAnother id) p
 fresh-past size nothing each id above = tt
-fresh-past size (p ▸ Ask c request) each id above = elim (case (c.pass == id.pass)) [
+fresh-past size (p ▸ Ask c request) each id above = elim (cases_Bool (c.pass == id.pass)) [
   | inl same ↦ (let asked_last : c.call < id.call = subst (λ (b : Bool). (if b then c.call else last_call p id.pass) < id.call) same above in
       let one_pass : last_call p c.pass ≡ last_call p id.pass = ap (last_call p) (eqb-true c.pass id.pass same) in
       (fresh-past size p each.0 id (omega (arith, asked_last, one_pass, each.1.0.number)), apart-call c id (λ e. absurd (omega (arith, e, asked_last)))))

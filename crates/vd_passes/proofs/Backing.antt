@@ -1,18 +1,19 @@
 -- The base, and zeros behind its tracked part, are what a disk is where nothing of it is local.
 use Rattle.std.proofs.Common.{◌≡◌, ℕ, ◌+◌, ◌-◌, min, List, ◌++◌, length, replicate, sym, ◌∙◌, ap, arith, Some, slice_get}
 use Rattle.std.proofs.lemmas.List.FromFn.{length-map-range_with_len}
+use Rattle.std.proofs.lemmas.Option.{slice_get_within}
+use Rattle.vd_lists.proofs.Places.{slice_get_run}
 use Rattle.vd_law.specs.declared.entry.Sector.{Sector}
-use Rattle.vd_law.proofs.Sectors.{slice_get-inside, sector_in-place}
+use Rattle.vd_law.proofs.Sectors.{sector_in-place}
 use Rattle.vd_format.proofs.BackgroundLaws.{two_parts}
 use Rattle.vd_passes.specs.Laying.{count_below, Backs}
 use Rattle.vd_passes.proofs.Lists.{some-inj}
 use Rattle.vd_format.specs.Background.{zero_sector, background_of, background_run}
-use Rattle.vd_lists.proofs.Lists.{slice_get_run}
 
 run-is : (content : List Sector) (tracked first count k : ℕ) (v : Sector) → slice_get (background_run content tracked first count) k ≡ Some v → v ≡ background_of content tracked (first + k)
 unfolding background_run
 run-is content tracked first count k v at =
-    let inside = slice_get-inside (background_run content tracked first count) k v at in
+    let inside = slice_get_within (background_run content tracked first count) k v at in
     let long = length-map-range_with_len (background_of content tracked) first count in
     some-inj (sym at ∙ slice_get_run (background_of content tracked) first count k (omega (arith, inside, long)))
 

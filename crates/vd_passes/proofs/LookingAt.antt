@@ -1,8 +1,7 @@
 -- A pass begins to read its piece, or sees it, or a device has failed it.
 use Rattle.std.proofs.Common.{◌≡◌, ◌≢◌, ℕ, ◌+◌, ◌*◌, ◌<◌, Bool, true, false, List, length, refl, sym, ◌∙◌, ap, subst, inl, inr, arith, Option, Some, slice_get, slice_set}
 use Rattle.vd_law.specs.declared.entry.Sector.{Sector}
-use Rattle.vd_law.specs.Entries.{Entry, Seen}
-use Rattle.vd_law.specs.Entries.{Read as AsksRead}
+use Rattle.vd_law.specs.Entries.{Entry, Seen, Read as AsksRead}
 use Rattle.vd_device.specs.declared.ticket.Ticket.{Ticket}
 use Rattle.vd_device.specs.declared.ticket.Kind.TheVariants.{Read as ReadKind}
 use Rattle.vd_device.specs.Tickets.{ticket_id, Puts}

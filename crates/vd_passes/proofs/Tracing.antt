@@ -2,6 +2,7 @@
 use Rattle.std.proofs.Common.{◌≡◌, ◌≢◌, ℕ, zero, suc, ◌+◌, ◌<◌, ◌≤◌, ◌⊎◌, Bool, true, false, if◌then◌else◌, List, [], ◌∷◌, ◌++◌, length, refl, sym, ◌∙◌, ap, subst, inl, inr, arith, length-append, append-nil, Some, None, slice_get, slice_set}
 use Rattle.std.specs.Prelude.{nat_lt}
 use Rattle.std.proofs.lemmas.Option.{slice_get_within}
+use Rattle.vd_lists.proofs.Places.{slice_get_front}
 use Rattle.vd_law.specs.declared.entry.Sector.{Sector}
 use Rattle.vd_law.specs.declared.entry.CallId.{CallId}
 use Rattle.vd_law.specs.declared.entry.Answer.TheVariants.{StoreFault}
@@ -19,7 +20,6 @@ use Rattle.vd_passes.specs.Tracing.{IsFailure, FailsBetween, IsReadIn, IsIssueAt
 use Rattle.vd_passes.specs.Following.{IsAsked, IsFollowedPass, IsFollowed}
 use Rattle.vd_passes.proofs.Lists.{some-inj, at-set}
 use Rattle.vd_passes.proofs.Regions.{request-kept}
-use Rattle.vd_lists.proofs.Lists.{slice_get_front}
 
 -- Lists that grow at their ends.
 

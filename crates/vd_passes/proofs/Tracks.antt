@@ -5,7 +5,8 @@ use Rattle.std.specs.List.{Contains, filter, find, list_any}
 use Rattle.std.specs.Option.{option_to_list}
 use Rattle.std.proofs.lemmas.Bool.Decides.{leb_tells}
 use Rattle.std.proofs.lemmas.List.Elements.{Contains-push, Contains-push_cases}
-use Rattle.std.proofs.lemmas.Option.{slice_get_cases}
+use Rattle.std.proofs.lemmas.Option.{slice_get_cases, slice_get_within}
+use Rattle.std.proofs.lemmas.Bool.{cases_Bool}
 use Rattle.vd_law.specs.declared.entry.Sector.{Sector}
 use Rattle.vd_law.specs.declared.entry.CallId.{CallId}
 use Rattle.vd_law.specs.declared.entry.Answer.{Answer}
@@ -13,8 +14,8 @@ use Rattle.vd_law.specs.Entries.{Asked, Entry, Ask, Issue, Done, Broke, Seen, Re
 use Rattle.vd_law.specs.Contents.{sector_in, issued_contents, Open, open_after_issue, is_of, is_of_another, open_write, could, could_after, open_writes, contents_after_seen}
 use Rattle.vd_law.specs.Contents as contents
 use Rattle.vd_law.proofs.Appending.{past-push}
-use Rattle.vd_law.proofs.Opening.{same_call-refl, same_call-is, case}
-use Rattle.vd_law.proofs.Sectors.{slice_get-inside, sector_in-place}
+use Rattle.vd_law.proofs.Opening.{same_call-refl, same_call-is}
+use Rattle.vd_law.proofs.Sectors.{sector_in-place}
 use Rattle.vd_device.specs.Disks.{Disk, Adds, GrowsBy}
 use Rattle.vd_passes.specs.Tracks.{Track, content_by, track, writes, writes_without, contents_with_done, contents_with_seen, track_after_issue, track_after_seen, follow}
 
@@ -30,21 +31,21 @@ same-track {contents} {contents'} {writes} {writes'} c w = ap (λ (x : List Sect
 
 map-closed : (id : CallId) (ws : List Open) → map content_by (filter (is_of_another id) ws) ≡ writes_without id (map content_by ws)
 map-closed id [] = refl
-map-closed id (w ∷ ws) = elim (case (same_call w.call id)) [
+map-closed id (w ∷ ws) = elim (cases_Bool (same_call w.call id)) [
   | inl own ↦ rw own (map-closed id ws)
   | inr other ↦ rw other (ap (λ (x : List (CallId × Sector)). (w.call, w.content) ∷ x) (map-closed id ws))
 ]
 
 map-settled : (id : CallId) (ws : List Open) (cs : List Sector) → contents.contents_after_done (find (is_of id) ws) cs ≡ contents_with_done id (map content_by ws) cs
 map-settled id [] cs = refl
-map-settled id (w ∷ ws) cs = elim (case (same_call w.call id)) [
+map-settled id (w ∷ ws) cs = elim (cases_Bool (same_call w.call id)) [
   | inl own ↦ rw own refl
   | inr other ↦ rw other (map-settled id ws cs)
 ]
 
 map-seen : (id : CallId) (v : Sector) (ws : List Open) (cs : List Sector) → (if list_any (is_of_another id) ws then cs else v ∷ []) ≡ contents_with_seen v (writes_without id (map content_by ws)) cs
 map-seen id v [] cs = refl
-map-seen id v (w ∷ ws) cs = elim (case (same_call w.call id)) [
+map-seen id v (w ∷ ws) cs = elim (cases_Bool (same_call w.call id)) [
   | inl own ↦ rw own (map-seen id v ws cs)
   | inr other ↦ rw other refl
 ]
@@ -132,7 +133,7 @@ pub same-itself : (a : CallId) → same_call a a ≡ true
 same-itself a = same_call-refl a
 
 pub same-false : (a b : CallId) → (a.pass ≡ b.pass → a.call ≡ b.call → ⊥) → same_call a b ≡ false
-same-false a b ne = elim (case (same_call a b)) [ inl h ↦ (let e = same_call-is a b h in absurd (ne (ap (λ (x : CallId). x.pass) e) (ap (λ (x : CallId). x.call) e))) | inr h ↦ h ]
+same-false a b ne = elim (cases_Bool (same_call a b)) [ inl h ↦ (let e = same_call-is a b h in absurd (ne (ap (λ (x : CallId). x.pass) e) (ap (λ (x : CallId). x.call) e))) | inr h ↦ h ]
 
 -- Where a content has a sector.
 pub cases-at : (first : ℕ) (content : List Sector) (s : ℕ) → (sector_in first content s ≡ None) ⊎ ((c : Sector) × (sector_in first content s ≡ Some c))
@@ -151,7 +152,7 @@ at-inside first content s from to = elim (cases-at first content s) [
 ]
 
 pub at-range : (first : ℕ) (content : List Sector) (s : ℕ) (c : Sector) → sector_in first content s ≡ Some c → (first ≤ s) × (s < first + length content)
-at-range first content s c h = let place = sector_in-place first content s c h in let inside = slice_get-inside content (s - first) c place.1 in (place.0, omega (arith, place.0, inside))
+at-range first content s c h = let place = sector_in-place first content s c h in let inside = slice_get_within content (s - first) c place.1 in (place.0, omega (arith, place.0, inside))
 
 pub at-some : (first : ℕ) (content : List Sector) (s : ℕ) (c : Sector) → sector_in first content s ≡ Some c → slice_get content (s - first) ≡ Some c
 at-some first content s c h = (sector_in-place first content s c h).1

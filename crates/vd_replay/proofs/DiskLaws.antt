@@ -1,5 +1,5 @@
 -- The guest's disk, run by run.
-use Rattle.std.proofs.Common.{ℕ, ◌≡◌, ◌+◌, ◌-◌, ◌/◌, ◌<◌, ◌≤◌, inl, inr, Bool, true, false, List, length, replicate, take, drop, Option, Some, refl, ap, sym, ◌∙◌, subst, arith}
+use Rattle.std.proofs.Common.{ℕ, ◌≡◌, ◌+◌, ◌-◌, ◌/◌, ◌<◌, ◌≤◌, inl, inr, Bool, true, false, List, length, replicate, take, drop, Some, refl, ap, sym, ◌∙◌, subst, arith}
 use Rattle.std.specs.Prelude.{slice_get, if◌then◌else◌}
 use Rattle.std.proofs.lemmas.Bool.{cases_lt}
 use Rattle.std.proofs.lemmas.Option.{slice_get_within, get_or_from_slice_get}
@@ -24,10 +24,10 @@ use Rattle.vd_replay.specs.declared.disk.DiskFault.{DiskFault}
 use Rattle.vd_replay.specs.declared.disk.DiskFault.TheVariants as fault
 use Rattle.vd_replay.specs.declared.disk.Source.{Source}
 use Rattle.vd_replay.specs.declared.disk.Source.TheVariants.{Local, Background, Zeros}
-use Rattle.vd_replay.proofs.ListLaws.{get_copies, get_take}
 use Rattle.vd_replay.proofs.StateLaws.{storage_is, storage_from}
 use Rattle.vd_format.specs.Background.{zero_sector, base_at, background, background_of, background_run, count_in_base}
-use Rattle.vd_lists.proofs.Lists.{slice_get_run, slice_get_back}
+use Rattle.vd_lists.proofs.Places.{slice_get_take, slice_get_copied, slice_get_run, slice_get_back}
+use Rattle.vd_lists.proofs.Options.{same_option}
 
 -- ---- runs
 
@@ -112,7 +112,7 @@ read_background_run held content tracked first n source out is read = subst (λ 
 
 pub read_zeros : (held content : List Sector) (tracked first n : ℕ) (source : Source) (out : List Sector) → source ≡ Zeros → out ≡ replicate n zero_sector → ReadRun held content tracked source first out
 read_zeros held content tracked first n source out is read =
-    subst (λ (x : Source). ReadRun held content tracked x first out) (sym is) (record { each = λ i v at. sym (get_copies n zero_sector v i (ap (λ (xs : List Sector). slice_get xs i) (sym read) ∙ at)) })
+    subst (λ (x : Source). ReadRun held content tracked x first out) (sym is) (record { each = λ i v at. sym (slice_get_copied n zero_sector v i (ap (λ (xs : List Sector). slice_get xs i) (sym read) ∙ at)) })
 
 pub none_shown : (held content : List Sector) (s : State) (first : ℕ) (out : List Sector) → AreShown held content s first 0 out
 none_shown held content s first out = record { each = λ i v less. absurd (omega (arith, less)) }
@@ -146,9 +146,6 @@ part_length out n count inside =
     let b = length-drop n out in
     omega arith
 
-same_entry : (e x : Entry) (o : Option Entry) → o ≡ Some e → o ≡ Some x → e ≡ x
-same_entry e x o is also = cc
-
 disk_has : (held content : List Sector) (s : State) (n : ℕ) (v : Sector) (source : Source) → IsSized s → IsState (length held) (image_of held) s.header s → IsSource s n source → IsFrom held content s.header.tracked source n v
     → DiskHas (format_of s.header) (layout_of s.header) (base_at zero_sector content) zero_sector (image_of held) n v
 disk_has held content s n v source sized is = by_source source
@@ -166,7 +163,7 @@ disk_has held content s n v source sized is = by_source source
     maps e at =
         let within : c < chunks_of s.header = (let k = slice_get_within s.map c e at in let m = sized.map in omega arith) in
         let w = is.entries c within in
-        subst (λ (x : Entry). Maps (format_of s.header) (layout_of s.header) (image_of held) s.header.generation c (mapping_in s.header c x)) (same_entry w.entry e (slice_get s.map c) w.stands at) w.maps
+        subst (λ (x : Entry). Maps (format_of s.header) (layout_of s.header) (image_of held) s.header.generation c (mapping_in s.header c x)) (same_option w.entry e (slice_get s.map c) w.stands at) w.maps
 
     not_local : (e : Entry) → slice_get s.map c ≡ Some e → IsNotLocal s n → (p : ℕ) → IsLocalBy (mapping_in s.header c e) b p → ⊥
     not_local e at (inl down) p local = absurd (let up = (is.fresh b false down).1 (e, at, local.1) in cc)
@@ -187,7 +184,7 @@ disk_has held content s n v source sized is = by_source source
         let mask = (is.fresh b true where_is.0).0 refl in
         let p = where_is.1.0 in
         let store = (is.table c p).0 where_is.1.1 in
-        let same : store.0 ≡ mask.0 = same_entry store.0 mask.0 (slice_get s.map c) store.1 mask.1 in
+        let same : store.0 ≡ mask.0 = same_option store.0 mask.0 (slice_get s.map c) store.1 mask.1 in
         record {
           header = s.header;
           reads = is.opens.reads;
@@ -203,7 +200,7 @@ old_has held content s n v (Local at) is where_is from = absurd (is.table (n / s
 old_has held content s n v Background is where_is from = from
 old_has held content s n v Zeros is where_is from =
     let e = where_is.1.0 in
-    let same : empty_entry ≡ e = get_copies (chunks_of s.header) empty_entry e (n / s.header.block / s.header.chunk) (ap (λ (es : List Entry). slice_get es (n / s.header.block / s.header.chunk)) (sym is.map) ∙ where_is.1.1) in
+    let same : empty_entry ≡ e = slice_get_copied (chunks_of s.header) empty_entry e (n / s.header.block / s.header.chunk) (ap (λ (es : List Entry). slice_get es (n / s.header.block / s.header.chunk)) (sym is.map) ∙ where_is.1.1) in
     let k : false ≡ true = ap (λ (x : Entry). x.zeros) same ∙ where_is.1.2 in
     absurd cc
 
@@ -217,12 +214,12 @@ disk_is held content s first n out sized all shown says = record {
 
 pub part_front : (out part : List Sector) (n k i : ℕ) → n ≤ length out → i < n → slice_get (put_mid n k out part) i ≡ slice_get out i
 part_front out part n k i inside less =
-    sym (get_take n (put_mid n k out part) i less) ∙ ap (λ (xs : List Sector). slice_get xs i) (take-put_mid_below n k out part n (omega arith) inside) ∙ get_take n out i less
+    sym (slice_get_take n (put_mid n k out part) i less) ∙ ap (λ (xs : List Sector). slice_get xs i) (take-put_mid_below n k out part n (omega arith) inside) ∙ slice_get_take n out i less
 
 pub part_middle : (out part : List Sector) (n k count i : ℕ) → n ≤ length out → length part ≡ count → i < count → slice_get (put_mid n k out part) (n + i) ≡ slice_get part i
 part_middle out part n k count i inside size less =
     let front : length (take n out) ≡ n = length-take n out ∙ omega arith in
-    sym (get_take (n + count) (put_mid n k out part) (n + i) (omega arith)) ∙ ap (λ (xs : List Sector). slice_get xs (n + i)) (take-put_mid n k out part (n + count) (omega arith) inside)
+    sym (slice_get_take (n + count) (put_mid n k out part) (n + i) (omega arith)) ∙ ap (λ (xs : List Sector). slice_get xs (n + i)) (take-put_mid n k out part (n + count) (omega arith) inside)
     ∙ slice_get_back (take n out) part (n + i) (omega arith) ∙ ap (slice_get part) (omega arith)
 
 pub part_size : (out part : List Sector) (n count : ℕ) → n + count ≤ length out → length part ≡ count → length (put_mid n (n + count - n) out part) ≡ length out

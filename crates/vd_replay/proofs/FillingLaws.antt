@@ -1,5 +1,5 @@
 -- How a state is filled from what was read.
-use Rattle.std.proofs.Common.{ℕ, ◌≡◌, ◌*◌, Bool, true, false, ◌==◌, if◌then◌else◌, List, length, replicate, Option, Some, None, Result, Ok, Err, refl, ap, sym, ◌∙◌, subst, arith}
+use Rattle.std.proofs.Common.{ℕ, ◌≡◌, ◌*◌, Bool, true, ◌==◌, List, length, replicate, None, Result, Ok, Err, ap, sym, ◌∙◌, subst, arith}
 use Rattle.std.specs.Prelude.{⊤, IfErr, OnOk}
 use Rattle.std.proofs.lemmas.Bool.{eqb-true}
 use Rattle.vd_law.specs.declared.entry.Sector.{Sector}
@@ -26,6 +26,7 @@ use Rattle.vd_replay.specs.Fresh.{is_fresh}
 use Rattle.vd_replay.specs.States.{IsSized, StateSays}
 use Rattle.vd_replay.specs.Refusals.{IsValueOf, Unfilled}
 use Rattle.vd_replay.proofs.StateLaws.{bad_entry, bad_record, double_chunk, state_is, old_state_is, no_twins}
+use Rattle.vd_lists.proofs.Options.{test_passed}
 
 -- ---- what was read
 
@@ -122,10 +123,6 @@ says_void T (Err e) held s b says = tt
 
 -- ---- a header that was read again
 
-test_then : (b : Bool) (o : Option ℕ) (n : ℕ) → (if b then o else Some n) ≡ None → (b ≡ true) × (o ≡ None)
-test_then true o n is = (refl, is)
-test_then false o n is = absurd cc
-
 pub record IsSame (kept h : Header) : Type 0 where
   pub version : h.version ≡ kept.version
   pub block : h.block ≡ kept.block
@@ -137,12 +134,12 @@ pub record IsSame (kept h : Header) : Type 0 where
 pub same_fields : (kept h : Header) → first_changed kept h ≡ None → IsSame kept h
 unfolding first_changed
 same_fields kept h none =
-    let a = test_then (h.version == kept.version) _ 9 none in
-    let b = test_then (h.block == kept.block) _ 1 a.1 in
-    let c = test_then (h.chunk == kept.chunk) _ 2 b.1 in
-    let d = test_then (h.size == kept.size) _ 3 c.1 in
-    let e = test_then (h.storage == kept.storage) _ 4 d.1 in
-    let f = test_then (h.slots == kept.slots) _ 5 e.1 in
+    let a = test_passed (h.version == kept.version) 9 _ none in
+    let b = test_passed (h.block == kept.block) 1 _ a.1 in
+    let c = test_passed (h.chunk == kept.chunk) 2 _ b.1 in
+    let d = test_passed (h.size == kept.size) 3 _ c.1 in
+    let e = test_passed (h.storage == kept.storage) 4 _ d.1 in
+    let f = test_passed (h.slots == kept.slots) 5 _ e.1 in
     record {
       version = eqb-true h.version kept.version a.0;
       block = eqb-true h.block kept.block b.0;

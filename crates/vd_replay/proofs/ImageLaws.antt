@@ -1,7 +1,7 @@
 -- The grammar by which the map and the slots are read is that of an image.
 use Rattle.std.proofs.Common.{ℕ, ◌≡◌, ◌*◌, ◌/◌, ◌%◌, ◌==◌, ◌&&◌, ◌≤◌, Bool, true, false, if◌then◌else◌, List, length, Option, Some, None, refl, ap, sym, ◌∙◌, subst}
 use Rattle.std.specs.Option.{option_map}
-use Rattle.std.proofs.lemmas.Bool.{eqb-true, eq-eqb}
+use Rattle.std.proofs.lemmas.Bool.{eqb-true, eq-eqb, and_parts}
 use Rattle.vd_format.specs.Headers.{IsValid}
 use Rattle.vd_format.specs.Entries.{is_entry}
 use Rattle.vd_format.specs.Records.{Said as Slot, Nothing, Facts, Outside, said_by, slot_of, are_facts}
@@ -15,11 +15,6 @@ use Rattle.vd_image.proofs.Decoders.{entry_is_mapping}
 use Rattle.vd_image.proofs.Records.{facts_fit, read_record_is_facts}
 use Rattle.vd_replay.specs.Images.{image_of}
 use Rattle.vd_replay.specs.Pages.{area_at, chunk_entry, IsEntryInGrammar}
-
-both : (x y : Bool) → (x && y) ≡ true → (x ≡ true) × (y ≡ true)
-both true true h = (refl, refl)
-both true false h = absurd cc
-both false y h = absurd cc
 
 -- ---- the map
 
@@ -36,10 +31,10 @@ pub mapping_read : (h : Header) (held : List Sector) (c : ℕ) → has_kind (map
 mapping_read h held c kind = ap (λ (b : Bool). if b then Some (mapping_in h c (chunk_entry (map_of held h) c)) else None) kind
 
 pub good_kind : (h : Header) (held : List Sector) (c : ℕ) → IsEntryInGrammar (shape_of h) (map_of held h) c → has_kind (map_of held h (c / 32)).bytes (16 * (c % 32)) ≡ true
-good_kind h held c good = (both (is_entry (shape_of h) c (chunk_entry (map_of held h) c)) (has_kind (map_of held h (c / 32)).bytes (16 * (c % 32))) good).1
+good_kind h held c good = (and_parts (is_entry (shape_of h) c (chunk_entry (map_of held h) c)) (has_kind (map_of held h (c / 32)).bytes (16 * (c % 32))) good).1
 
 pub good_entry : (h : Header) (held : List Sector) (c : ℕ) → IsEntryInGrammar (shape_of h) (map_of held h) c → IsEntry (shape_of h) c (chunk_entry (map_of held h) c)
-good_entry h held c good = entry_grammar (shape_of h) c (chunk_entry (map_of held h) c) (both (is_entry (shape_of h) c (chunk_entry (map_of held h) c)) (has_kind (map_of held h (c / 32)).bytes (16 * (c % 32))) good).0
+good_entry h held c good = entry_grammar (shape_of h) c (chunk_entry (map_of held h) c) (and_parts (is_entry (shape_of h) c (chunk_entry (map_of held h) c)) (has_kind (map_of held h (c / 32)).bytes (16 * (c % 32))) good).0
 
 pub good_mapping : (h : Header) (held : List Sector) (c : ℕ) → IsValid h → IsEntryInGrammar (shape_of h) (map_of held h) c → IsGoodMapping (format_of h) (layout_of h) (image_of held) c
 good_mapping h held c valid good =

@@ -1,10 +1,8 @@
 -- The slots of the journal, fact by fact and slot by slot.
 use Rattle.std.proofs.Common.{ℕ, zero, suc, ◌≡◌, ◌+◌, ◌-◌, ◌<◌, ◌≤◌, inl, inr, List, [], ◌∷◌, ◌++◌, length, take, Some, refl, ap, sym, ◌∙◌, subst, arith}
 use Rattle.std.specs.Prelude.{slice_get, slice_set}
-use Rattle.std.specs.List.{All}
 use Rattle.std.proofs.lemmas.Bool.{cases_lt, cases_eq}
 use Rattle.std.proofs.lemmas.List.{length-set, append-nil}
-use Rattle.std.proofs.lemmas.Option.{slice_get_within, get_or_from_slice_get}
 use Rattle.vd_law.specs.declared.entry.Sector.{Sector}
 use Rattle.vd_format.specs.declared.map.Entry.{Entry}
 use Rattle.vd_format.specs.declared.journal.Fact2.{Fact2}
@@ -13,9 +11,9 @@ use Rattle.vd_format.specs.Entries.{IsEntry}
 use Rattle.vd_format.specs.Records.{Said, Nothing, Facts, Outside, slot_of}
 use Rattle.vd_format.specs.declared.journal.facts.Slot2.TheVariants.{Other, Counts, Bad}
 use Rattle.vd_format.specs.SlotReading.{slot_for}
-use Rattle.vd_bits.proofs.SetLaws.{set_same, set_other}
 use Rattle.vd_replay.specs.Pages.{AreEntries}
 use Rattle.vd_replay.specs.Journal.{facts_said, facts_to, put_facts, AreReplayed, IsFirstOutside}
+use Rattle.vd_lists.proofs.Changes.{slice_set_inside, slice_set_other}
 
 -- ---- facts
 
@@ -35,19 +33,15 @@ put_next es (x ∷ xs) (suc i) f at =
     let e : suc i + 1 ≡ suc (i + 1) = omega arith in
     ap (λ (n : ℕ). put_facts es (take n (x ∷ xs))) e ∙ put_next (slice_set es x.chunk x.entry) xs i f at
 
--- what holds of all holds of each
-pub all_at : {X : Type 0} (P : X → Type 0) (xs : List X) (i : ℕ) (x : X) → All P xs → slice_get xs i ≡ Some x → P x
-all_at P xs i x all at = subst P (get_or_from_slice_get xs i x x at) (all i x (slice_get_within xs i x at))
-
 -- an entry of the grammar in place of another
 pub entries_put : (shape : Shape2) (n : ℕ) (entries : List Entry) (c : ℕ) (e : Entry) → c < length entries → IsEntry shape c e → AreEntries shape n entries → AreEntries shape n (slice_set entries c e)
 entries_put shape n entries c e within is before = record { each = each }
   where
     each : (d : ℕ) (x : Entry) → d < n → slice_get (slice_set entries c e) d ≡ Some x → IsEntry shape d x
     each d x less at = elim (cases_eq d c) [
-      | inl same ↦ (let there = set_same entries c e within in let k : slice_get (slice_set entries c e) c ≡ Some x = subst (λ (i : ℕ). slice_get (slice_set entries c e) i ≡ Some x) same at in
+      | inl same ↦ (let there = slice_set_inside entries c e within in let k : slice_get (slice_set entries c e) c ≡ Some x = subst (λ (i : ℕ). slice_get (slice_set entries c e) i ≡ Some x) same at in
           let eq : e ≡ x = cc in subst (λ (i : ℕ). IsEntry shape i x) (sym same) (subst (λ (y : Entry). IsEntry shape c y) eq is))
-      | inr other ↦ before.each d x less (sym (set_other entries c d e other) ∙ at)
+      | inr other ↦ before.each d x less (sym (slice_set_other entries c d e other) ∙ at)
     ]
 
 -- ---- slots

@@ -3,7 +3,6 @@ pub mod AreaLaws
 pub mod SlotLaws
 pub mod PageLaws
 pub mod JournalLaws
-pub mod ListLaws
 pub mod PlacingLaws
 pub mod FindingLaws
 pub mod ImageLaws

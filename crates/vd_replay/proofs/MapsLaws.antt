@@ -4,12 +4,13 @@ use Rattle.std.specs.Prelude.{slice_get, slice_set}
 use Rattle.std.specs.Option.{option_map}
 use Rattle.std.proofs.lemmas.Bool.{cases_lt, cases_eq}
 use Rattle.std.proofs.lemmas.List.{length-set}
-use Rattle.std.proofs.lemmas.Option.{slice_get_within, slice_get-map}
+use Rattle.std.proofs.lemmas.Option.{slice_get_within, slice_get-map, same_Some}
+use Rattle.vd_lists.proofs.Changes.{slice_set_inside, slice_set_other}
+use Rattle.vd_lists.proofs.Options.{same_option}
 use Rattle.vd_format.specs.declared.map.Shape2.{Shape2}
 use Rattle.vd_format.specs.Headers.{IsValid}
 use Rattle.vd_format.specs.Records.{Said as Slot, Nothing, Facts, Outside, slot_of}
 use Rattle.vd_format.specs.Layouts.{chunks_of}
-use Rattle.vd_bits.proofs.SetLaws.{set_same, set_other}
 use Rattle.vd_image.specs.Log.{Sector, At}
 use Rattle.vd_image.specs.Image.{Header, Mapping, Fact, Record, Counts, IsLater, Maps}
 use Rattle.vd_image.specs.Layouts.{layout_of}
@@ -33,21 +34,15 @@ record LastPlace (facts : List Fact2) (c : ℕ) (e : Entry) : Type 0 where
 abbrev NoPlace : List Fact2 → ℕ → Type 0
 NoPlace facts c = (j : ℕ) (x : Fact2) → slice_get facts j ≡ Some x → x.chunk ≡ c → ⊥
 
-head_is : (x y : Fact2) (xs : List Fact2) → slice_get (x ∷ xs) 0 ≡ Some y → x ≡ y
-head_is x y xs at = cc
-
-same_entry : (e x : Entry) (o : Option Entry) → o ≡ Some e → o ≡ Some x → e ≡ x
-same_entry e x o is also = cc
-
 in_record : (es : List Entry) (facts : List Fact2) (c : ℕ) (e : Entry) → slice_get (put_facts es facts) c ≡ Some e → LastPlace facts c e ⊎ (NoPlace facts c × (slice_get es c ≡ Some e))
 in_record es [] c e at = inr ((λ j x none. absurd cc), at)
 in_record es (x ∷ xs) c e at = elim (in_record (slice_set es x.chunk x.entry) xs c e at) [
   | inl w ↦ inl (record { place = suc w.place; fact = w.fact; stands = w.stands; names = w.names; entry = w.entry; last = later w.place w.last })
   | inr w ↦ elim (cases_eq c x.chunk) [
     | inl same ↦ (let within : c < length es = (let k = slice_get_within (slice_set es x.chunk x.entry) c e w.1 in let n = length-set es x.chunk x.entry in omega arith) in
-        let here : slice_get (slice_set es x.chunk x.entry) c ≡ Some x.entry = ap (slice_get (slice_set es x.chunk x.entry)) same ∙ set_same es x.chunk x.entry (omega arith) in
-        inl (record { place = 0; fact = x; stands = refl; names = sym same; entry = same_entry x.entry e (slice_get (slice_set es x.chunk x.entry) c) here w.1; last = first w.0 }))
-    | inr other ↦ inr (none w.0 other, sym (set_other es x.chunk c x.entry other) ∙ w.1)
+        let here : slice_get (slice_set es x.chunk x.entry) c ≡ Some x.entry = ap (slice_get (slice_set es x.chunk x.entry)) same ∙ slice_set_inside es x.chunk x.entry (omega arith) in
+        inl (record { place = 0; fact = x; stands = refl; names = sym same; entry = same_option x.entry e (slice_get (slice_set es x.chunk x.entry) c) here w.1; last = first w.0 }))
+    | inr other ↦ inr (none w.0 other, sym (slice_set_other es x.chunk c x.entry other) ∙ w.1)
   ]
 ]
   where
@@ -60,7 +55,7 @@ in_record es (x ∷ xs) c e at = elim (in_record (slice_set es x.chunk x.entry) 
     first rest (suc j) y less at' names = rest j y at' names
 
     none : NoPlace xs c → (c ≡ x.chunk → ⊥) → NoPlace (x ∷ xs) c
-    none rest other zero y at' names = other (sym names ∙ ap (λ (z : Fact2). z.chunk) (sym (head_is x y xs at')))
+    none rest other zero y at' names = other (sym names ∙ ap (λ (z : Fact2). z.chunk) (sym (same_Some x y at')))
     none rest other (suc j) y at' names = rest j y at' names
 
 -- ---- within the first slots
@@ -178,7 +173,7 @@ maps_entry h held pages entries next c e valid within read replayed at =
       | inr w ↦ inr (
         (λ k j other counts names. (let x = counts_to h held k j other valid (replayed.good k counts.within) counts in w.0 k j x.0 counts.within x.1 (ap (λ (y : Fact). y.chunk) x.2 ∙ names))),
         within,
-        (let same : chunk_entry (map_of held h) c ≡ e = same_entry (chunk_entry (map_of held h) c) e (slice_get pages c) (read.entry c within) w.1 in
+        (let same : chunk_entry (map_of held h) c ≡ e = same_option (chunk_entry (map_of held h) c) e (slice_get pages c) (read.entry c within) w.1 in
             mapping_read h held c (good_kind h held c (read.good c within)) ∙ ap (λ (y : Entry). Some (mapping_in h c y)) same),
       )
     ]

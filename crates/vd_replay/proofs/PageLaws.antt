@@ -3,11 +3,11 @@ use Rattle.std.proofs.Common.{ℕ, ◌≡◌, ◌+◌, ◌/◌, ◌%◌, ◌<◌
 use Rattle.std.specs.Prelude.{slice_get, slice_set, slice_index_or}
 use Rattle.std.proofs.lemmas.List.{get_or-take, get_or-drop}
 use Rattle.std.proofs.lemmas.Bool.{cases_lt, cases_eq}
+use Rattle.vd_lists.proofs.Changes.{slice_set_inside, slice_set_other}
 use Rattle.vd_law.specs.declared.entry.Sector.{Sector}
 use Rattle.vd_format.specs.declared.map.Entry.{Entry}
 use Rattle.vd_format.specs.declared.map.Shape2.{Shape2}
 use Rattle.vd_format.specs.Entries.{IsEntry, entry_at, has_entry, entry_or_storage}
-use Rattle.vd_bits.proofs.SetLaws.{set_same, set_other}
 use Rattle.vd_device.specs.Quiet.{sectors_from}
 use Rattle.vd_replay.specs.declared.pages.BadEntry.{BadEntry}
 use Rattle.vd_replay.specs.Pages.{area_at, chunk_entry, IsEntryInGrammar, AreRead, IsFirstBadEntry, Judged, AreEntries}
@@ -43,8 +43,8 @@ pub read_more : (shape : Shape2) (at : ℕ → Sector) (n page place : ℕ) (ent
 read_more shape at n page place entries sector e within on_page in_place is ok read = record {
   good = one_more (IsEntryInGrammar shape at) n read.good good;
   entry = one_more (λ (c : ℕ). slice_get (slice_set entries n e) c ≡ Some (chunk_entry at c)) n
-      (λ c less. set_other entries n c e (λ (same : c ≡ n). omega arith) ∙ read.entry c less)
-      (set_same entries n e within ∙ ap Some (right.1 ∙ there));
+      (λ c less. slice_set_other entries n c e (λ (same : c ≡ n). omega arith) ∙ read.entry c less)
+      (slice_set_inside entries n e within ∙ ap Some (right.1 ∙ there));
 }
   where
     right : (has_entry shape n sector place ≡ true) × (e ≡ entry_at sector place)
@@ -87,9 +87,9 @@ entries_more shape n entries e within is before = record { each = each }
   where
     each : (c : ℕ) (x : Entry) → c < n + 1 → slice_get (slice_set entries n e) c ≡ Some x → IsEntry shape c x
     each c x less at = elim (cases_eq c n) [
-      | inl same ↦ (let there = set_same entries n e within in let k : slice_get (slice_set entries n e) n ≡ Some x = subst (λ (i : ℕ). slice_get (slice_set entries n e) i ≡ Some x) same at in
+      | inl same ↦ (let there = slice_set_inside entries n e within in let k : slice_get (slice_set entries n e) n ≡ Some x = subst (λ (i : ℕ). slice_get (slice_set entries n e) i ≡ Some x) same at in
           let eq : e ≡ x = cc in subst (λ (i : ℕ). IsEntry shape i x) (sym same) (subst (λ (y : Entry). IsEntry shape n y) eq is))
-      | inr other ↦ before.each c x (omega arith) (sym (set_other entries n c e other) ∙ at)
+      | inr other ↦ before.each c x (omega arith) (sym (slice_set_other entries n c e other) ∙ at)
     ]
 
 pub none_read : (shape : Shape2) (at : ℕ → Sector) (entries : List Entry) → AreRead shape at 0 entries

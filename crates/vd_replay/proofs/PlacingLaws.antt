@@ -1,5 +1,5 @@
 -- Storage and blocks, chunk by chunk.
-use Rattle.std.proofs.Common.{ℕ, ◌≡◌, ◌≢◌, ◌+◌, ◌-◌, ◌*◌, ◌/◌, ◌%◌, ◌^◌, ◌==◌, ◌<◌, ◌⊎◌, inl, inr, Bool, true, false, if◌then◌else◌, List, ◌++◌, length, take, drop, replicate, Option, Some, None, refl, ap, sym, ◌∙◌, subst, arith}
+use Rattle.std.proofs.Common.{ℕ, ◌≡◌, ◌≢◌, ◌+◌, ◌-◌, ◌*◌, ◌/◌, ◌%◌, ◌^◌, ◌==◌, ◌<◌, ◌⊎◌, inl, inr, Bool, true, false, if◌then◌else◌, List, ◌++◌, length, take, drop, replicate, Some, None, refl, ap, sym, ◌∙◌, subst, arith}
 use Rattle.std.specs.Prelude.{slice_get, slice_set, min}
 use Rattle.std.specs.Int.{bit_at}
 use Rattle.std.specs.List.{range_with_len}
@@ -14,15 +14,12 @@ use Rattle.vd_format.specs.Entries.{IsEntry}
 use Rattle.vd_format.proofs.Bits.{below_from_bits}
 use Rattle.vd_bits.specs.Masks.{bits_of}
 use Rattle.vd_bits.specs.Blocks.{Blocks, bits_in, with_mask}
-use Rattle.vd_bits.proofs.SetLaws.{set_same, set_other}
 use Rattle.vd_table.specs.Tables.{TableState, Has, with_storage}
 use Rattle.vd_table.proofs.Links.{same_some, cases_place}
 use Rattle.vd_replay.specs.Placing.{Places, IsTwin, IsPlaced, IsSpread, AreTwins}
-use Rattle.vd_replay.proofs.ListLaws.{get_take, get_drop, get_copies}
-use Rattle.vd_lists.proofs.Lists.{slice_get_run, slice_get_front, slice_get_back}
-
-same_entry : (e x : Entry) (o : Option Entry) → o ≡ Some e → o ≡ Some x → e ≡ x
-same_entry e x o is also = cc
+use Rattle.vd_lists.proofs.Changes.{slice_set_inside, slice_set_other}
+use Rattle.vd_lists.proofs.Places.{slice_get_take, slice_get_drop, slice_get_copied, slice_get_run, slice_get_front, slice_get_back}
+use Rattle.vd_lists.proofs.Options.{same_option}
 
 -- ---- storage
 
@@ -34,7 +31,7 @@ none_placed entries chunks storage = record {
 }
   where
     none : (c p : ℕ) → Has (record { chunks = replicate chunks None; storage = storage }) c p → ⊥
-    none c p has = let k : None ≡ Some p = get_copies chunks None (Some p) c has in absurd cc
+    none c p has = let k : None ≡ Some p = slice_get_copied chunks None (Some p) c has in absurd cc
 
 -- a chunk that is not placed has no storage
 pub none_yet : (entries : List Entry) (n : ℕ) (table : TableState) → n < length table.chunks → IsPlaced entries n table → slice_get table.chunks n ≡ Some None
@@ -55,7 +52,7 @@ placed_more entries n e table table' fresh fresh' within at placed places = elim
       has = λ c p less h. elim (cases_lt c n) [
         | inl below ↦ placed.has c p below h
         | inr above ↦ (let same : c ≡ n = omega arith in let there : slice_get entries n ≡ Some h.0 = ap (slice_get entries) (sym same) ∙ h.1 in
-            let k : e ≡ h.0 = same_entry e h.0 (slice_get entries n) at there in let s : e.storage ≡ p + 1 = ap (λ (x : Entry). x.storage) k ∙ h.2 in absurd (omega arith))
+            let k : e ≡ h.0 = same_option e h.0 (slice_get entries n) at there in let s : e.storage ≡ p + 1 = ap (λ (x : Entry). x.storage) k ∙ h.2 in absurd (omega arith))
       ];
       apart = placed.apart;
     }
@@ -72,8 +69,8 @@ placed_more entries n e table table' fresh fresh' within at placed places = elim
     new : (c p : ℕ) → Has more c p → ((c ≡ n) × (q ≡ p)) ⊎ ((c ≡ n → ⊥) × Has table c p)
     new c p has = elim (cases_eq c n) [
       | inl same ↦ (let k : slice_get (slice_set table.chunks n (Some q)) n ≡ Some (Some p) = subst (λ (i : ℕ). slice_get (slice_set table.chunks n (Some q)) i ≡ Some (Some p)) same has in
-          inl (same, same_some (sym (set_same table.chunks n (Some q) within) ∙ k)))
-      | inr other ↦ inr (other, sym (set_other table.chunks n c (Some q) other) ∙ has)
+          inl (same, same_some (sym (slice_set_inside table.chunks n (Some q) within) ∙ k)))
+      | inr other ↦ inr (other, sym (slice_set_other table.chunks n c (Some q) other) ∙ has)
     ]
 
     given_one : (e.storage ≡ 0 → ⊥) → IsPlaced entries (n + 1) more
@@ -83,11 +80,11 @@ placed_more entries n e table table' fresh fresh' within at placed places = elim
         | inr there ↦ (let g = placed.given c p there.1 in let less = g.0 in (omega arith, g.1))
       ];
       has = λ c p less h. elim (cases_lt c n) [
-        | inl below ↦ set_other table.chunks n c (Some q) (λ (same : c ≡ n). omega arith) ∙ placed.has c p below h
+        | inl below ↦ slice_set_other table.chunks n c (Some q) (λ (same : c ≡ n). omega arith) ∙ placed.has c p below h
         | inr above ↦ (let same : c ≡ n = omega arith in let there : slice_get entries n ≡ Some h.0 = ap (slice_get entries) (sym same) ∙ h.1 in
-            let k : e ≡ h.0 = same_entry e h.0 (slice_get entries n) at there in let s : e.storage ≡ p + 1 = ap (λ (x : Entry). x.storage) k ∙ h.2 in
+            let k : e ≡ h.0 = same_option e h.0 (slice_get entries n) at there in let s : e.storage ≡ p + 1 = ap (λ (x : Entry). x.storage) k ∙ h.2 in
             let r : q ≡ p = omega arith in
-            ap (λ (i : ℕ). slice_get (slice_set table.chunks n (Some q)) i) same ∙ set_same table.chunks n (Some q) within ∙ ap (λ (x : ℕ). Some (Some x)) r)
+            ap (λ (i : ℕ). slice_get (slice_set table.chunks n (Some q)) i) same ∙ slice_set_inside table.chunks n (Some q) within ∙ ap (λ (x : ℕ). Some (Some x)) r)
       ];
       apart = λ a b p has also. elim (new a p has) [
         | inl here ↦ elim (new b p also) [
@@ -128,7 +125,7 @@ masked : (fresh : Blocks) (n mask b : ℕ) → 0 < fresh.chunk → n * fresh.chu
 masked fresh n mask b some starts within = elim (cases_lt b start) [
   | inl low ↦ inr (
     (λ (same : b / fresh.chunk ≡ n). (let row : b / fresh.chunk * fresh.chunk ≡ start = ap (λ (k : ℕ). k * fresh.chunk) same in let r = rest in let s = rest_below in omega arith)),
-    slice_get_front (front ++ middle) back b (let k = length-append front middle in let f = front_size in let m = middle_size in omega arith) ∙ slice_get_front front middle b (let f = front_size in omega arith) ∙ get_take start fresh.bits b low,
+    slice_get_front (front ++ middle) back b (let k = length-append front middle in let f = front_size in let m = middle_size in omega arith) ∙ slice_get_front front middle b (let f = front_size in omega arith) ∙ slice_get_take start fresh.bits b low,
   )
   | inr from_start ↦ elim (cases_lt b (start + fresh.chunk)) [
     | inl inside ↦ (let place : b - start < count = (let k = bits_count fresh n in omega arith) in
@@ -144,7 +141,7 @@ masked fresh n mask b some starts within = elim (cases_lt b start) [
     | inr past ↦ inr (
       (λ (same : b / fresh.chunk ≡ n). (let row : b / fresh.chunk * fresh.chunk ≡ start = ap (λ (k : ℕ). k * fresh.chunk) same in let r = rest in let s = rest_below in omega arith)),
       slice_get_back (front ++ middle) back b (let k = length-append front middle in let f = front_size in let m = middle_size in let c = bits_count fresh n in omega arith)
-          ∙ get_drop (start + fresh.chunk) fresh.bits (b - length (front ++ middle)) ∙ ap (slice_get fresh.bits) (let k = length-append front middle in let f = front_size in let m = middle_size in let c = bits_count fresh n in omega arith),
+          ∙ slice_get_drop (start + fresh.chunk) fresh.bits (b - length (front ++ middle)) ∙ ap (slice_get fresh.bits) (let k = length-append front middle in let f = front_size in let m = middle_size in let c = bits_count fresh n in omega arith),
     )
   ]
 ]
@@ -192,7 +189,7 @@ spread_more entries n e fresh fresh' some starts size at is before = subst (λ (
     bits : (b : ℕ) (x : Entry) → b < length (with_mask fresh n e.mask).bits → b / fresh.chunk < n + 1 → slice_get entries (b / fresh.chunk) ≡ Some x → slice_get (with_mask fresh n e.mask).bits b ≡ Some (bit_at x.mask (b % fresh.chunk) == 1)
     bits b x within less there = let inside : b < length fresh.bits = (let s = sizes in omega arith) in elim (masked fresh n e.mask b some starts inside) [
       | inl here ↦ (let k : slice_get entries n ≡ Some x = subst (λ (i : ℕ). slice_get entries i ≡ Some x) here.0 there in
-          let same : e ≡ x = same_entry e x (slice_get entries n) at k in here.1 ∙ ap (λ (y : Entry). Some (bit_at y.mask (b % fresh.chunk) == 1)) same)
+          let same : e ≡ x = same_option e x (slice_get entries n) at k in here.1 ∙ ap (λ (y : Entry). Some (bit_at y.mask (b % fresh.chunk) == 1)) same)
       | inr other ↦ other.1 ∙ before.bit b x inside (let no = other.0 in omega (arith, no, less)) there
     ]
 

@@ -5,6 +5,8 @@ use Rattle.std.specs.Int.{bit_at}
 use Rattle.std.proofs.lemmas.Bool.{cases_eq}
 use Rattle.std.proofs.lemmas.Nat.Bits.{bit_at-zero}
 use Rattle.std.proofs.lemmas.Option.{slice_get_within}
+use Rattle.vd_lists.proofs.Places.{some_place}
+use Rattle.vd_lists.proofs.Options.{same_option}
 use Rattle.vd_format.proofs.Rules.{chunk_within}
 use Rattle.vd_table.specs.Tables.{Has}
 use Rattle.vd_table.proofs.Links.{none_some}
@@ -17,12 +19,8 @@ use Rattle.vd_image.proofs.Layouts.{parts_apart}
 use Rattle.vd_image.proofs.Openings.{header_valid}
 use Rattle.vd_replay.specs.States.{IsWholeState, IsState}
 use Rattle.vd_replay.specs.declared.state.State.{State}
-use Rattle.vd_replay.proofs.ListLaws.{get_some}
 use Rattle.vd_replay.proofs.StateLaws.{storage_from, in_mask, mask_is}
 use Rattle.vd_format.specs.Background.{zero_sector, background}
-
-same_entry : (e x : Entry) (o : Option Entry) → o ≡ Some e → o ≡ Some x → e ≡ x
-same_entry e x o is also = cc
 
 -- ---- whatever the store tells
 
@@ -70,10 +68,10 @@ whole-given s c e whole at = (none_given, given_none)
 
     by_given : (o : Option ℕ) → slice_get s.table.chunks c ≡ Some o → e.storage ≡ 0 → slice_get s.table.chunks c ≡ Some None
     by_given None is zeros = is
-    by_given (Some p) is zeros = absurd (let k = (whole.placed.given c p is).1 in let same = same_entry k.0 e (slice_get s.map c) k.1 at in let n = ap (λ (x : Entry). x.storage) same in let up = k.2 in omega (arith, n, up, zeros))
+    by_given (Some p) is zeros = absurd (let k = (whole.placed.given c p is).1 in let same = same_option k.0 e (slice_get s.map c) k.1 at in let n = ap (λ (x : Entry). x.storage) same in let up = k.2 in omega (arith, n, up, zeros))
 
     given_none : e.storage ≡ 0 → slice_get s.table.chunks c ≡ Some None
-    given_none zeros = let o = get_some s.table.chunks c (let k = whole.sized.map in let t = whole.sized.table in omega (arith, k, t, within)) in by_given o.0 o.1 zeros
+    given_none zeros = let o = some_place s.table.chunks c (let k = whole.sized.map in let t = whole.sized.table in omega (arith, k, t, within)) in by_given o.0 o.1 zeros
 
 -- ---- by the image
 
@@ -112,9 +110,6 @@ shown_by image h s base x v reads disk w = subst (λ (m : Mapping). IsShown imag
     shown = subst (λ (g : Header). ((p : ℕ) × IsLocalBy disk.mapping (x / h.block) p × (v ≡ image ((layout_of h).place p x)))
         ⊎ (((p : ℕ) → IsLocalBy disk.mapping (x / h.block) p → ⊥) × (v ≡ unmapped_sector base zero_sector g.tracked disk.mapping x))) same_header disk.has
 
-same_storage : (o : Option ℕ) (p q : ℕ) → o ≡ Some p → o ≡ Some q → p ≡ q
-same_storage o p q is also = cc
-
 -- a sector of a local block stands in its chunk's storage
 pub start-local : (sectors : ℕ) (image : Image) (h : Header) (s : State) (base : ℕ → Sector) (x p : ℕ) (v : Sector) → IsState sectors image h s → DiskHas (format_of h) (layout_of h) base zero_sector image x v → x < h.size
     → slice_get s.fresh.bits (x / h.block) ≡ Some true → Has s.table (x / h.block / h.chunk) p → v ≡ image ((layout_of h).place p x)
@@ -127,14 +122,14 @@ start-local sectors image h s base x p v is disk less up given = by_shown (shown
     local =
         let mask = (is.fresh (x / h.block) true up).0 refl in
         let store = (is.table (x / h.block / h.chunk) p).0 given in
-        let one : mask.0 ≡ w.entry = same_entry mask.0 w.entry (slice_get s.map (x / h.block / h.chunk)) mask.1 w.stands in
-        let two : store.0 ≡ w.entry = same_entry store.0 w.entry (slice_get s.map (x / h.block / h.chunk)) store.1 w.stands in (
+        let one : mask.0 ≡ w.entry = same_option mask.0 w.entry (slice_get s.map (x / h.block / h.chunk)) mask.1 w.stands in
+        let two : store.0 ≡ w.entry = same_option store.0 w.entry (slice_get s.map (x / h.block / h.chunk)) store.1 w.stands in (
           storage_from w.entry.storage p (ap (λ (e : Entry). e.storage) (sym two) ∙ store.2),
           ap (λ (e : Entry). mask_has (x / h.block / h.chunk * h.chunk) e.mask (x / h.block)) (sym one) ∙ mask.2,
         )
 
     by_shown : IsShown image h base (mapping_in h (x / h.block / h.chunk) w.entry) x v → v ≡ image ((layout_of h).place p x)
-    by_shown (inl (q, by, there)) = there ∙ ap (λ (k : ℕ). image ((layout_of h).place k x)) (same_storage (mapping_in h (x / h.block / h.chunk) w.entry).storage q p by.0 local.0)
+    by_shown (inl (q, by, there)) = there ∙ ap (λ (k : ℕ). image ((layout_of h).place k x)) (same_option q p (mapping_in h (x / h.block / h.chunk) w.entry).storage by.0 local.0)
     by_shown (inr (none, there)) = absurd (none p local)
 
 -- a sector of another block is the background

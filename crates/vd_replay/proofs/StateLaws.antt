@@ -1,5 +1,5 @@
 -- A state that was filled says what the image says, and what was refused is refused of the image.
-use Rattle.std.proofs.Common.{ℕ, ◌≡◌, ◌+◌, ◌-◌, ◌*◌, ◌/◌, ◌%◌, ◌==◌, ◌&&◌, ◌<◌, inl, inr, Bool, true, false, nat_le, if◌then◌else◌, List, length, replicate, Option, Some, None, refl, ap, sym, ◌∙◌, subst, arith}
+use Rattle.std.proofs.Common.{ℕ, ◌≡◌, ◌+◌, ◌-◌, ◌*◌, ◌/◌, ◌%◌, ◌==◌, ◌&&◌, ◌<◌, inl, inr, Bool, true, false, nat_le, if◌then◌else◌, List, length, replicate, Some, None, refl, ap, sym, ◌∙◌, subst, arith}
 use Rattle.std.specs.Prelude.{slice_get}
 use Rattle.std.specs.Int.{bit_at}
 use Rattle.std.specs.Option.{option_map}
@@ -7,6 +7,8 @@ use Rattle.std.proofs.lemmas.Bool.{cases_eq, le-leb, eq-eqb, ne_eqb}
 use Rattle.std.proofs.lemmas.Nat.{div-add-mod'}
 use Rattle.std.proofs.lemmas.Nat.Bits.{bit_at-zero}
 use Rattle.std.proofs.lemmas.Option.{slice_get_within}
+use Rattle.vd_lists.proofs.Places.{slice_get_copied, some_place}
+use Rattle.vd_lists.proofs.Options.{same_option}
 use Rattle.vd_format.specs.Headers.{IsValid}
 use Rattle.vd_format.specs.Layouts.{blocks_of, chunks_of}
 use Rattle.vd_format.specs.Entries.{empty_entry}
@@ -32,7 +34,6 @@ use Rattle.vd_replay.specs.States.{IsSized, SaysMore, HasCounting, IsState, IsOl
 use Rattle.vd_replay.specs.Refusals.{IsValueOf}
 use Rattle.vd_replay.specs.Fresh.{is_fresh}
 use Rattle.vd_replay.specs.declared.state.State.{State}
-use Rattle.vd_replay.proofs.ListLaws.{get_copies, get_some}
 use Rattle.vd_replay.proofs.ImageLaws.{map_of, slots_of, good_mapping, mapping_good, good_slot, slot_good, Views, views}
 use Rattle.vd_replay.proofs.MapsLaws.{maps_entry, maps_within}
 
@@ -97,7 +98,7 @@ has_gives h held pages entries next c p a (e, at, storage) =
 gives_has : (h : Header) (held : List Sector) (pages entries : List Entry) (next c p : ℕ) → Applied h held pages entries next → GivesStorage (format_of h) (layout_of h) (image_of held) h.generation c p → EntryHasStorage entries c p
 gives_has h held pages entries next c p a (m, maps, storage) =
     let within = maps_within h held c m a.valid a.replayed.good maps in
-    let e = get_some entries c (let s = a.size in omega (arith, within, s)) in
+    let e = some_place entries c (let s = a.size in omega (arith, within, s)) in
     let same : mapping_in h c e.0 ≡ m = maps_one (format_of h) (layout_of h) (image_of held) h.generation c (mapping_in h c e.0) m (maps_entry h held pages entries next c e.0 a.valid within a.read a.replayed e.1) maps in
     (e.0, e.1, storage_is e.0.storage p (ap (λ (n : Mapping). n.storage) same ∙ storage))
 
@@ -136,16 +137,13 @@ in_mask h map fresh b bit valid size chunk blocks spread at =
     let some : 0 < h.chunk = (let k = (chunk_within h valid).0 in omega (arith, k)) in
     let within = slice_get_within fresh.bits b bit at in
     let below : b / h.chunk < length map = (let k = last_block h b valid (omega arith) in omega (arith, k, size)) in
-    let e = get_some map (b / h.chunk) below in
+    let e = some_place map (b / h.chunk) below in
     let same : b / fresh.chunk ≡ b / h.chunk = ap (λ (k : ℕ). b / k) chunk in
     let there : slice_get map (b / fresh.chunk) ≡ Some e.0 = ap (slice_get map) same ∙ e.1 in
     let k = spread.bit b e.0 within (subst (λ (n : ℕ). n < length map) (sym same) below) there in
     let rest : b % fresh.chunk ≡ b % h.chunk = ap (λ (n : ℕ). b % n) chunk in
     let is : bit ≡ (bit_at e.0.mask (b % fresh.chunk) == 1) = cc in
     (e.0, e.1, is ∙ ap (λ (n : ℕ). bit_at e.0.mask n == 1) rest ∙ sym (mask_is h.chunk e.0.mask b some))
-
-same_entry : (e x : Entry) (o : Option Entry) → o ≡ Some e → o ≡ Some x → e ≡ x
-same_entry e x o is also = cc
 
 -- a slot counts where what it says is something
 counting : (h : Header) (held : List Sector) (k : ℕ) → IsValid h → k < h.slots → CountsAt (shape_of h) (slots_of held h k) → HasCounting h (image_of held) k
@@ -184,7 +182,7 @@ state_is held s next sized version found applied grammar settled = record {
     };
   };
   header_is = refl;
-  entries = λ c less. (let e = get_some s.map c (let k = sized.map in omega arith) in record {
+  entries = λ c less. (let e = some_place s.map c (let k = sized.map in omega arith) in record {
     entry = e.0;
     stands = e.1;
     grammar = grammar.each c e.0 less e.1;
@@ -193,7 +191,7 @@ state_is held s next sized version found applied grammar settled = record {
   table = λ c p. ((λ given. (settled.placed.given c p given).1), has c p);
   fresh = λ b bit at. (let m = in_mask h s.map s.fresh b bit sized.valid sized.map sized.chunk sized.fresh settled.spread at in (
     (λ up. (m.0, m.1, sym m.2 ∙ up)),
-    (λ w. m.2 ∙ (let same : m.0 ≡ w.0 = same_entry m.0 w.0 (slice_get s.map (b / h.chunk)) m.1 w.1 in ap (λ (e : Entry). mask_has (b / h.chunk * h.chunk) e.mask b) same ∙ w.2)),
+    (λ w. m.2 ∙ (let same : m.0 ≡ w.0 = same_option m.0 w.0 (slice_get s.map (b / h.chunk)) m.1 w.1 in ap (λ (e : Entry). mask_has (b / h.chunk * h.chunk) e.mask b) same ∙ w.2)),
   ));
   more = λ page mark at. (let marks = settled.marked.marks page mark (slice_get_within s.more page mark at) at in ((λ up. says (marks.0 up)), (λ w. marks.1 (said w))));
   next = λ some. (let n = settled.next_is in let w = applied.replayed.next_is.within in let up : 0 < next = omega (arith, some, n) in
@@ -219,7 +217,7 @@ state_is held s next sized version found applied grammar settled = record {
       on_page = d.on_page;
       entry = d.entry;
       stands = d.is;
-      other = λ same. d.other (same ∙ same_entry (chunk_entry (map_of held s.header) d.chunk) d.said (slice_get s.pages d.chunk) (chunk_of d.chunk d.entry d.is) d.was);
+      other = λ same. d.other (same ∙ same_option (chunk_entry (map_of held s.header) d.chunk) d.said (slice_get s.pages d.chunk) (chunk_of d.chunk d.entry d.is) d.was);
     }
 
     said : {page : ℕ} → SaysMore s.header (image_of held) s.map page → Differs s.map s.pages page
@@ -237,7 +235,7 @@ state_is held s next sized version found applied grammar settled = record {
 
 no_storage : (entries : List Entry) (n c p : ℕ) → entries ≡ replicate n empty_entry → EntryHasStorage entries c p → ⊥
 no_storage entries n c p is (e, at, storage) =
-    let same : empty_entry ≡ e = get_copies n empty_entry e c (ap (λ (es : List Entry). slice_get es c) (sym is) ∙ at) in
+    let same : empty_entry ≡ e = slice_get_copied n empty_entry e c (ap (λ (es : List Entry). slice_get es c) (sym is) ∙ at) in
     let k : 0 ≡ p + 1 = ap (λ (x : Entry). x.storage) same ∙ storage in
     omega arith
 
@@ -254,7 +252,7 @@ old_state_is held s sized found is_new empty also settled = record {
   map = empty;
   table = λ c p has. no_storage s.map (chunks_of s.header) c p empty (settled.placed.given c p has).1;
   fresh = λ b bit at. (let m = in_mask s.header s.map s.fresh b bit sized.valid sized.map sized.chunk sized.fresh settled.spread at in
-      let same : empty_entry ≡ m.0 = get_copies (chunks_of s.header) empty_entry m.0 (b / s.header.chunk) (ap (λ (es : List Entry). slice_get es (b / s.header.chunk)) (sym empty) ∙ m.1) in
+      let same : empty_entry ≡ m.0 = slice_get_copied (chunks_of s.header) empty_entry m.0 (b / s.header.chunk) (ap (λ (es : List Entry). slice_get es (b / s.header.chunk)) (sym empty) ∙ m.1) in
       let some : 0 < s.header.chunk = (let k = (chunk_within s.header sized.valid).0 in omega (arith, k)) in
       m.2 ∙ ap (λ (e : Entry). mask_has (b / s.header.chunk * s.header.chunk) e.mask b) (sym same) ∙ mask_is s.header.chunk 0 b some ∙ ap (λ (k : ℕ). k == 1) (bit_at-zero (b % s.header.chunk)));
   more = λ page mark at. none mark (λ up. differs ((settled.marked.marks page mark (slice_get_within s.more page mark at) at).0 up));
@@ -266,5 +264,5 @@ old_state_is held s sized found is_new empty also settled = record {
     none false not = refl
 
     differs : {page : ℕ} → Differs s.map s.pages page → ⊥
-    differs d = d.other (sym (get_copies (chunks_of s.header) empty_entry d.entry d.chunk (ap (λ (es : List Entry). slice_get es d.chunk) (sym empty) ∙ d.is))
-        ∙ get_copies (chunks_of s.header) empty_entry d.said d.chunk (ap (λ (es : List Entry). slice_get es d.chunk) (sym also) ∙ d.was))
+    differs d = d.other (sym (slice_get_copied (chunks_of s.header) empty_entry d.entry d.chunk (ap (λ (es : List Entry). slice_get es d.chunk) (sym empty) ∙ d.is))
+        ∙ slice_get_copied (chunks_of s.header) empty_entry d.said d.chunk (ap (λ (es : List Entry). slice_get es d.chunk) (sym also) ∙ d.was))

@@ -5,8 +5,7 @@ ghost use Rattle.vd_device.specs.Quiet.{IsReady, OnlyReads, OnlyReadsBase, IsFau
 ghost use Rattle.vd_format.specs.Headers.{IsValid};
 ghost use Rattle.vd_image.specs.Layouts.{layout_of as places};
 ghost use Rattle.vd_replay.specs.States.{IsSized, IsReadable, StateSays};
-ghost use Rattle.vd_replay.specs.Disks.{IsSource, IsStorageAt, source_further_on, IsNear, FitsInTicket, ReadRun, AreDiskSectors};
-ghost use Rattle.vd_replay.specs.Disks.{ForDevice, ForSource, HasLocal, HasOfBase, NeedsBase, Spares, AsksOwn};
+ghost use Rattle.vd_replay.specs.Disks.{IsSource, IsStorageAt, source_further_on, IsNear, FitsInTicket, ReadRun, AreDiskSectors, ForDevice, ForSource, HasLocal, HasOfBase, NeedsBase, Spares, AsksOwn};
 ghost use Rattle.vd_format.specs.Background.{count_in_base};
 
 use crate::background::read_background;

@@ -18,7 +18,6 @@ use Rattle.vd_replay.specs.Images.{image_of}
 use Rattle.vd_replay.specs.Refusals.{RefusedAgain}
 use Rattle.vd_replay.specs.declared.error.OpenError.{OpenError}
 use Rattle.vd_replay.specs.declared.error.OpenError.TheVariants as refusals
-use Rattle.vd_replay.proofs.ListLaws.{get_some}
 use Rattle.vd_core.specs.Showing.{MayHold, ShowsCould}
 use Rattle.vd_safety.specs.Held.{IsOpenAgain}
 use Rattle.vd_safety.proofs.Clean.{honest-left}
@@ -30,6 +29,7 @@ use Rattle.vd_run.specs.Reopening.{IsShownBy, Is_read, Store_failed, Base_failed
 use Rattle.vd_run.specs.Running.{first_past as range_past}
 use Rattle.vd_run.proofs.RunningLaws.{line_within}
 use Rattle.vd_run.proofs.SafeLaws.{orderly_past}
+use Rattle.vd_lists.proofs.Places.{some_place}
 
 -- what an honest store holds whose log is in order may be left by a crash
 pub may_hold : (d : Disk) → IsHonest d → IsInOrder d → length d.held ≡ length d.start → MayHold d d.held
@@ -96,6 +96,6 @@ allowed_again {closed = closed} {kept = kept} {start = start} {entries = entries
   where
     each : (i : ℕ) (line : ShownLine) → slice_get shown i ≡ Some line → IsAllowedLine start entries closed line
     each i line at =
-        let asked = get_some trace.shows i (let k = slice_get_within shown i line at in let m = all.many in omega (arith, k, m)) in
+        let asked = some_place trace.shows i (let k = slice_get_within shown i line at in let m = all.many in omega (arith, k, m)) in
         let within = line_within kept.size trace inside i asked.0 asked.1 in
         line_allowed line t b geometry (opens t) again could (let same = ap (λ (g : Geometry). g.size) geometry in omega (arith, within, same)) (all.each i asked.0 line asked.1 at)

@@ -2,6 +2,7 @@
 use Rattle.std.proofs.Common.{ℕ, zero, suc, ◌≡◌, ◌≤◌, ◌⊎◌, inl, inr, List, [], ◌∷◌, ◌++◌, length, Option, Some, refl, ap, sym, ◌∙◌, subst, arith}
 use Rattle.std.specs.Prelude.{slice_get}
 use Rattle.std.proofs.lemmas.List.{append_assoc}
+use Rattle.vd_lists.proofs.Places.{slice_get_second_last, slice_get_middle}
 use Rattle.vd_law.specs.declared.entry.CallId.{CallId}
 use Rattle.vd_law.specs.declared.entry.Answer.{Answer}
 use Rattle.vd_law.specs.declared.entry.Answer.TheVariants as answers
@@ -48,14 +49,6 @@ last_two [] a b e (suc (suc m)) from at = absurd cc
 last_two (x ∷ xs) a b e zero from at = absurd (omega (arith, from))
 last_two (x ∷ xs) a b e (suc m) from at = last_two xs a b e m (omega (arith, from)) at
 
-first_behind : (xs : List Entry) (a b : Entry) → slice_get (xs ++ a ∷ b ∷ []) (length xs) ≡ Some a
-first_behind [] a b = refl
-first_behind (x ∷ xs) a b = first_behind xs a b
-
-second_behind : (xs : List Entry) (a b : Entry) → slice_get (xs ++ a ∷ b ∷ []) (suc (length xs)) ≡ Some b
-second_behind [] a b = refl
-second_behind (x ∷ xs) a b = second_behind xs a b
-
 pub ends_flushed : {served history : List Entry} (answer : Answer) → answer ≡ answers.Ok → Closes answer served history → EndsFlushed history
 ends_flushed {served = served} {history = history} answer ok closed =
     let id : CallId = record { pass = 0; call = closed.call } in
@@ -63,8 +56,8 @@ ends_flushed {served = served} {history = history} answer ok closed =
       id = id;
       ask = length served;
       reply = suc (length served);
-      asked = first_behind served (Ask id Flush) (Reply id answer);
-      replied = second_behind served (Ask id Flush) (Reply id answer) ∙ ap (λ (x : Answer). Some (Reply id x)) ok;
+      asked = slice_get_middle served (Reply id answer ∷ []) (Ask id Flush);
+      replied = slice_get_second_last served (Ask id Flush) (Reply id answer) ∙ ap (λ (x : Answer). Some (Reply id x)) ok;
       later = omega arith;
       none_done = λ m other from at. elim (last_two served (Ask id Flush) (Reply id answer) (Done other) m from at) [ inl same ↦ absurd cc | inr same ↦ absurd cc ];
     })

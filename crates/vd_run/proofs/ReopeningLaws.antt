@@ -1,5 +1,5 @@
 -- What is shown of the image that a run has left.
-use Rattle.std.proofs.Common.{ℕ, ◌≡◌, ◌+◌, ◌<◌, ◌≤◌, inl, inr, Bool, true, false, List, [], ◌∷◌, ◌++◌, length, take, Some, refl, ap, sym, ◌∙◌, subst, arith}
+use Rattle.std.proofs.Common.{ℕ, ◌≡◌, ◌+◌, ◌<◌, ◌≤◌, inl, inr, Bool, List, [], ◌∷◌, ◌++◌, length, take, Some, refl, ap, sym, ◌∙◌, subst, arith}
 use Rattle.std.specs.Prelude.{slice_get, ◌||◌}
 use Rattle.std.specs.List.{list_any, flat_map}
 use Rattle.std.proofs.lemmas.Bool.{cases_lt}
@@ -24,7 +24,6 @@ use Rattle.vd_replay.specs.declared.error.OpenError.{OpenError}
 use Rattle.vd_replay.specs.declared.error.OpenError.TheVariants as refusals
 use Rattle.vd_replay.specs.declared.disk.DiskFault.{DiskFault}
 use Rattle.vd_replay.specs.declared.disk.DiskFault.TheVariants as faults
-use Rattle.vd_replay.proofs.ListLaws.{get_take}
 use Rattle.vd_trace.specs.Traces.{Showing}
 use Rattle.vd_report.specs.declared.line.Line.{Line}
 use Rattle.vd_report.specs.declared.line.Line.TheVariants as lines
@@ -35,7 +34,8 @@ use Rattle.vd_show.specs.Showing.{show_line, fault_line, ShowsDisk}
 use Rattle.vd_run.specs.Reopening.{IsShownBy, Is_read, Store_failed, Base_failed, AreShownBy, AreLocal, Reopens, Reopening_failed, Is_refused_again, Opens_again}
 use Rattle.vd_run.proofs.LeavingLaws.{reads_idle}
 use Rattle.vd_show.proofs.ShowLaws.{disk_shown}
-use Rattle.vd_lists.proofs.Lists.{slice_get_front}
+use Rattle.std.proofs.Math.Bool.{or-false}
+use Rattle.vd_lists.proofs.Places.{slice_get_take, slice_get_last, slice_get_front}
 
 -- ---- one line
 
@@ -81,10 +81,6 @@ module _ {S B : Type 0} {g : store.Ghosts S} {h : base.Ghosts B} {d d' : Devices
 
 -- ---- all lines
 
-push_at : {X : Type 0} (xs : List X) (x : X) → slice_get (xs ++ x ∷ []) (length xs) ≡ Some x
-push_at [] x = refl
-push_at (y ∷ xs) x = push_at xs x
-
 module _ {S B : Type 0} {g : store.Ghosts S} {h : base.Ghosts B} {header : Header} where
   pub none_shown : {d d' : Devices S B} (trace_lines : List Showing) → AreShownBy g h header d d' (take 0 trace_lines) []
   none_shown [] = record { many = refl; each = λ i line shows at none. absurd cc }
@@ -114,15 +110,15 @@ module _ {S B : Type 0} {g : store.Ghosts S} {h : base.Ghosts B} {header : Heade
         each : (i : ℕ) (l : Showing) (s : ShownLine) → slice_get (take (n + 1) trace_lines) i ≡ Some l → slice_get (shown ++ shows ∷ []) i ≡ Some s → IsShownBy g h header d d' l s
         each i l s at is = elim (cases_lt i n) [
           | inl below ↦ (
-              let line_at : slice_get (take n trace_lines) i ≡ Some l = get_take n trace_lines i below ∙ sym (get_take (n + 1) trace_lines i (omega (arith, below))) ∙ at in
+              let line_at : slice_get (take n trace_lines) i ≡ Some l = slice_get_take n trace_lines i below ∙ sym (slice_get_take (n + 1) trace_lines i (omega (arith, below))) ∙ at in
               let shows_at : slice_get shown i ≡ Some s = sym (slice_get_front shown (shows ∷ []) i (omega (arith, below, many))) ∙ is in
               all.each i l s line_at shows_at
               )
           | inr above ↦ (
               let last = slice_get_within (shown ++ shows ∷ []) i s is in
               let same : i ≡ n = (let k = length_push shown shows in omega (arith, last, above, many, k)) in
-              let line_is : Some line ≡ Some l = sym there ∙ ap (slice_get trace_lines) (sym same) ∙ sym (get_take (n + 1) trace_lines i (omega (arith, same))) ∙ at in
-              let shows_is : Some shows ≡ Some s = sym (push_at shown shows) ∙ ap (slice_get (shown ++ shows ∷ [])) (many ∙ sym same) ∙ is in
+              let line_is : Some line ≡ Some l = sym there ∙ ap (slice_get trace_lines) (sym same) ∙ sym (slice_get_take (n + 1) trace_lines i (omega (arith, same))) ∙ at in
+              let shows_is : Some shows ≡ Some s = sym (slice_get_last shown shows) ∙ ap (slice_get (shown ++ shows ∷ [])) (many ∙ sym same) ∙ is in
               let e : line ≡ l = cc in
               let f : shows ≡ s = cc in
               subst (λ (x : Showing). IsShownBy g h header d d' x s) e (subst (λ (x : ShownLine). IsShownBy g h header d d' line x) f here)
@@ -133,12 +129,8 @@ module _ {S B : Type 0} {g : store.Ghosts S} {h : base.Ghosts B} {header : Heade
     pub all_shown : (trace_lines : List Showing) (n : ℕ) (shown : List ShownLine) → length trace_lines ≤ n → AreShownBy g h header d d' (take n trace_lines) shown → AreShownBy g h header d d' trace_lines shown
     all_shown trace_lines n shown most all = subst (λ (ls : List Showing). AreShownBy g h header d d' ls shown) (take_all n trace_lines most) all
 
-or_false : (b : Bool) → (b || false) ≡ b
-or_false true = refl
-or_false false = refl
-
 pub failed_more : (shown : List ShownLine) (shows : ShownLine) → list_any has_failed (shown ++ shows ∷ []) ≡ (list_any has_failed shown || has_failed shows)
-failed_more shown shows = list_any-append has_failed shown (shows ∷ []) ∙ ap (λ (b : Bool). list_any has_failed shown || b) (or_false (has_failed shows))
+failed_more shown shows = list_any-append has_failed shown (shows ∷ []) ∙ ap (λ (b : Bool). list_any has_failed shown || b) (or-false (has_failed shows))
 
 -- the text of one more line
 pub text_more : (shown : List ShownLine) (shows : ShownLine) → flat_map shown_text shown ++ shown_text shows ≡ flat_map shown_text (shown ++ shows ∷ [])

@@ -5,14 +5,12 @@ use Rattle.std.specs.List.{list_any}
 use Rattle.std.proofs.lemmas.List.{length-append, take_all}
 use Rattle.std.proofs.lemmas.List.Sums.{count_by_more_yes}
 use Rattle.std.proofs.lemmas.Option.{slice_get_within, get_or_from_slice_get}
-use Rattle.vd_law.specs.declared.entry.Sector.{Sector}
 use Rattle.vd_law.specs.declared.entry.Answer.{Answer}
 use Rattle.vd_law.specs.declared.entry.Answer.TheVariants as answers
 use Rattle.vd_law.specs.Entries.{Flush, Entry, Ask, Reply}
 use Rattle.vd_format.specs.declared.header.Header.{Header}
 use Rattle.vd_device.specs.declared.store.Store as store
 use Rattle.vd_device.specs.declared.base.Base as base
-use Rattle.vd_replay.proofs.ListLaws.{get_some}
 use Rattle.vd_passes.specs.Causes.{Device, OfStore, OfBase, named_by, named_in, faults_named, AreCaused}
 use Rattle.vd_run.specs.Serving.{Closes}
 use Rattle.vd_trace.specs.Traces.{Showing}
@@ -25,16 +23,13 @@ use Rattle.vd_show.specs.Showing.{show_line}
 use Rattle.vd_run.specs.Running.{closing_line}
 use Rattle.vd_run.specs.Reopening.{IsShownBy, Is_read, Store_failed, Base_failed, AreShownBy, Reopens, Reopening_failed, Is_refused_again, Opens_again}
 use Rattle.vd_law.specs.Counts.{Rose}
+use Rattle.vd_lists.proofs.Places.{some_place, slice_get_second_last}
 
 -- the flush that closes a run has failed only where its device has
-last_at : {X : Type 0} (xs : List X) (a b : X) → slice_get (xs ++ a ∷ b ∷ []) (suc (length xs)) ≡ Some b
-last_at [] a b = refl
-last_at (x ∷ xs) a b = last_at xs a b
-
 named_last : (device : Device) (served : List Entry) (first last : Entry) (ticket : ℕ) → named_in device last ≡ Some ticket → 1 ≤ faults_named device (served ++ first ∷ last ∷ [])
 named_last device served first last ticket names =
     let all : List Entry = served ++ first ∷ last ∷ [] in
-    let there = last_at served first last in
+    let there = slice_get_second_last served first last in
     let inside = slice_get_within all (suc (length served)) last there in
     let long = length-append served (first ∷ last ∷ []) in
     let counts = count_by_more_yes (λ e. is_some (named_in device e)) all (suc (length served)) first inside (ap (λ (e : Entry). is_some (named_in device e)) (get_or_from_slice_get all (suc (length served)) last first there) ∙ ap (λ (o : Option ℕ). is_some o) names) in
@@ -77,7 +72,7 @@ shows_cause : {S B : Type 0} {g : store.Ghosts S} {h : base.Ghosts B} {header : 
     → list_any has_failed shown ≡ true → Rose (g.faults d.store) (g.faults d'.store) ⊎ Rose (h.faults d.base) (h.faults d'.base)
 shows_cause trace_lines shown all any =
     let failed = first_failed shown any in
-    let line = get_some trace_lines failed.0 (let k = slice_get_within shown failed.0 failed.1.0 failed.1.1 in let m = all.many in omega arith) in
+    let line = some_place trace_lines failed.0 (let k = slice_get_within shown failed.0 failed.1.0 failed.1.1 in let m = all.many in omega arith) in
     shown_cause failed.1.0 (all.each failed.0 line.0 failed.1.0 line.1 failed.1.1) failed.1.2
 
 if_five : (b : Bool) (other : ℕ) → (other ≡ 5 → ⊥) → (if b then 5 else other) ≡ 5 → b ≡ true

@@ -6,7 +6,7 @@ use Rattle.vd_law.specs.declared.entry.Sector.{Sector}
 use Rattle.vd_law.specs.Entries.{Entry, Ask, Issue, Done, Broke, Seen, Reply, Past, nothing, ◌▸◌, past}
 use Rattle.vd_law.specs.Contents.{sector_in, open_writes}
 use Rattle.vd_law.specs.Rules.{Each, IsShown}
-use Rattle.vd_law.proofs.Sectors.{slice_get-inside, sector_in-place}
+use Rattle.vd_law.proofs.Sectors.{sector_in-place}
 use Rattle.vd_device.specs.Disks.{Disk, IsHonest, IsRunning, IsClean}
 use Rattle.vd_device.specs.Orders.{BeginsAlone, WritesInside}
 use Rattle.vd_device.specs.Now.{flush_entries}
@@ -39,7 +39,7 @@ orderly_past start (p ▸ Issue id first content) alone shown = orderly-issue st
     free : (s : ℕ) (v : Sector) → sector_in first content s ≡ Some v → open_writes p s ≡ []
     free s v covers =
         let place = sector_in-place first content s v covers in
-        let below = slice_get-inside content (s - first) v place.1 in
+        let below = slice_get_within content (s - first) v place.1 in
         alone.1 s place.0 (let low = place.0 in omega (arith, low, below))
 orderly_past start (p ▸ Done id) alone shown = orderly-done start p id (orderly_past start p alone.0 shown.0)
 orderly_past start (p ▸ Broke id) alone shown = orderly-broke start p id (orderly_past start p alone.0 shown.0)

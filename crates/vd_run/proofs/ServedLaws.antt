@@ -55,9 +55,9 @@ use Rattle.vd_run.proofs.StartLaws.{start_is, clean_later}
 use Rattle.vd_run.proofs.SafeLaws.{flush_reads, was_safe}
 use Rattle.vd_run.proofs.LaterLaws.{safe_later}
 use Rattle.vd_format.specs.Background.{zero_sector, base_at}
-use Rattle.vd_lists.proofs.Lists.{slice_get_front}
 use Rattle.vd_machine.specs.Asking.{Suffices}
 use Rattle.vd_law.specs.Needs.{requests_room}
+use Rattle.vd_lists.proofs.Places.{slice_get_front}
 
 -- a valid disk is whole blocks
 pub whole_disk : (h : Header) → IsValid h → h.block * blocks_of h ≡ h.size

@@ -1,5 +1,5 @@
 -- The guest's disk at opening: a clean store's log says what the store holds.
-use Rattle.std.proofs.Common.{ℕ, ◌≡◌, ◌/◌, max, get_or, ◌<◌, ◌≤◌, inl, inr, Bool, true, false, List, [], ◌∷◌, ◌++◌, length, map, take, Option, Some, None, refl, ap, sym, ◌∙◌, subst, arith}
+use Rattle.std.proofs.Common.{ℕ, ◌≡◌, ◌/◌, max, ◌<◌, ◌≤◌, inl, inr, Bool, true, false, List, [], ◌∷◌, ◌++◌, length, map, take, Option, Some, None, refl, ap, sym, ◌∙◌, subst, arith}
 use Rattle.std.specs.Prelude.{slice_get}
 use Rattle.std.specs.Option.{option_to_list}
 use Rattle.std.specs.List.{AllByRecursion, Contains, fold, list_any, filter, find}
@@ -31,17 +31,15 @@ use Rattle.vd_passes.specs.Tracks.{track, writes, content_by}
 use Rattle.vd_core.specs.Start.{opening_at, HasOneContent, WasClean, first_or_zeros, image_at, IsStart}
 use Rattle.vd_run.specs.Running.{IsDisk}
 use Rattle.vd_format.specs.Background.{zero_sector, base_at}
+use Rattle.vd_law.proofs.CleanLaws.{contains_one}
 
 -- ---- one content
 
 abbrev IsOne : List Sector → Type 0
 IsOne xs = (v w : Sector) → Contains xs v → Contains xs w → v ≡ w
 
-one_in : (x v : Sector) → Contains (x ∷ []) v → v ≡ x
-one_in x v there = let less = there.1 in let none : 0 ≡ there.0 = omega arith in sym there.2 ∙ ap (λ (k : ℕ). get_or (x ∷ []) k v) (sym none)
-
 one_alone : (x : Sector) → IsOne (x ∷ [])
-one_alone x v w a b = one_in x v a ∙ sym (one_in x w b)
+one_alone x v w a b = contains_one x v a ∙ sym (contains_one x w b)
 
 one_option : (o : Option Sector) → IsOne (option_to_list o)
 one_option None v w a b = absurd (let less = a.1 in omega arith)

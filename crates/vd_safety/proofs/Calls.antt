@@ -2,12 +2,12 @@
 use Rattle.std.proofs.Common.{◌≡◌, ℕ, zero, suc, ◌≤◌, Bool, List, [], ◌∷◌, refl, sym, ◌∙◌, ap, subst, inl, inr, arith, Some, slice_get}
 use Rattle.std.specs.Prelude.{if◌then◌else◌, ◌==◌}
 use Rattle.std.specs.List.{fold}
-use Rattle.std.proofs.lemmas.Bool.{eqb-true, eq-eqb}
+use Rattle.std.proofs.lemmas.Bool.{eqb-true, eq-eqb, cases_Bool}
 use Rattle.vd_law.specs.declared.entry.CallId.{CallId}
 use Rattle.vd_law.specs.Entries.{Asked, Entry, Ask, Issue, Done, Broke, Seen, Reply, same_call, Past, nothing, ◌▸◌, past}
 use Rattle.vd_law.specs.Calls.{Progress, progress, progress_after, last_call}
 use Rattle.vd_law.specs.Rules.{Each, IsInTurn}
-use Rattle.vd_law.proofs.Opening.{case, same_call-is}
+use Rattle.vd_law.proofs.Opening.{same_call-is}
 use Rattle.vd_law.proofs.OpenLaws.{progress-own, progress-other}
 use Rattle.vd_law.proofs.Inside.{still_asked}
 
@@ -20,7 +20,7 @@ first-at x y xs h = cc
 
 -- the number of a pass's last call never falls
 rises : (size : ℕ) (p : Past) (e : Entry) (i n : ℕ) → IsInTurn size p e → n ≤ last_call p i → n ≤ last_call (p ▸ e) i
-rises size p (Ask c request) i n turn low = elim (case (c.pass == i)) [
+rises size p (Ask c request) i n turn low = elim (cases_Bool (c.pass == i)) [
   | inl same ↦
       let e : last_call p c.pass ≡ last_call p i = ap (last_call p) (eqb-true c.pass i same) in
       subst (λ (b : Bool). n ≤ (if b then c.call else last_call p i)) (sym same) (let next = turn.0.number in omega arith)
@@ -62,7 +62,7 @@ pub one-ask : (size : ℕ) (es : List Entry) (id : CallId) (a b : ℕ) (r q : As
 one-ask size es id a b r q each at_a at_b = one-from size es nothing id a b r q each at_a at_b
 
 still : (size : ℕ) (p : Past) (e : Entry) (id : CallId) (r : Asked) → IsInTurn size p e → id.call ≤ last_call p id.pass → (progress p id).asked ≡ Some r → (progress (p ▸ e) id).asked ≡ Some r
-still size p (Ask c request) id r turn low is = elim (case (same_call c id)) [
+still size p (Ask c request) id r turn low is = elim (cases_Bool (same_call c id)) [
   | inl same ↦ absurd (not-again size p id request (subst (λ (d : CallId). IsInTurn size p (Ask d request)) (same_call-is c id same) turn) low)
   | inr differ ↦ ap (λ (g : Progress). g.asked) (progress-other p (Ask c request) id differ) ∙ is
 ]

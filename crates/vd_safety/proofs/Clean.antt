@@ -6,6 +6,7 @@ use Rattle.std.specs.Option.{option_to_list}
 use Rattle.std.proofs.lemmas.Bool.{cases_lt}
 use Rattle.std.proofs.lemmas.Option.{slice_get_within, get_or_from_slice_get}
 use Rattle.std.proofs.lemmas.List.{append_assoc, append-nil}
+use Rattle.vd_lists.proofs.Places.{some_place}
 use Rattle.vd_law.specs.declared.entry.Sector.{Sector}
 use Rattle.vd_law.specs.Entries.{Entry, Ask, Issue, Done, Broke, Seen, Reply, Past, nothing, ◌▸◌, past}
 use Rattle.vd_law.specs.Contents.{sector_in, issued_contents, Open, is_of, is_of_another, open_writes, contents_after_done, contents_after_seen, could, could_after, last_done, firm_after, versions, may}
@@ -21,7 +22,6 @@ use Rattle.vd_image.proofs.OpenWrites.{IsDoneNth, done_is}
 use Rattle.vd_image.proofs.Exact.{sure_below, contains_at, at_contains, at_dropped, may_is_exact}
 use Rattle.vd_image.proofs.CrashImages.{at_inside, past_end}
 use Rattle.vd_replay.specs.Images.{image_of}
-use Rattle.vd_replay.proofs.ListLaws.{get_some}
 use Rattle.vd_safety.proofs.Orderly.{IsOrderly, OpenAt, IsAmong, could-may, could-last}
 use Rattle.vd_format.specs.Background.{zero_sector}
 
@@ -109,7 +109,7 @@ left_last old new was a x v told left = subst (λ (i : ℕ). At (x ∷ issued_co
 
 clean_left : (zeros : Sector) (old new : Disk) → WasClean old new → AreLeft new → length new.held ≡ length new.start → AreInside new → (a : ℕ) (v : Sector) → May (sectors_or zeros new.start) new.log a v → v ≡ sectors_or zeros new.held a
 clean_left zeros old new was held size inside a v left = elim (cases_lt a (length new.start)) [
-  | inl within ↦ here (get_some new.start a within) (get_some new.held a (omega arith)) within
+  | inl within ↦ here (some_place new.start a within) (some_place new.held a (omega arith)) within
   | inr past_it ↦ there past_it left
 ]
   where
@@ -134,7 +134,7 @@ clean-left old new was held size inside a v left = clean_left zero_sector old ne
 -- what an honest store with an orderly log holds may be left by a crash
 pub honest-left : (d : Disk) → IsHonest d → IsOrderly d.start (past d.log) → length d.held ≡ length d.start → AreLeft d
 honest-left d honest orderly size a v at =
-    let x = get_some d.start a (let k = slice_get_within d.held a v at in omega (arith, k, size)) in
+    let x = some_place d.start a (let k = slice_get_within d.held a v at in omega (arith, k, size)) in
     could-may d.start d.log a x.0 v x.1 orderly (honest a v at)
 
 open_more : (more : List Entry) (p : Past) (s : ℕ) → AllByRecursion IsNoWrite more → open_writes p s ≡ [] → open_writes (fold ◌▸◌ p more) s ≡ []
@@ -203,7 +203,7 @@ orderly-still old new was honest_old orderly size held honest_new =
         → (k : ℕ) (u : Sector) → At (could_after old.start (fold ◌▸◌ (past old.log) was.more) s) k u → IsAmong x (last_done (fold ◌▸◌ (past old.log) was.more) s) (issued_contents (fold ◌▸◌ (past old.log) was.more) s) u
     by_could s x told (inl same) k u at = at_last s x u told (at_contains (could old.start old.log s) k u (subst (λ (c : List Sector). At c k u) same at))
     by_could s x told (inr (g, alone)) k u at =
-        let w = get_some old.held s (let n = slice_get_within old.start s x told in omega (arith, n, size)) in
+        let w = some_place old.held s (let n = slice_get_within old.start s x told in omega (arith, n, size)) in
         let now : Contains (could new.start new.log s) w.0 = honest_new s w.0 (ap (λ (xs : List Sector). slice_get xs s) held ∙ w.1) in
         let there : Contains (g ∷ []) w.0 = subst (λ (c : List Sector). Contains c w.0) (ap (λ (xs : List Sector). could_after xs (past new.log) s) was.start ∙ ap (λ (p : Past). could_after old.start p s) log_is ∙ alone) now in
         let place = contains_at (g ∷ []) w.0 there in

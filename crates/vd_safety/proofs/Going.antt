@@ -2,8 +2,9 @@
 use Rattle.std.proofs.Common.{ℕ, zero, suc, ◌≡◌, ◌+◌, ◌-◌, ◌<◌, ◌≤◌, inl, inr, Bool, true, false, List, [], ◌∷◌, ◌++◌, length, Option, Some, refl, ap, sym, ◌∙◌, subst, arith}
 use Rattle.std.specs.Prelude.{⊤, Ok, slice_get, slice_index_or}
 use Rattle.std.specs.List.{All, AllByRecursion, Contains, list_any}
-use Rattle.std.proofs.lemmas.List.{append_assoc, append-nil}
+use Rattle.std.proofs.lemmas.List.{append_assoc, append-nil, length_push}
 use Rattle.std.proofs.lemmas.List.Elements.{All-head}
+use Rattle.std.proofs.lemmas.Option.{slice_get_within}
 use Rattle.vd_law.specs.declared.entry.Sector.{Sector}
 use Rattle.vd_law.specs.declared.entry.CallId.{CallId}
 use Rattle.vd_law.specs.declared.entry.Answer.TheVariants.{StoreFault}
@@ -11,7 +12,7 @@ use Rattle.vd_law.specs.Entries.{Asked, Flush as AsksFlush, Entry, Ask, Issue, D
 use Rattle.vd_law.specs.Contents.{sector_in, Open, is_of_another, open_writes, contents_after_seen, could, could_after}
 use Rattle.vd_law.proofs.Appending.{past-push, could-push}
 use Rattle.vd_law.proofs.Opening.{own_alone}
-use Rattle.vd_law.proofs.Sectors.{slice_get-inside, sector_in-place}
+use Rattle.vd_law.proofs.Sectors.{sector_in-place}
 use Rattle.vd_device.specs.declared.ticket.Ticket.{Ticket}
 use Rattle.vd_device.specs.declared.ticket.Kind.{Kind}
 use Rattle.vd_device.specs.declared.ticket.Kind.TheVariants.{Read, Write, Flush}
@@ -23,7 +24,7 @@ use Rattle.vd_device.specs.Disks.{Disk, IsUnwrittenAt, IsClean, IsOneOf, AreWrit
 use Rattle.vd_device.specs.Now.{call_number, flush_entries}
 use Rattle.vd_device.specs.Quiet.{IsNoWrite, AddsNoWrite}
 use Rattle.vd_image.specs.Log.{Fine, At, Covers, Writes, Flushes}
-use Rattle.vd_image.proofs.Logs.{length_push, writes_pushed}
+use Rattle.vd_image.proofs.Logs.{writes_pushed}
 use Rattle.vd_safety.proofs.Orderly.{IsOrderly, orderly-ask, orderly-reply, orderly-issue, orderly-done, orderly-broke, orderly-seen}
 use Rattle.vd_safety.proofs.Clean.{WasClean, AreInside, flushes-more}
 
@@ -63,7 +64,7 @@ orderly-issued old new ticket content tickets adds writes clear orderly = more o
     free : (s : ℕ) (v : Sector) → sector_in ticket.first content s ≡ Some v → open_writes (past old.log) s ≡ []
     free s v covers =
         let inside = sector_in-place ticket.first content s v covers in
-        let below = slice_get-inside content (s - ticket.first) v inside.1 in
+        let below = slice_get_within content (s - ticket.first) v inside.1 in
         calm_there tickets ticket.first (length content) s (open_writes (past old.log) s) clear (writes s) inside.0 (let k = inside.0 in omega (arith, k, below))
 
 -- a settle, by a ticket whose number no write in flight has
@@ -123,7 +124,7 @@ inside_more old new e start log covers inside i a v w =
 
 pub inside-issued : (old new : Disk) (ticket : Ticket) (content : List Sector) → Adds (issue_entry ticket content) old new → ticket.first + length content ≤ length old.start → AreInside old → AreInside new
 inside-issued old new ticket content adds room inside =
-    inside_more old new (issue_entry ticket content) adds.start adds.log (λ s v covers. (let below = slice_get-inside content covers.0 v covers.2 in let at = covers.1 in omega (arith, below, at, room))) inside
+    inside_more old new (issue_entry ticket content) adds.start adds.log (λ s v covers. (let below = slice_get_within content covers.0 v covers.2 in let at = covers.1 in omega (arith, below, at, room))) inside
 
 pub inside-asked : (old new : Disk) (id : CallId) (request : Asked) → Adds (Ask id request) old new → AreInside old → AreInside new
 inside-asked old new id request adds inside = inside_more old new (Ask id request) adds.start adds.log (λ s v covers. absurd covers) inside

@@ -27,18 +27,18 @@ use Rattle.vd_crash.proofs.facts.Moments.{up_to-all}
 use Rattle.vd_crash.specs.primitives.Primitives.{State}
 use Rattle.vd_crash.specs.primitives.Keeping.{KeepsCrashSafety}
 use Rattle.vd_replay.specs.Images.{image_of}
-use Rattle.vd_replay.proofs.ListLaws.{get_some}
 use Rattle.vd_keeper.specs.Keeping.{KeeperState}
 use Rattle.vd_passes.specs.declared.pass.Pass.{Pass}
 use Rattle.vd_safety.specs.Mirrors.{opening_for, HasSafeMirror}
 use Rattle.vd_safety.specs.Held.{IsHeldNow, IsOpenAgain}
 use Rattle.vd_safety.proofs.Words.{secured-is-safe, secured-numbers}
 use Rattle.vd_format.specs.Background.{base_at, zero_sector}
+use Rattle.vd_lists.proofs.Places.{some_place}
 
 pub held_image : (zeros : Sector) (before : List Sector) (log : List Entry) (now : List Sector) → IsHeldNow before log now → IsImage (sectors_or zeros before) log (sectors_or zeros now)
 held_image zeros before log now held s = elim (cases_lt s (length before)) [
   | inl within ↦
-      let u = get_some now s (let n = held.size in omega arith) in
+      let u = some_place now s (let n = held.size in omega arith) in
       subst (λ (v : Sector). May (sectors_or zeros before) log s v) (sym (get_or_from_slice_get now s u.0 zeros u.1))
       ((may_is_exact before (sectors_or zeros before) log s u.0 (at_inside zeros before s within)).0 (held.each s u.0 u.1))
   | inr past_it ↦ inl (record {

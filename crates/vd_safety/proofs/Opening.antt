@@ -1,6 +1,5 @@
 -- A core as it is made is secured.
 use Rattle.std.proofs.Common.{ℕ, zero, suc, ◌≡◌, ◌+◌, ◌-◌, ◌*◌, ◌/◌, ◌<◌, ◌⊎◌, ◌||◌, inl, inr, Bool, true, false, if◌then◌else◌, List, [], length, replicate, Some, None, refl, ap, sym, ◌∙◌, subst, arith}
-use Rattle.std.proofs.Math.Path.{fun_ext}
 use Rattle.std.specs.Prelude.{◌≢◌, slice_get}
 use Rattle.std.proofs.lemmas.Bool.{cases_lt, cases_eq}
 use Rattle.std.proofs.lemmas.Option.{slice_get_within, get_or_from_slice_get}
@@ -28,7 +27,6 @@ use Rattle.vd_crash.proofs.primitives.Keeping.{opening_keeps_all}
 use Rattle.vd_replay.specs.Images.{image_of}
 use Rattle.vd_replay.specs.States.{IsWholeState, IsState}
 use Rattle.vd_replay.specs.declared.state.State.{State}
-use Rattle.vd_replay.proofs.ListLaws.{get_some}
 use Rattle.vd_keeper.specs.declared.stage.Stage.TheVariants as stage
 use Rattle.vd_keeper.specs.declared.stage.Way.TheVariants as ways
 use Rattle.vd_keeper.specs.Keeping.{KeeperState, pages_of, no_marks}
@@ -38,6 +36,7 @@ use Rattle.vd_passes.specs.declared.pass.Phase.TheVariants.{Idle}
 use Rattle.vd_safety.specs.Mirrors.{bit_of, storage_of, is_in, opening_for, IsFlightOf, HasSafeMirror}
 use Rattle.vd_safety.proofs.Stated.{maps_grammar, up_there, down_there, stored_has, has_stored, has_gives, gives_has, up_mask, up_local, local_up, below_next, disk_past}
 use Rattle.vd_format.specs.Background.{zero_sector, base_at}
+use Rattle.vd_lists.proofs.Places.{some_place}
 
 -- what a core is made from: a state that was read from what the store holds now, after a log that leaves no other content
 -- in any sector, and has a flush that succeeded; and the disk that the held image stands for
@@ -87,7 +86,7 @@ disk_is : (s : State) (before held base disk : List Sector) (log : List Event) �
     → (x : ℕ) (v : Sector) → DiskHas (format_of s.header) (layout_of s.header) (base_at zero_sector base) zero_sector (image_of held) x v → v ≡ sectors_or zero_sector disk x
 disk_is s before held base disk log start x v has = elim (cases_lt x s.header.size) [
   | inl within ↦
-      let there = get_some disk x (let n = start.size in omega arith) in
+      let there = some_place disk x (let n = start.size in omega arith) in
       disk_one (format_of s.header) (layout_of s.header) (base_at zero_sector base) zero_sector (image_of held) x v there.0 has (start.shows x there.0 there.1)
       ∙ sym (get_or_from_slice_get disk x there.0 zero_sector there.1)
   | inr past ↦

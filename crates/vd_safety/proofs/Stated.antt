@@ -4,6 +4,7 @@ use Rattle.std.specs.Prelude.{slice_get, nat_lt}
 use Rattle.std.proofs.lemmas.Bool.{cases_lt, le-ltb}
 use Rattle.std.proofs.lemmas.Nat.{div-add-mod', mod_below}
 use Rattle.std.proofs.lemmas.Option.{slice_get_within, get_or_from_slice_get}
+use Rattle.vd_lists.proofs.Places.{some_place}
 use Rattle.vd_law.specs.declared.entry.Sector.{Sector}
 use Rattle.vd_format.specs.Headers.{IsValid}
 use Rattle.vd_format.specs.Layouts.{blocks_of, chunks_of}
@@ -18,7 +19,6 @@ use Rattle.vd_image.proofs.Layouts.{parts_apart}
 use Rattle.vd_image.proofs.Openings.{header_valid}
 use Rattle.vd_replay.specs.States.{IsState}
 use Rattle.vd_replay.specs.declared.state.State.{State}
-use Rattle.vd_replay.proofs.ListLaws.{get_some}
 use Rattle.vd_replay.proofs.StateLaws.{storage_is, storage_from}
 use Rattle.vd_safety.specs.Mirrors.{bit_of, storage_given, storage_of, is_in}
 use Rattle.vd_format.specs.Background.{zero_sector, background}
@@ -120,7 +120,7 @@ pub local_up : (sectors : ℕ) (image : Image) (h : Header) (s : State) (b p : �
 local_up sectors image h s b p is size (m, maps, local) =
     let w = mapped sectors image h s (b / h.chunk) m is maps in
     let within : b < length s.fresh.bits = (let k = (w.grammar.blocks b local.1).0 in omega (arith, k, size)) in
-    let bit = get_some s.fresh.bits b within in
+    let bit = some_place s.fresh.bits b within in
     let up : bit.0 ≡ true = (is.fresh b bit.0 bit.1).1 (w.entry, w.stands, ap (λ (x : Mapping). x.has b) w.is ∙ local.1) in
     there_up s.fresh.bits b (bit.1 ∙ ap Some up)
 

@@ -4,7 +4,7 @@ use Rattle.std.specs.Prelude.{nat_le}
 use Rattle.std.specs.List.{Contains}
 use Rattle.std.specs.Option.{option_to_list}
 use Rattle.std.proofs.lemmas.Bool.{cases_lt, le-leb}
-use Rattle.std.proofs.lemmas.List.{append_assoc, append-nil, take_all}
+use Rattle.std.proofs.lemmas.List.{append_assoc, append-nil, take_all, length_push}
 use Rattle.std.proofs.lemmas.List.Sums.{sum_by-append}
 use Rattle.vd_law.specs.declared.entry.Sector.{Sector}
 use Rattle.vd_law.specs.declared.entry.CallId.{CallId}
@@ -23,7 +23,7 @@ use Rattle.vd_image.specs.Image.{Format, Layout}
 use Rattle.vd_image.specs.Layouts.{layout_of}
 use Rattle.vd_image.specs.Decoders.{Entry as MapEntry, format_of}
 use Rattle.vd_image.proofs.CrashImages.{at_inside}
-use Rattle.vd_image.proofs.Logs.{at_prefix, length_push}
+use Rattle.vd_image.proofs.Logs.{at_prefix}
 use Rattle.vd_image.proofs.Exact.{at_contains, contains_at}
 use Rattle.vd_crash.specs.facts.Safe.{NumberedEntry, Opening, numbered, IsSafe}
 use Rattle.vd_crash.specs.facts.Facts.{HasEntry as StandsAs, AreNumbers}

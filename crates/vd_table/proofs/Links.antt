@@ -3,14 +3,15 @@ use Rattle.std.proofs.Common.{◌≡◌, ◌≢◌, ℕ, ◌+◌, ◌^◌, ◌<�
 use Rattle.std.specs.List.{slice_get, count_by}
 use Rattle.std.proofs.Math.Nat.{mul-zero}
 use Rattle.std.proofs.lemmas.Bool.{cases_eq, false≢true}
-use Rattle.std.proofs.lemmas.List.{length-replicate, get_or-replicate}
+use Rattle.std.proofs.lemmas.List.{length-replicate}
 use Rattle.std.proofs.lemmas.List.Folds.{sum_by-replicate}
 use Rattle.std.proofs.lemmas.List.Sums.{sum_by-set}
 use Rattle.std.proofs.lemmas.Option.{same_Some, slice_get-get_or, slice_get_within, get_or_from_slice_get}
+use Rattle.vd_lists.proofs.Changes.{slice_set_inside, slice_set_other}
+use Rattle.vd_lists.proofs.Places.{slice_get_replicate}
 use Rattle.vd_bits.specs.Marks.{IsLowest, NoneFrom}
 use Rattle.vd_bits.proofs.MarkedLaws.{is_counted}
-use Rattle.vd_bits.proofs.SetLaws.{set_same, set_other, count-set_false, count-full, count-none}
-use Rattle.vd_bits.proofs.SummaryLaws.{get-replicate}
+use Rattle.vd_bits.proofs.SetLaws.{count-set_false, count-full, count-none}
 use Rattle.vd_table.specs.Tables.{IsOneToOne, IsLeastFree}
 use Rattle.vd_table.specs.TableFields.{IsLinked}
 
@@ -71,30 +72,30 @@ module _ (storage owners : List (Option ℕ)) (free : List Bool) (l : IsLinked s
     new_owner : (c q : ℕ) → slice_get (set storage chunk (Some p)) c ≡ Some (Some q) → slice_get (set owners p (Some chunk)) q ≡ Some (Some c)
     new_owner c q h =
         ⊎_elim
-        (λ (e : c ≡ chunk). let same : p ≡ q = same_some (sym (set_same storage chunk (Some p) chunk_inside) ∙ rw e at h) in rw (← same, e) (set_same owners p (Some chunk) inside))
+        (λ (e : c ≡ chunk). let same : p ≡ q = same_some (sym (slice_set_inside storage chunk (Some p) chunk_inside) ∙ rw e at h) in rw (← same, e) (slice_set_inside owners p (Some chunk) inside))
         (λ (ne : c ≢ chunk).
-        let was : slice_get storage c ≡ Some (Some q) = sym (set_other storage chunk c (Some p) ne) ∙ h in
-        set_other owners p q (Some chunk) (λ e. nobody c (rw e at was)) ∙ l.owner c q was)
+        let was : slice_get storage c ≡ Some (Some q) = sym (slice_set_other storage chunk c (Some p) ne) ∙ h in
+        slice_set_other owners p q (Some chunk) (λ e. nobody c (rw e at was)) ∙ l.owner c q was)
         (cases_eq c chunk)
 
     new_owned : (c q : ℕ) → slice_get (set owners p (Some chunk)) q ≡ Some (Some c) → slice_get (set storage chunk (Some p)) c ≡ Some (Some q)
     new_owned c q h =
         ⊎_elim
-        (λ (e : q ≡ p). let same : chunk ≡ c = same_some (sym (set_same owners p (Some chunk) inside) ∙ rw e at h) in rw (← same, e) (set_same storage chunk (Some p) chunk_inside))
+        (λ (e : q ≡ p). let same : chunk ≡ c = same_some (sym (slice_set_inside owners p (Some chunk) inside) ∙ rw e at h) in rw (← same, e) (slice_set_inside storage chunk (Some p) chunk_inside))
         (λ (ne : q ≢ p).
-        let was : slice_get owners q ≡ Some (Some c) = sym (set_other owners p q (Some chunk) ne) ∙ h in
+        let was : slice_get owners q ≡ Some (Some c) = sym (slice_set_other owners p q (Some chunk) ne) ∙ h in
         let has = l.owned c q was in
-        set_other storage chunk c (Some p) (λ e. none_some (sym none ∙ rw e at has)) ∙ has)
+        slice_set_other storage chunk c (Some p) (λ e. none_some (sym none ∙ rw e at has)) ∙ has)
         (cases_eq q p)
 
     new_unowned : (q : ℕ) → (slice_get (set free p false) q ≡ Some true) ↔ (slice_get (set owners p (Some chunk)) q ≡ Some None)
     new_unowned q =
         ⊎_elim
         (λ (e : q ≡ p). rw e (
-          (λ h. absurd (false≢true (same_Some false true (sym (set_same free p false (omega (arith, l.each))) ∙ h)))),
-          (λ h. absurd (none_some (sym h ∙ set_same owners p (Some chunk) inside))),
+          (λ h. absurd (false≢true (same_Some false true (sym (slice_set_inside free p false (omega (arith, l.each))) ∙ h)))),
+          (λ h. absurd (none_some (sym h ∙ slice_set_inside owners p (Some chunk) inside))),
         ))
-        (λ (ne : q ≢ p). rw (set_other free p q false ne, set_other owners p q (Some chunk) ne) (l.unowned q))
+        (λ (ne : q ≢ p). rw (slice_set_other free p q false ne, slice_set_other owners p q (Some chunk) ne) (l.unowned q))
         (cases_eq q p)
 
     pub given-linked : IsLinked (set storage chunk (Some p)) (set owners p (Some chunk)) (set free p false)
@@ -108,11 +109,8 @@ module _ (storage owners : List (Option ℕ)) (free : List Bool) (l : IsLinked s
       short = rw length-set l.short;
     }
 
-get_none : (n i : ℕ) → i < n → slice_get (replicate {A = Option ℕ} n None) i ≡ Some None
-get_none n i h = slice_get-get_or (replicate n None) i None (omega (arith, length-replicate {A = Option ℕ} n None)) ∙ ap (λ x. Some x) (get_or-replicate n i None None h)
-
 not_some : (n i x : ℕ) → slice_get (replicate {A = Option ℕ} n None) i ≡ Some (Some x) → ⊥
-not_some n i x h = none_some (sym (get_none n i (omega (arith, slice_get_within (replicate n None) i (Some x) h, length-replicate {A = Option ℕ} n None))) ∙ h)
+not_some n i x h = none_some (sym (slice_get_replicate n None i (omega (arith, slice_get_within (replicate n None) i (Some x) h, length-replicate {A = Option ℕ} n None))) ∙ h)
 
 -- without any storage given
 pub empty-linked : (chunks storage : ℕ) → chunks < 2 ^ 32 → storage < 2 ^ 32 → IsLinked (replicate chunks None) (replicate storage None) (replicate storage true)
@@ -121,8 +119,8 @@ empty-linked chunks storage short few = record {
   owned = λ chunk p h. absurd (not_some storage p chunk h);
   each = rw (length-replicate, length-replicate) refl;
   unowned = λ p. (
-    λ h. get_none storage p (omega (arith, slice_get_within (replicate storage true) p true h, length-replicate storage true)),
-    λ h. get-replicate storage p true (omega (arith, slice_get_within (replicate storage None) p None h, length-replicate {A = Option ℕ} storage None)),
+    λ h. slice_get_replicate storage None p (omega (arith, slice_get_within (replicate storage true) p true h, length-replicate storage true)),
+    λ h. slice_get_replicate storage true p (omega (arith, slice_get_within (replicate storage None) p None h, length-replicate {A = Option ℕ} storage None)),
   );
   all = omega (arith, count-full storage, sum_by-replicate (λ (o : Option ℕ). cond {A = ℕ} (is_some o) 1 0) chunks None, mul-zero chunks, length-replicate {A = Option ℕ} storage None);
   few = rw length-replicate few;

@@ -6,7 +6,7 @@ use Rattle.std.proofs.lemmas.Bool.{cases_eq, cases_lt}
 use Rattle.std.proofs.lemmas.List.{drop-set-lt}
 use Rattle.std.proofs.lemmas.List.Sums.{sum_by-cons}
 use Rattle.std.proofs.lemmas.Option.{slice_get_within, get_or_from_slice_get}
-use Rattle.vd_bits.proofs.SetLaws.{set_same, set_other}
+use Rattle.vd_lists.proofs.Changes.{slice_set_inside, slice_set_other}
 use Rattle.vd_table.specs.Tables.{TableState, Has, used_chunks, with_storage, IsOneToOne, IsLeastFree}
 use Rattle.vd_table.specs.Runs.{lacking, TakesOne, TakesRun}
 use Rattle.vd_table.proofs.Links.{none_some, same_some, count-set_some}
@@ -21,10 +21,10 @@ lacking-before t chunk p n = rw (drop-set-lt (chunk + 1) t.chunks chunk (Some p)
 -- one chunk got a free storage chunk
 module _ (t : TableState) (chunk p : ℕ) (none : slice_get t.chunks chunk ≡ Some None) where
   got : Has (with_storage t chunk p) chunk p
-  got = set_same t.chunks chunk (Some p) (slice_get_within t.chunks chunk None none)
+  got = slice_set_inside t.chunks chunk (Some p) (slice_get_within t.chunks chunk None none)
 
   others_stay : (other : ℕ) → other ≢ chunk → slice_get (set t.chunks chunk (Some p)) other ≡ slice_get t.chunks other
-  others_stay other ne = set_other t.chunks chunk other (Some p) ne
+  others_stay other ne = slice_set_other t.chunks chunk other (Some p) ne
 
   not_it : (other q : ℕ) → Has t other q → other ≢ chunk
   not_it other q has e = none_some (sym none ∙ rw e at has)

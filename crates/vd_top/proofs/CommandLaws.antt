@@ -1,5 +1,5 @@
 -- What a command answers, and the causes of its status.
-use Rattle.std.proofs.Common.{ℕ, zero, suc, ◌≡◌, ◌≤◌, ◌⊎◌, min, inl, inr, Bool, true, false, List, Option, Some, None, refl, sym, ◌∙◌, ap, subst, arith}
+use Rattle.std.proofs.Common.{ℕ, zero, suc, ◌≡◌, ◌≤◌, ◌⊎◌, min, inl, inr, Bool, true, false, List, Some, refl, sym, ◌∙◌, ap, subst, arith}
 use Rattle.std.specs.Prelude.{◌↔◌, ◌==◌, IsTrue, if◌then◌else◌}
 use Rattle.vd_device.specs.declared.store.Store as store
 use Rattle.vd_device.specs.declared.base.Base as base
@@ -26,12 +26,6 @@ use Rattle.vd_report.specs.Ending.{is_device_fault, are_ok, reopened_status, run
 use Rattle.vd_run.proofs.RunCauses.{closing_cause, reopened_cause, reopened_not}
 use Rattle.vd_top.specs.Asks.{new_header, AsksFor, IsNoShow, IsNoMake, AsksRun, IsNoRun, IsNoCommand}
 use Rattle.vd_law.specs.Counts.{Rose}
-
-pub is_no_command : (command : Command) → None ≡ Some command → ⊥
-is_no_command command e = cc
-
-pub same_command : (a b : Command) → Some a ≡ Some b → a ≡ b
-same_command a b e = cc
 
 -- the header of a `make` is valid
 pub new_valid : (size block chunk storage slots base_sectors : ℕ) → IsValid (made_header size block chunk storage slots) → IsValid (new_header size block chunk storage slots base_sectors)

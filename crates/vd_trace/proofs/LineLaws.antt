@@ -5,6 +5,8 @@ use Rattle.std.proofs.lemmas.Slice.Eq.{bytes_eq-Decides}
 use Rattle.std.specs.Prelude.{codes, option_and_then, if◌then◌else◌}
 use Rattle.std.specs.Str.{bytes_eq}
 use Rattle.std.specs.List.{onto_first, list_any}
+use Rattle.std.proofs.lemmas.List.{nil_from_length}
+use Rattle.std.proofs.lemmas.Option.{cond_some}
 use Rattle.hex.specs.declared.error.FromHexError.{FromHexError}
 use Rattle.hex.specs.Hex.{decode_of, decode_sized}
 use Rattle.hex.proofs.HexLemmas.{decode_sized-twice, decode_sized-ok, decode_of-ok}
@@ -23,16 +25,11 @@ found : {A B : Type 0} (f : A → Option B) (o : Option A) (y : B) → option_an
 found f None y e = cc
 found f (Some x) y e = (x, refl, e)
 
--- a choice that found something
-chosen : (b : Bool) (n m : ℕ) → (if b then Some n else None) ≡ Some m → (b ≡ true) × (n ≡ m)
-chosen true n m e = (refl, cc)
-chosen false n m e = cc
-
 ranged-exact : (low high : ℕ) (field : List ℕ) (n : ℕ) → (ranged_in low high field ≡ Some n) ↔ (IsNumber field n × (low ≤ n) × (n ≤ high))
 ranged-exact low high field n = (
   λ e.
       let step = found _ (number_in 10 field) n e in
-      let pick = chosen (leb low step.0 && leb step.0 high) step.0 n step.2 in
+      let pick = cond_some (leb low step.0 && leb step.0 high) step.0 n step.2 in
       let both = and_parts (leb low step.0) (leb step.0 high) pick.0 in
       let same : step.0 ≡ n = pick.1 in
       let least : low ≤ n = omega (arith, leb-true low step.0 both.0, same) in
@@ -46,10 +43,6 @@ first_byte-some (Ok []) b e = cc
 first_byte-some (Ok (x ∷ bytes)) b e = let same : x ≡ b = cc in (bytes, ap (λ (y : ℕ). Ok (y ∷ bytes)) same)
 first_byte-some (Err f) b e = cc
 
-none : (bytes : List ℕ) → length bytes ≡ 0 → bytes ≡ []
-none [] e = refl
-none (b ∷ bytes) e = absurd (omega arith)
-
 byte-exact : (field : List ℕ) (b : ℕ) → (byte_in field ≡ Some b) ↔ AreHexDigits 2 field (b ∷ [])
 byte-exact field b = (
   λ e.
@@ -57,7 +50,7 @@ byte-exact field b = (
       let many : length field ≡ 2 = decode_sized-ok field 1 (b ∷ first.0) first.1 in
       let decoded : decode_of field ≡ Ok (b ∷ first.0) = sym (decode_sized-twice field 1 many) ∙ first.1 in
       let rest : length first.0 ≡ 0 = omega (arith, (decode_of-ok field (b ∷ first.0) decoded).2, many) in
-      record { many = many; decoded = decoded ∙ ap (λ (bytes : List ℕ). Ok (b ∷ bytes)) (none first.0 rest) },
+      record { many = many; decoded = decoded ∙ ap (λ (bytes : List ℕ). Ok (b ∷ bytes)) (nil_from_length first.0 rest) },
   λ s. rw (decode_sized-twice field 1 s.many, s.decoded) refl,
 )
 

@@ -3,7 +3,7 @@ use Rattle.std.proofs.Common.{◌≡◌, ℕ, suc, ◌+◌, ◌-◌, ◌<◌, �
 use Rattle.std.proofs.lemmas.Bool.{false_from_ne_true, eqb-true}
 use Rattle.std.proofs.lemmas.List.Splits.{slice_split_at}
 use Rattle.std.proofs.Math.Seq.{take-append_seam}
-use Rattle.std.specs.Prelude.{slice_get, if◌then◌else◌}
+use Rattle.std.specs.Prelude.{if◌then◌else◌}
 use Rattle.std.specs.List.{slice_split, onto_first}
 use Rattle.std.specs.Str.Lines.{lines, lines_of_parts, strip_carriage_return}
 use Rattle.memchr.specs.Find.{IsFirstByte, is_byte}
@@ -16,6 +16,8 @@ use Rattle.vd_trace.specs.Keeping.{HasReadLines, Stops}
 use Rattle.vd_trace.specs.Streaming.{StandsAt, EndsBy}
 use Rattle.vd_trace.proofs.Drafts.{spells-length}
 use Rattle.vd_trace.proofs.Splitting.{parted, unmet, cut-none}
+use Rattle.std.proofs.lemmas.List.{nil_from_length}
+use Rattle.vd_lists.proofs.Places.{slice_get_middle}
 
 -- there is a part before the first newline, or at the end
 abbrev pub parts : List ℕ → List (List ℕ)
@@ -76,10 +78,6 @@ lines-long w r none long =
     (line.0, line.1, ap lines_of_parts whole ∙ line.2, line.3)
 
 -- the line behind those that were read
-there : (done : List (List ℕ)) (line : List ℕ) (more : List (List ℕ)) → slice_get (done ++ line ∷ more) (length done) ≡ Some line
-there [] line more = refl
-there (x ∷ done) line more = there done line more
-
 goes-to : (guests : ℕ) (all done : List (List ℕ)) (line : List ℕ) (more : List (List ℕ)) (before : List Line) (number : ℕ) → all ≡ done ++ line ∷ more → SpellsLines guests [] done before →
     number ≡ length before + 1 → GoesTo guests all number before line
 goes-to guests all done line more before number is spelled counted =
@@ -87,7 +85,7 @@ goes-to guests all done line more before number is spelled counted =
     rw is (record {
       counted = counted;
       good = rw (← many, take-append_seam done (line ∷ more)) spelled;
-      there = rw (← many) (there done line more);
+      there = rw (← many) (slice_get_middle done more line);
     })
 
 pub stops-ends : (guests : ℕ) (all done : List (List ℕ)) (line : List ℕ) (more : List (List ℕ)) (told : Type 0) (e : TraceError) → (told → all ≡ done ++ line ∷ more) → Stops guests done line e → EndsBy guests all told e
@@ -130,14 +128,10 @@ no-source guests done line e is stops = subst (Stops guests done line) is stops
 
 -- At the end of the source.
 
-no_bytes : (w : List ℕ) → length w ≡ 0 → w ≡ []
-no_bytes [] e = refl
-no_bytes (b ∷ w) e = absurd (omega arith)
-
 -- nothing is left
 pub all-read : (all : List (List ℕ)) (told : Type 0) (w r : List ℕ) (draft : Draft) → StandsAt all told (w ++ r) draft → told → r ≡ [] → length w ≡ 0 → HasReadLines all draft
 all-read all told w r draft stands now none empty =
-    let whole : all ≡ stands.done = stands.rest now ∙ ap (λ (bs : List ℕ). stands.done ++ lines (bs ++ r)) (no_bytes w empty) ∙ ap (λ (bs : List ℕ). stands.done ++ lines bs) none ∙ append-nil stands.done in
+    let whole : all ≡ stands.done = stands.rest now ∙ ap (λ (bs : List ℕ). stands.done ++ lines (bs ++ r)) (nil_from_length w empty) ∙ ap (λ (bs : List ℕ). stands.done ++ lines bs) none ∙ append-nil stands.done in
     rw whole stands.read
 
 -- a last line without an end is left

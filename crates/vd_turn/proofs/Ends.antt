@@ -10,9 +10,8 @@ use Rattle.vd_turn.specs.declared.board.View.{View}
 use Rattle.vd_turn.specs.Values.{PassValue}
 use Rattle.vd_turn.specs.declared.keeping.Kept.{Ghosts}
 use Rattle.vd_turn.specs.Lists.{IsLaterFor, size}
-use Rattle.vd_turn.specs.Board.{view_of, first_view, HasOneValue}
+use Rattle.vd_turn.specs.Board.{view_of, first_view, HasOneValue, note_of}
 use Rattle.vd_turn.specs.Passes.{pass_number}
-use Rattle.vd_turn.specs.Board.{note_of}
 use Rattle.vd_turn.proofs.Steps.{starts, ends}
 use Rattle.vd_turn.proofs.Entries.{later_reflexive}
 

@@ -1,8 +1,7 @@
 //! How the seats of the passes are made, and how they come together again.
 ghost use Rattle.std.specs.Prelude.{◌≡◌, ◌<◌, ◌≤◌, false, [], length, map, vec_capacity};
 ghost use Rattle.std.specs.List.{All, range_with_len};
-ghost use Rattle.vd_turn.specs.Board.{first_view, view_of};
-ghost use Rattle.vd_turn.specs.Board.{note_of};
+ghost use Rattle.vd_turn.specs.Board.{first_view, view_of, note_of};
 ghost use Rattle.vd_turn.specs.Passes.{resting};
 
 use crate::board::{Place, Top};

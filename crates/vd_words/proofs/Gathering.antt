@@ -1,5 +1,5 @@
 -- What the seat that takes in the scans knows of them all.
-use Rattle.std.proofs.Common.{◌≡◌, ◌≢◌, ◌⊎◌, ℕ, suc, ◌+◌, ◌<◌, ◌≤◌, Bool, true, false, cond, List, [], ◌∷◌, ◌++◌, refl, sym, ap, ◌∙◌, subst, ⊎_elim, inl, inr, arith, length, Some, nat_eq, nat_le, ◌&&◌}
+use Rattle.std.proofs.Common.{◌≡◌, ◌≢◌, ◌⊎◌, ℕ, suc, ◌+◌, ◌<◌, ◌≤◌, Bool, true, cond, List, [], ◌∷◌, ◌++◌, refl, sym, ap, ◌∙◌, subst, ⊎_elim, arith, length, Some, nat_eq, nat_le, ◌&&◌}
 use mathlib.Core.Logic.{dite}
 use native.Mathlib.Decide.{ℕ_discrete}
 use Rattle.std.specs.List.{All, Contains, sum_by}
@@ -7,14 +7,11 @@ use Rattle.std.proofs.lemmas.Bool.Decides.{nat_tests}
 use Rattle.std.proofs.lemmas.List.{append-nil}
 use Rattle.std.proofs.lemmas.List.Elements.{All-pop}
 use Rattle.std.proofs.lemmas.List.Sums.{sum_by-cons, sum_by_push, sum_by-append}
+use Rattle.std.proofs.lemmas.Bool.{cases_Bool, leb-true}
 use Rattle.vd_words.specs.declared.view.View.{View}
 use Rattle.vd_words.specs.Counts.{times, count_past, times_seen, once_below}
 use Rattle.vd_words.specs.Rule.{view, both}
 use Rattle.vd_words.specs.Values.{ScanValue, times_drawn, times_looked, count_ended}
-
-true_or_false : (p : Bool) → (p ≡ true) ⊎ (p ≡ false)
-true_or_false true = inl refl
-true_or_false false = inr refl
 
 -- the seat took in the last scan
 module _ (v w : View) (items rest : List ScanValue) (x : ScanValue) (is : w ≡ view 1 [] x.draws x.looks x.found) (last : items ≡ rest ++ x ∷ []) where
@@ -55,7 +52,7 @@ module _ (v w : View) (items rest : List ScanValue) (x : ScanValue) (is : w ≡ 
       let least : cond x.ended 1 0 ≤ count_past limit x.draws = ⊎_elim
       (λ yes. let some_past = subst (λ k. 0 < count_past k x.draws) cut.1 (ends yes) in subst (λ q. cond q 1 0 ≤ count_past limit x.draws) (sym yes) (omega arith))
       (λ no. subst (λ q. cond q 1 0 ≤ count_past limit x.draws) (sym no) (omega arith))
-      (true_or_false x.ended) in
+      (cases_Bool x.ended) in
       (cut.0, omega arith)
 
 one_of_two : (a b : ℕ) → a ≡ b → ◌≡◌ {A = ℕ} (cond (nat_eq a b) 1 0) 1
@@ -64,9 +61,6 @@ one_of_two a b e = grind (arith, nat_tests)
 none_of_two : (a b : ℕ) → a ≢ b → ◌≡◌ {A = ℕ} (cond (nat_eq a b) 1 0) 0
 none_of_two a b ne = grind (arith, nat_tests)
 
-at_least : (a b : ℕ) → nat_le a b ≡ true → a ≤ b
-at_least a b e = grind (arith, nat_tests)
-
 -- where a number that is not below the limit was drawn, there is such a number
 past_some : (limit : ℕ) (xs : List ℕ) → 0 < count_past limit xs → (y : ℕ) × (limit ≤ y) × (0 < times y xs)
 past_some limit [] h = absurd (omega arith)
@@ -74,7 +68,7 @@ past_some limit (x ∷ xs) h = ⊎_elim
     (λ yes.
     let own = sum_by-cons (λ z. cond (nat_eq z x) 1 0) x xs in
     let here = one_of_two x x refl in
-    (x, at_least limit x yes, omega arith))
+    (x, leb-true limit x yes, omega arith))
     (λ no.
     let whole = sum_by-cons (λ z. cond (nat_le limit z) 1 0) x xs in
     let nothing : ◌≡◌ {A = ℕ} (cond (nat_le limit x) 1 0) 0 = ap (λ q. cond q 1 0) no in
@@ -82,7 +76,7 @@ past_some limit (x ∷ xs) h = ⊎_elim
     let own = sum_by-cons (λ z. cond (nat_eq z further.0) 1 0) x xs in
     let there : 0 < times further.0 xs = further.2 in
     (further.0, further.1, omega arith))
-    (true_or_false (nat_le limit x))
+    (cases_Bool (nat_le limit x))
 
 -- a number that is counted stands in the list
 pub stands : (b : ℕ) (xs : List ℕ) → 0 < times b xs → Contains xs b

@@ -1,5 +1,5 @@
 -- Each step keeps the rule of the marks.
-use Rattle.std.proofs.Common.{◌≡◌, ◌≢◌, ◌⊎◌, ◌↔◌, ℕ, zero, suc, ◌+◌, ◌-◌, ◌*◌, ◌%◌, ◌^◌, ◌<◌, ◌≤◌, Bool, true, false, cond, List, [], ◌∷◌, ◌++◌, set, refl, sym, ap, ◌∙◌, subst, ⊎_elim, inl, inr, arith, length, length-set, length-append, replicate, get_or, get_or-set_same, get_or-set_other, nat_eq, nat_le, ◌&&◌, w64, bit_or}
+use Rattle.std.proofs.Common.{◌≡◌, ◌≢◌, ◌⊎◌, ◌↔◌, ℕ, zero, suc, ◌+◌, ◌-◌, ◌*◌, ◌%◌, ◌^◌, ◌<◌, ◌≤◌, Bool, true, false, cond, List, [], ◌∷◌, ◌++◌, set, refl, sym, ap, ◌∙◌, subst, ⊎_elim, arith, length, length-set, length-append, replicate, get_or, get_or-set_same, get_or-set_other, nat_eq, nat_le, ◌&&◌, w64, bit_or}
 use Rattle.std.specs.Prelude.{slice_index}
 use Rattle.std.proofs.lemmas.Bool.Decides.{nat_tests}
 use mathlib.Core.Option.{some, none, some-injective, some-ne-none}
@@ -7,10 +7,10 @@ use mathlib.Core.Logic.{dite}
 use native.Mathlib.Decide.{ℕ_discrete}
 use lib.ListN.{get_elem?}
 use Rattle.std.proofs.lemmas.List.{set-get_or, length-replicate}
-use Rattle.std.proofs.lemmas.Nat.Bits.{bit_at-zero}
+use Rattle.std.proofs.lemmas.Nat.Bits.{bit_at-zero, bit_at_set_same, bit_at_set_other}
 use Rattle.std.specs.Int.{bit_at}
-use Rattle.std.proofs.lemmas.Nat.Bits.{bit_at_set_same, bit_at_set_other}
 use Rattle.std.proofs.lemmas.List.Sums.{sum_by_push, sum_by-append}
+use Rattle.std.proofs.lemmas.Bool.{cases_Bool, eqb-true}
 use Rattle.atomic_table.specs.Table.{State, step, opening, keeps, stepped, Allows, Splits, Joins}
 use Rattle.atomic_table.proofs.Lists.{at_set, at_snoc, set_again}
 use Rattle.vd_words.specs.declared.view.View.{View}
@@ -77,13 +77,6 @@ times_else : (b c : ℕ) → c ≢ b → ◌≡◌ {A = ℕ} (cond (nat_eq b c) 
 times_else b c apart = grind (arith, nat_tests)
 
 -- a true look at another block, or a false one, counts for nothing
-answer_is : (n : ℕ) → nat_eq n 1 ≡ true → n ≡ 1
-answer_is n e = grind (arith, nat_tests)
-
-true_or_false : (p : Bool) → (p ≡ true) ⊎ (p ≡ false)
-true_or_false true = inl refl
-true_or_false false = inr refl
-
 seen_false : (p q : Bool) → q ≡ false → ◌≡◌ {A = ℕ} (cond (p && q) 1 0) 0
 seen_false true q e = ap (λ x. cond x 1 0) e
 seen_false false q e = refl
@@ -188,9 +181,9 @@ module _ (plan : Plan) (slots id : ℕ) (m : Seated) where
         marked = λ c. subst (λ k. IsMarked s.words c ↔ (0 < k)) (sym (sum_same (λ v. times c v.marked) s.views id m.0 w at refl)) (r.marked c);
         seen = λ c h. dite (ℕ_discrete c b)
             (λ e. ⊎_elim
-            (λ yes. subst (λ z. IsMarked s.words z) (sym e) (answer_is (bit_of s.words b) yes))
+            (λ yes. subst (λ z. IsMarked s.words z) (sym e) (eqb-true (bit_of s.words b) 1 yes))
             (λ no. old_look c h (seen_false (nat_eq b c) answer no))
-            (true_or_false answer))
+            (cases_Bool answer))
             (λ ne. old_look c h (seen_else b c answer ne));
         drawn = λ x. sum_same (λ v. times x v.drawn) s.views id m.0 w at refl ∙ r.drawn x;
         counted = sum_same (λ v. length v.drawn) s.views id m.0 w at refl ∙ r.counted;

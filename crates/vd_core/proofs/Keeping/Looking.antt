@@ -27,11 +27,10 @@ use Rattle.vd_passes.proofs.Fetching.{can-read-base}
 use Rattle.vd_passes.proofs.LookingAt.{IsToLook}
 use Rattle.vd_passes.proofs.LookSteps.{looks-coherent, looks-faithful, looks_at_base-coherent, looks_at_base-faithful, sees_zeros-coherent, sees_zeros-faithful}
 use Rattle.vd_machine.specs.Adding.{CanAdd, AddsEntries}
-use Rattle.vd_core.proofs.Keeping.Devices.{piece-short}
+use Rattle.vd_core.proofs.Keeping.Devices.{piece-short, backed}
 use Rattle.vd_core.specs.Looking.{IsReader}
 use Rattle.vd_core.specs.Kept.{IsSoundCore, LogAgrees, IsFaithfullyKept}
 use Rattle.vd_core.proofs.Rooming.{can-add, room-used, room-same}
-use Rattle.vd_core.proofs.Keeping.Devices.{backed}
 use Rattle.vd_core.proofs.Keeping.Telling.{faithful-base, told-on, told-here}
 use Rattle.vd_format.specs.Background.{zero_sector}
 

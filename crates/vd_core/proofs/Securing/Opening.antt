@@ -2,6 +2,7 @@
 use Rattle.std.proofs.Common.{◌≡◌, ℕ, suc, ◌+◌, ◌<◌, ◌≤◌, inl, inr, List, [], ◌∷◌, ◌++◌, length, replicate, refl, sym, ◌∙◌, ap, subst, arith, Contains, Option, Some, None, slice_get, ◌⊎◌}
 use Rattle.std.proofs.lemmas.Bool.{cases_lt}
 use Rattle.std.proofs.lemmas.Option.{slice_get_within}
+use Rattle.vd_lists.proofs.Places.{some_place}
 use Rattle.vd_law.specs.declared.entry.Sector.{Sector}
 use Rattle.vd_law.specs.declared.entry.Room.{Room}
 use Rattle.vd_law.specs.Entries.{Entry}
@@ -27,7 +28,6 @@ use Rattle.vd_device.specs.Quiet.{AddsFlush}
 use Rattle.vd_replay.specs.declared.state.State.{State}
 use Rattle.vd_replay.specs.Images.{image_of}
 use Rattle.vd_replay.specs.States.{IsState, IsWholeState, StateSays}
-use Rattle.vd_replay.proofs.ListLaws.{get_some}
 use Rattle.vd_keeper.specs.Keeping.{KeeperState}
 use Rattle.vd_passes.specs.declared.shape.Shape.{Shape}
 use Rattle.vd_passes.specs.declared.pass.Pass.{Pass}
@@ -80,7 +80,7 @@ module _ (s : State) (whole : IsWholeState s) (version : s.header.version ≡ 2)
   left a v may_be = elim (cases_lt a (length disk.start)) [
     | inl within ↦
         let log = all-told disk opened all in
-        let x = get_some disk.start a within in
+        let x = some_place disk.start a within in
         let listed : Contains (may disk.start disk.log a) v = (may_is_exact disk.start (sectors_or zero_sector disk.start) disk.log a v (at_inside zero_sector disk.start a within)).1 may_be in
         safe.durable a v within (subst (λ (l : List Entry). Contains (may disk.start l a) v) (sym log) listed) ∙ same a (omega (arith, within, size))
     | inr past ↦ beyond past may_be

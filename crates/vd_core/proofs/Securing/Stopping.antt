@@ -1,6 +1,6 @@
 -- What is kept of a store that has stopped goes on with the core: its log stands, and each further entry of the history is harmless.
 use Rattle.std.proofs.Common.{◌≡◌, ℕ, ◌-◌, ◌<◌, ◌≤◌, ◌⊎◌, inl, inr, Bool, List, [], ◌∷◌, ◌++◌, length, take, replicate, Contains, refl, sym, ◌∙◌, ap, subst, arith, Option}
-use Rattle.std.proofs.lemmas.List.{append_assoc, append-nil}
+use Rattle.std.proofs.lemmas.List.{append_assoc, append-nil, length_push}
 use Rattle.vd_device.specs.declared.store.Store as store
 use Rattle.vd_device.specs.declared.base.Base as base
 use Rattle.vd_device.specs.Stores.{IsTold, KeepsStore}
@@ -20,7 +20,6 @@ use Rattle.vd_device.specs.Disks.{Disk, StoppedSince, TellsOrStoppedSince}
 use Rattle.vd_format.specs.declared.header.Header.{Header}
 use Rattle.vd_image.specs.Layouts.{layout_of}
 use Rattle.vd_image.specs.Decoders.{format_of}
-use Rattle.vd_image.proofs.Logs.{length_push}
 use Rattle.vd_crash.specs.facts.CrashSafe.{IsCrashSafe}
 use Rattle.vd_table.specs.Tables.{TableState}
 use Rattle.vd_keeper.specs.Keeping.{KeeperState}

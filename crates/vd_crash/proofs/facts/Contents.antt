@@ -1,16 +1,12 @@
 -- What a crash may leave in the place of a block that is shown is what the guest's history allows.
 use Rattle.std.proofs.Common.{ℕ, ◌≡◌, ◌+◌, ◌<◌, ◌≤◌, ◌⊎◌, inl, inr, List, Some, None, Option, Bool, arith, refl, ap, sym, subst, ◌∙◌}
 use Rattle.std.proofs.lemmas.Bool.{cases_lt}
+use Rattle.vd_lists.proofs.Options.{cases_option}
 use Rattle.vd_image.specs.Log.{Sector, Entry, Flush, Ask, Done, Writes, Ends, IsSure, NoneSureFrom, May}
 use Rattle.vd_crash.specs.facts.Safe.{NumberedEntry, events, Opening}
 use Rattle.vd_crash.specs.facts.Facts.{GuestWrites, GuestEnds, GuestFlushes, IsDrop, OwnWrites, AreDrops, AreNumbers, IsOpened, IsLive, IsFill, IsContent, Stands, Began, IsWhole, IsKept, AreAnswered}
 use Rattle.vd_image.proofs.Logs.{writes_one, may_since}
 use Rattle.vd_crash.proofs.facts.History.{numbered_at, writes_of, guest_writes_of}
-
--- an entry is an ordinary one, or a discard's
-pub by_drop : (x : Option ℕ) → (x ≡ None) ⊎ ((c : ℕ) × (x ≡ Some c))
-by_drop None = inl refl
-by_drop (Some c) = inr (c, refl)
 
 -- the end of a sure write, with its number, and the flush after it
 pub sure_ends : (history : List NumberedEntry) (j : ℕ) → (sure : IsSure (events history) j) → (n : ℕ) × GuestEnds history j sure.done n
@@ -48,7 +44,7 @@ pub none_later : (o : Opening) (log : List Entry) (history : List NumberedEntry)
     → NoneSureFrom log (i + 1) (o.layout.place p s) → GuestWrites history k n s u → IsSure (events history) k
     → ((drops k ≡ None) → IsLive history k → i < n)
     → ((l m : ℕ) → k ≤ l → IsDrop drops history l m (o.layout.chunk_of b) → i < m) → ⊥
-none_later o log history drops stale off_base reach b p since i k n s u place block order newest writes sure own later = elim (by_drop (drops k)) [
+none_later o log history drops stale off_base reach b p since i k n s u place block order newest writes sure own later = elim (cases_option (drops k)) [
   | inl ordinary ↦
       let ends = sure_ends history k sure in
       let more : i < n = own ordinary (inl (sure.done, ends.0, ends.1)) in
@@ -137,7 +133,7 @@ began_allowed o log history drops stale off_base reach b p s v place opening blo
       value = value;
       newest = λ k u after w sure.
           let g = guest_writes_of history k s u w in
-          elim (by_drop (drops k)) [
+          elim (cases_option (drops k)) [
             | inl ordinary ↦
                 let ends = sure_ends history k sure in
                 elim (place.stands.mirrored k sure.done g.0 ends.0 s u block (g.1, ordinary) ends.1) [

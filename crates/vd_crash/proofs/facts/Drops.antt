@@ -1,19 +1,19 @@
 -- What the discard of a chunk leaves of all facts. It has no store event.
 use Rattle.std.proofs.Common.{ℕ, ◌≡◌, ◌+◌, ◌<◌, ◌≤◌, inl, inr, List, [], ◌∷◌, ◌++◌, length, Some, None, Option, Bool, true, arith, refl, ap, sym, subst, ◌∙◌}
-use Rattle.std.proofs.lemmas.Bool.{cases_eq}
+use Rattle.std.proofs.lemmas.Bool.{cases_eq, false_from_ne_true}
 use Rattle.vd_image.specs.Log.{Sector, CallId, Entry, Issue, IsOpen, May}
 use Rattle.vd_crash.specs.facts.Safe.{NumberedEntry, events, Opening}
 use Rattle.vd_crash.specs.facts.Facts.{GuestWrites, IsDrop, OwnWrites, IsDroppedAfter, NoDropFrom, AreDrops, AreAnswered, AreZeros, IsKnown, IsClaimSettled, IsWrittenBefore, Holds}
 use Rattle.vd_crash.specs.facts.Words.{AnswersWell, IsUpdated, IsDropWrite, IsDiscarded, discarded_memory}
-use Rattle.vd_image.proofs.Logs.{at_below, at_end, length_push}
+use Rattle.vd_image.proofs.Logs.{at_below, at_end}
 use Rattle.vd_crash.proofs.facts.Growth.{kept_entry, answered_entry}
 use Rattle.vd_crash.proofs.facts.Metadata.{metadata_fewer}
-use Rattle.vd_crash.proofs.facts.Recovered.{is_false}
 use Rattle.vd_crash.proofs.facts.Steps.{issued_entry, written_push, pending_push, no_done_ends}
 use Rattle.vd_crash.proofs.facts.Writes.{no_ends, no_done, no_reply}
 use Rattle.vd_crash.specs.facts.Memory.{Discards, Memory}
 use Rattle.vd_crash.specs.facts.Metadata.{Claim, Stored, Zero}
 use Rattle.vd_crash.proofs.facts.HistoryGrowth.{guest_writes_push, guest_writes_pushed, guest_writes_below, guest_open_pushed, SameDrops, drop_below, drop_push, drop_pushed, own_pushed, dropped_after_push, numbers_entry, ends_below}
+use Rattle.std.proofs.lemmas.List.{length_push}
 
 -- the discard is issued
 abbrev pub drop_entry : List Entry → CallId → ℕ → List Sector → NumberedEntry
@@ -102,7 +102,7 @@ drop_issued o log history m id first content c fresh stale owed d h within write
     ];
     pending = λ b i at. let k = h.blocks.pending b i at in
         let other : o.layout.chunk_of b ≡ c → ⊥ = λ equal. (let none = calm b equal in cc) in (
-          is_false (fresh b) (λ also. let was = ((is.fresh_others b).0 also).0 in let unset = k.0 in cc),
+          false_from_ne_true (fresh b) (λ also. let was = ((is.fresh_others b).0 also).0 in let unset = k.0 in cc),
           pending_push o log history m.discards.drops d.drops m.index.table x b i same (λ equal. other (chunk_is (o.layout.chunk_of b) equal)) k.1 (omega arith),
         );
     idle = λ b j n s v not_fresh none block w is_open. elim (own_pushed m.discards.drops d.drops history x j n s v same w) [
@@ -110,7 +110,7 @@ drop_issued o log history m id first content c fresh stale owed d h within write
           let old_open = guest_open_pushed history x j (guest_writes_below history j n s v was.0) is_open in
           elim (cases_eq (o.layout.chunk_of b) c) [
             | inl at ↦ closed j n s v was (ap o.layout.chunk_of block ∙ at) old_open
-            | inr other ↦ h.blocks.idle b j n s v (is_false (m.fresh b) (λ set. let also = (is.fresh_others b).1 (set, other) in cc)) none block was old_open
+            | inr other ↦ h.blocks.idle b j n s v (false_from_ne_true (m.fresh b) (λ set. let also = (is.fresh_others b).1 (set, other) in cc)) none block was old_open
           ]
       | inr now ↦ absurd (let some_c = is.drops.same in let none_c = now.3 in cc)
     ];
@@ -213,7 +213,7 @@ drop_issued o log history m id first content c fresh stale owed d h within write
         })
         | inr other ↦ elim (h.facts.zeros.from e (sym (is.zeros.other e other) ∙ zeros)) [
           | inl last ↦ inl (record { at = last.at; number = last.number; is = drop_push m.discards.drops d.drops history x last.at last.number e same last.is; last = no_drop (last.at + 1) e other last.last })
-          | inr never ↦ inr (no_drop 0 e other never.0, λ s chunk not_stale. never.1 s chunk (is_false (m.index.stale (o.layout.block_of s)) (λ set. let also = (is.stale_others (o.layout.block_of s)).1 (set, λ equal. other (sym chunk ∙ equal)) in cc)))
+          | inr never ↦ inr (no_drop 0 e other never.0, λ s chunk not_stale. never.1 s chunk (false_from_ne_true (m.index.stale (o.layout.block_of s)) (λ set. let also = (is.stale_others (o.layout.block_of s)).1 (set, λ equal. other (sym chunk ∙ equal)) in cc)))
         ]
       ];
       sealed_off = λ j i b drop less. elim (drop_pushed m.discards.drops d.drops history x j i (o.layout.chunk_of b) same drop) [

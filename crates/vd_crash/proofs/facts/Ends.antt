@@ -4,7 +4,7 @@ use Rattle.std.proofs.lemmas.Bool.{cases_eq}
 use Rattle.vd_image.specs.Log.{Sector, CallId, Entry, Done, Covers, Writes, Ends, May, IsOpen}
 use Rattle.vd_crash.specs.facts.Safe.{NumberedEntry, events, Opening}
 use Rattle.vd_crash.specs.facts.Facts.{OwnWrites, IsDroppedAfter, IsClaimSettled, IsFresh, IsFlushedSince, IsSettled, IsWrittenBefore, IsPending, Holds}
-use Rattle.vd_image.proofs.Logs.{at_below, length_push}
+use Rattle.vd_image.proofs.Logs.{at_below}
 use Rattle.vd_crash.proofs.facts.Growth.{EndsMirrored, kept_grown}
 use Rattle.vd_crash.proofs.facts.Metadata.{metadata_same, metadata_grown}
 use Rattle.vd_crash.proofs.facts.Steps.{next_ordinary, with_blocks, facts_entry, issued_entry, pending_entry}
@@ -13,6 +13,7 @@ use Rattle.vd_crash.proofs.facts.Writes.{IsUpdated, shown_blocks, facts_same}
 use Rattle.vd_crash.specs.facts.Memory.{Memory, IsTable}
 use Rattle.vd_crash.specs.facts.Metadata.{Claim, Stored, Zero}
 use Rattle.vd_crash.proofs.facts.HistoryGrowth.{length_events, guest_writes_below, guest_ends_pushed, guest_open_pushed, same_drops, drop_old, own_pushed, dropped_after_push, ends_below, open_below, own_writes_old}
+use Rattle.std.proofs.lemmas.List.{length_push}
 
 -- A write of a whole block is done, and the block is local from now on. (An entry that says so to the guest comes next.)
 pub born : (o : Opening) (log : List Entry) (history : List NumberedEntry) (m : Memory) (fresh : ℕ → Bool) (since : ℕ → ℕ) (pending : ℕ → Option ℕ) (b i d : ℕ)

@@ -1,9 +1,10 @@
 -- What one more store event, or one more entry, leaves of the facts on blocks.
 use Rattle.std.proofs.Common.{ℕ, ◌≡◌, ◌+◌, ◌<◌, ◌≤◌, inl, inr, List, [], ◌∷◌, ◌++◌, length, Some, Option, Bool, true, arith, sym, subst}
+use Rattle.std.proofs.lemmas.List.{length_push}
 use Rattle.vd_image.specs.Log.{Sector, Entry, Flush, Ask, Done, Covers, IsSure, IsOpen}
 use Rattle.vd_crash.specs.facts.Safe.{NumberedEntry, events, Opening}
 use Rattle.vd_crash.specs.facts.Facts.{IsDrop, OwnWrites, IsOpened, IsMirrored, IsFill, IsContent, Stands, IsWhole, Origin, IsSureBy, IsKept, IsDoneBefore, IsFlushedSince, IsWrittenBefore, IsBehind, AreAnswered}
-use Rattle.vd_image.proofs.Logs.{length_push, at_below, writes_push, writes_pushed, writes_below, sure_push, ends_push, flushes_push, none_sure_pushed}
+use Rattle.vd_image.proofs.Logs.{at_below, writes_push, writes_pushed, writes_below, sure_push, ends_push, flushes_push, none_sure_pushed}
 use Rattle.vd_crash.specs.facts.Words.{AnswersWell}
 use Rattle.vd_crash.proofs.facts.HistoryGrowth.{guest_writes_below, guest_ends_pushed, guest_open_pushed, guest_flushes_pushed, SameDrops, drop_push, drop_pushed, own_push, own_pushed, dropped_after_push, dropped_before_push, live_pushed, ends_below, open_below, own_writes_old}
 use Rattle.vd_crash.specs.facts.Memory.{Memory}

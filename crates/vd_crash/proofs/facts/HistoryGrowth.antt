@@ -1,9 +1,10 @@
 -- What one more entry leaves of the history's writes, ends, flushes, discards and numbers.
 use Rattle.std.proofs.Common.{ℕ, suc, ◌≡◌, ◌<◌, ◌≤◌, ◌⊎◌, inl, inr, List, [], ◌∷◌, ◌++◌, length, Some, None, Option, arith, refl, ap, sym, subst, ◌∙◌}
+use Rattle.std.proofs.lemmas.List.{length_push}
 use Rattle.vd_image.specs.Log.{Sector, CallId, Entry, Flush, Fine, Ask, Done, Reply, At, Covers, Ends, Flushes, IsOpen}
 use Rattle.vd_crash.specs.facts.Safe.{NumberedEntry, events}
 use Rattle.vd_crash.specs.facts.Facts.{HasEntry, GuestWrites, GuestEnds, GuestFlushes, IsDrop, OwnWrites, IsDroppedAfter, IsDroppedBefore, AreNumbers, IsLive}
-use Rattle.vd_image.proofs.Logs.{length_push, at_one, at_push, at_below, at_pushed, ends_pushed, flushes_pushed, open_pushed}
+use Rattle.vd_image.proofs.Logs.{at_one, at_push, at_below, at_pushed, ends_pushed, flushes_pushed, open_pushed}
 use Rattle.vd_crash.proofs.facts.History.{numbered_at}
 
 pub events_push : (history : List NumberedEntry) (x : NumberedEntry) → events (history ++ x ∷ []) ≡ events history ++ x.event ∷ []

@@ -1,11 +1,11 @@
 -- All facts hold at opening.
 use Rattle.std.proofs.Common.{if◌then◌else◌, ℕ, ◌≡◌, ◌+◌, ◌<◌, ◌≤◌, inl, inr, List, [], Some, Bool, true, false, arith, refl, ap, sym, subst, ◌∙◌, Ok}
-use Rattle.std.proofs.lemmas.Bool.{cases_lt}
+use Rattle.std.proofs.lemmas.Bool.{cases_lt, false_from_ne_true}
 use Rattle.vd_image.specs.Log.{Sector, Entry, At, May}
 use Rattle.vd_image.specs.Image.{Header, Mapping, Fact, Record, IsMapping, IsGoodSlot, Counts, IsUnnamed, IsLastNamed, Maps, GivesStorage, IsLocalBy, IsLocal}
 use Rattle.vd_crash.specs.facts.Safe.{Opening}
 use Rattle.vd_crash.specs.facts.Facts.{IsFresh, IsSettled, IsClaimSettled, Holds}
-use Rattle.vd_crash.proofs.facts.Recovered.{is_false, settled_kept}
+use Rattle.vd_crash.proofs.facts.Recovered.{settled_kept}
 use Rattle.vd_image.proofs.Logs.{at_one, writes_below}
 use Rattle.vd_image.proofs.Deciding.{NamedIn, NamedFrom, find_last, named_once, never_named, named_last, maps_some}
 use Rattle.vd_crash.specs.facts.Opened.{IsAtOpening}
@@ -217,7 +217,7 @@ holds_at_opening o log m h = record {
     background_of : (s : ℕ) (header : Header) → header ≡ h.sound.header → s < o.layout.size → m.index.off_base (o.layout.block_of s) ≡ false → background o.base o.zeros header.tracked s ≡ o.disk s
     background_of s header same within not_off =
         let maps = held_maps (o.layout.chunk_of (o.layout.block_of s)) (h.apart.chunks (o.layout.block_of s) (h.apart.blocks s within)) in
-        let kind : maps.0.zeros ≡ false = is_false maps.0.zeros (λ zeros. let off = (h.off_base (o.layout.block_of s)).1 (inr ((h.zeros (o.layout.chunk_of (o.layout.block_of s))).1 (maps.0, maps.1, zeros))) in cc) in
+        let kind : maps.0.zeros ≡ false = false_from_ne_true maps.0.zeros (λ zeros. let off = (h.off_base (o.layout.block_of s)).1 (inr ((h.zeros (o.layout.chunk_of (o.layout.block_of s))).1 (maps.0, maps.1, zeros))) in cc) in
         h.disk s (background o.base o.zeros header.tracked s) (record {
           header = h.sound.header;
           reads = h.sound.reads;

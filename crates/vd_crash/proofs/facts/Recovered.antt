@@ -1,5 +1,5 @@
 -- Where the facts hold, each image that a crash may leave now is safe.
-use Rattle.std.proofs.lemmas.Bool.{cases_lt}
+use Rattle.std.proofs.lemmas.Bool.{cases_lt, cases_Bool, false_from_ne_true}
 use Rattle.std.proofs.Common.{if◌then◌else◌, ap, ◌+◌, ℕ, ◌≡◌, ◌<◌, ◌≤◌, ◌⊎◌, inl, inr, List, Some, Option, Bool, true, false, arith, refl, sym, subst, ◌∙◌, Ok}
 use Rattle.vd_image.specs.Log.{Sector, Entry, Writes, IsSure, NoneSureFrom, May, IsImage}
 use Rattle.vd_image.specs.Image.{Header, Mapping, Fact, IsCurrent, Counts, Maps, GivesStorage, IsLocalBy, unmapped_sector, IsSound, DiskHas}
@@ -7,11 +7,12 @@ use Rattle.vd_crash.specs.facts.Safe.{NumberedEntry, events, Opening, IsSafeNow}
 use Rattle.vd_crash.specs.facts.Facts.{GuestWrites, IsDrop, OwnWrites, NoDropFrom, IsBehind, AreAnswered, IsClaimSettled, CrashFacts, IsKept, IsFresh, IsFlushedSince, IsSureBy}
 use Rattle.vd_image.proofs.Logs.{sure_by}
 use Rattle.vd_crash.proofs.facts.History.{writes_of, guest_writes_of}
-use Rattle.vd_crash.proofs.facts.Contents.{by_drop, sure_ends, sure_flushes, sure_reached, shown_allowed}
+use Rattle.vd_crash.proofs.facts.Contents.{sure_ends, sure_flushes, sure_reached, shown_allowed}
 use Rattle.vd_crash.proofs.facts.Growth.{kept_grown}
 use Rattle.vd_crash.specs.facts.Memory.{Index, Memory, IsTable}
 use Rattle.vd_crash.specs.facts.Metadata.{Claim, Left, IsRight, IsNamed, Need, Local, Off_base, Says, chunk_in, IsInPage, IsInSlots, IsLocalLeft, IsDue, IsHeaderLeft, IsMetadata}
 use Rattle.vd_format.specs.Background.{background}
+use Rattle.vd_lists.proofs.Options.{cases_option}
 
 -- the generation of a record that counts is the kept one
 pub counted_now : (o : Opening) (left : Left) (settled : Claim → Type 0) (x : Index) (image : ℕ → Sector) (generation slot place : ℕ) (fact : Fact)
@@ -152,7 +153,7 @@ pub start_left : (o : Opening) (log : List Entry) (history : List NumberedEntry)
     → CrashFacts o log history m → (m.index.off_base (o.layout.block_of s) ≡ true → ⊥) → NoneSureFrom (events history) 0 s
 start_left o log history m s facts not_off = λ j v from w sure.
     let g = guest_writes_of history j s v w in
-    elim (by_drop (m.discards.drops j)) [
+    elim (cases_option (m.discards.drops j)) [
       | inl ordinary ↦ not_off (sure_behind o log history m.discards.drops m.index.stale m.index.off_base m.discards.reach j g.0 s v facts.answered (g.1, ordinary) sure).0
       | inr is ↦
           let drop : IsDrop m.discards.drops history j g.0 is.0 = record { event = g.1.event; stands = g.1.stands; is = is.1 } in
@@ -168,14 +169,6 @@ settled_kept o log history drops table b born reach h flushed = kept_grown o log
     sure : (w : ℕ) → IsSureBy log born w → IsSureBy log 0 w
     sure w (inl k) = inl k
     sure w (inr k) = inl (sure_by log w k.0 flushed.0 k.1 (let d = k.2 in omega (arith, flushed.2)) flushed.1)
-
-pub is_false : (x : Bool) → (x ≡ true → ⊥) → x ≡ false
-is_false true h = absurd (h refl)
-is_false false h = refl
-
-pub by_bool : (x : Bool) → (x ≡ true) ⊎ (x ≡ false)
-by_bool true = inl refl
-by_bool false = inr refl
 
 pub safe_now : (o : Opening) (log : List Entry) (history : List NumberedEntry) (m : Memory) → CrashFacts o log history m → IsSafeNow o log (events history)
 safe_now o log history m facts = λ image is_image. record {
@@ -216,7 +209,7 @@ safe_now o log history m facts = λ image is_image. record {
         newest = λ k u after w sure. none (last.at + 1) last.last k u after w sure;
       })
       | inr never ↦ inl (record {
-        value = value ∙ sym (never.1 s refl (is_false (m.index.stale (o.layout.block_of s)) not_stale));
+        value = value ∙ sym (never.1 s refl (false_from_ne_true (m.index.stale (o.layout.block_of s)) not_stale));
         newest = λ k u after w sure. none 0 never.0 k u after w sure;
       })
     ]
@@ -224,7 +217,7 @@ safe_now o log history m facts = λ image is_image. record {
         none : (from : ℕ) → NoDropFrom m.discards.drops history from (o.layout.chunk_of (o.layout.block_of s)) → (k : ℕ) (u : Sector) → from ≤ k → Writes (events history) k s u → IsSure (events history) k → ⊥
         none from no_drop k u after w sure =
             let g = guest_writes_of history k s u w in
-            elim (by_drop (m.discards.drops k)) [
+            elim (cases_option (m.discards.drops k)) [
               | inl ordinary ↦ elim (sure_behind o log history m.discards.drops m.index.stale m.index.off_base m.discards.reach k g.0 s u facts.answered (g.1, ordinary) sure).1 [
                 | inl stale ↦ not_stale stale
                 | inr dropped ↦ no_drop dropped.0 dropped.1 (omega (arith, dropped.3)) dropped.2
@@ -246,13 +239,13 @@ safe_now o log history m facts = λ image is_image. record {
           | inr h ↦
               let not_has : disk.mapping.has (o.layout.block_of s) ≡ true → ⊥ = λ has. (let l = local_by o shown m.index.table (o.layout.chunk_of (o.layout.block_of s)) (o.layout.block_of s) disk.mapping right has in h.0 l.0 l.1) in
               let not_stale : m.index.stale (o.layout.block_of s) ≡ true → ⊥ = λ stale. not_has (due_has o (May o.before log) shown m.index image disk.header (Local (o.layout.block_of s)) disk.mapping facts.metadata is_image disk.reads order stale disk.maps) in
-              elim (by_bool disk.mapping.zeros) [
+              elim (cases_Bool disk.mapping.zeros) [
                 | inl zeros ↦ zeros_allowed s v within (right.kind_settled zeros) not_stale (h.1 ∙ by_kind disk.mapping disk.header.tracked s true zeros)
                 | inr base ↦
                     let says_none : Says (Off_base (o.layout.block_of s)) disk.mapping → ⊥ = λ says. neither disk.mapping (o.layout.block_of s) base not_has says in
                     let not_off : m.index.off_base (o.layout.block_of s) ≡ true → ⊥ = λ off. says_none (due_has o (May o.before log) shown m.index image disk.header (Off_base (o.layout.block_of s)) disk.mapping facts.metadata is_image disk.reads order off disk.maps) in
                     inl (record {
-                      value = h.1 ∙ by_kind disk.mapping disk.header.tracked s false base ∙ is_start image is_image s disk.header disk.mapping within kept same (is_false (m.index.off_base (o.layout.block_of s)) not_off) disk.maps says_none;
+                      value = h.1 ∙ by_kind disk.mapping disk.header.tracked s false base ∙ is_start image is_image s disk.header disk.mapping within kept same (false_from_ne_true (m.index.off_base (o.layout.block_of s)) not_off) disk.maps says_none;
                       newest = start_left o log history m s facts not_off;
                     })
               ]

@@ -4,8 +4,7 @@ use Rattle.vd_image.specs.Log.{Sector, CallId, Entry, Done, Covers, IsOpen, May}
 use Rattle.vd_image.specs.Image.{IsApart}
 use Rattle.vd_crash.specs.facts.Safe.{NumberedEntry, events, Opening}
 use Rattle.vd_crash.specs.facts.Facts.{OwnWrites, NoDropFrom, AreDrops, AreZeros, IsKnown, IsClaimSettled, IsSettled, IsWrittenBefore, CrashFacts, IsPending, IsIssued, Holds}
-use Rattle.vd_image.proofs.Logs.{at_below, writes_push, writes_pushed, length_push}
-use Rattle.vd_crash.proofs.facts.Contents.{by_drop}
+use Rattle.vd_image.proofs.Logs.{at_below, writes_push, writes_pushed}
 use Rattle.vd_crash.proofs.facts.Growth.{opened_event, FollowsGuest, EndsMirrored, whole_event, whole_entry, kept_event, kept_entry, flushed_push, answered_event, answered_entry}
 use Rattle.vd_crash.proofs.facts.Metadata.{metadata_less, metadata_same, WritesPlaces, no_more_metadata}
 use Rattle.vd_crash.specs.facts.Memory.{Discards, Memory}
@@ -13,10 +12,12 @@ use Rattle.vd_crash.specs.facts.Metadata.{Claim, Stored, Zero}
 use Rattle.vd_crash.proofs.facts.HistoryGrowth.{length_events, guest_writes_push, guest_writes_below, guest_ends_pushed, guest_open_pushed, SameDrops, same_drops, drop_below, drop_push, drop_pushed, drop_old, own_pushed, dropped_after_push, numbers_event, numbers_entry, ends_below, open_below, guest_writes_old, own_writes_old}
 use Rattle.vd_crash.specs.facts.Words.{AnswersWell}
 pub use Rattle.vd_crash.specs.facts.Words.{WritesNothing, with_blocks}
+use Rattle.std.proofs.lemmas.List.{length_push}
+use Rattle.vd_lists.proofs.Options.{cases_option}
 
 -- the next entry is no discard, as long as nothing is said of it
 pub next_ordinary : (o : Opening) (drops : ℕ → Option ℕ) (history : List NumberedEntry) → AreDrops o drops history → drops (length history) ≡ None
-next_ordinary o drops history h = elim (by_drop (drops (length history))) [ inl none ↦ none | inr is ↦ absurd (let l = (h.within (length history) is.0 is.1).0 in omega arith) ]
+next_ordinary o drops history h = elim (cases_option (drops (length history))) [ inl none ↦ none | inr is ↦ absurd (let l = (h.within (length history) is.0 is.1).0 in omega arith) ]
 
 -- what is known stays so
 pub known_push : (o : Opening) (old new : ℕ → Option ℕ) (history : List NumberedEntry) (x : NumberedEntry) (fresh : ℕ → Bool) (b : ℕ) → SameDrops old new (length history) → IsKnown o history old fresh b → IsKnown o (history ++ x ∷ []) new fresh b

@@ -1,21 +1,21 @@
 -- What a guest's write, or the copy of a block, leaves of all facts.
 use Rattle.std.proofs.Common.{ℕ, ◌≡◌, ◌+◌, ◌<◌, ◌≤◌, ◌⊎◌, inl, inr, List, [], ◌∷◌, ◌++◌, length, Some, None, Option, Bool, true, false, arith, refl, ap, sym, subst, ◌∙◌}
 use Rattle.std.specs.Prelude.{if◌then◌else◌}
-use Rattle.std.proofs.lemmas.Bool.{cases_eq}
+use Rattle.std.proofs.lemmas.Bool.{cases_eq, cases_Bool, false_from_ne_true, both_ways}
 use Rattle.vd_image.specs.Log.{Sector, CallId, Entry, Fine, Issue, Done, Reply, Covers, Writes, May, IsOpen}
 use Rattle.vd_image.specs.Image.{IsApart}
 use Rattle.vd_crash.specs.facts.Safe.{NumberedEntry, events, Opening}
 use Rattle.vd_crash.specs.facts.Facts.{IsDrop, OwnWrites, IsDroppedAfter, NoDropFrom, IsLive, IsFill, IsContent, IsClaimSettled, IsWrittenBefore, CrashFacts, IsPending, IsIssued, Holds}
-use Rattle.vd_image.proofs.Logs.{at_below, covers_one, at_end, writes_end, writes_below, length_push}
+use Rattle.vd_image.proofs.Logs.{at_below, covers_one, at_end, writes_end, writes_below}
 use Rattle.vd_crash.proofs.facts.Growth.{FollowsGuest, EndsMirrored}
 use Rattle.vd_crash.proofs.facts.Metadata.{metadata_same, WritesPlaces}
-use Rattle.vd_crash.proofs.facts.Recovered.{is_false, by_bool}
 use Rattle.vd_crash.proofs.facts.Steps.{next_ordinary, facts_event, pending_event, issued_event, issued_entry, with_blocks, facts_entry, written_same, pending_entry, settled_push}
 pub use Rattle.vd_crash.specs.facts.Words.{IsSameWrite, IsUpdated, IsWholeWrite, fill_of}
 use Rattle.vd_crash.specs.facts.Words.{no_write, AnswersWell}
 use Rattle.vd_crash.specs.facts.Memory.{Memory, IsTable}
 use Rattle.vd_crash.specs.facts.Metadata.{Claim, Stored, Zero}
 use Rattle.vd_crash.proofs.facts.HistoryGrowth.{guest_writes_below, guest_open_pushed, same_drops, drop_push, drop_old, own_pushed, dropped_after_push, live_pushed}
+use Rattle.std.proofs.lemmas.List.{length_push}
 
 -- two blocks with a common place are one, and so are the sectors
 pub same_place : (o : Opening) (table : ℕ → Option ℕ) (b c p q s t : ℕ) → IsApart o.layout → IsTable o.layout.storage table
@@ -90,11 +90,11 @@ issue_fresh o log history m id first content e b p h fresh given same = (
             let r = same.back (o.layout.place q s) v covers in
             let at : r.0 ≡ s = same_place o m.index.table b c p q r.0 s h.apart h.facts.storage_one_to_one r.1 block given there r.2 in
             let one : b ≡ c = sym r.1 ∙ ap o.layout.block_of at ∙ block in
-            clash (m.fresh c) (subst (λ (y : ℕ). m.fresh y ≡ true) one fresh) k.0),
+            both_ways (m.fresh c) k.0 (subst (λ (y : ℕ). m.fresh y ≡ true) one fresh)),
       );
       idle = λ c j n s v not_fresh pending block w is_open. elim (own_pushed m.discards.drops m.discards.drops history x j n s v alike w) [
         | inl old ↦ h.blocks.idle c j n s v not_fresh pending block old (guest_open_pushed history x j (guest_writes_below history j n s v old.0) is_open)
-        | inr new ↦ clash (m.fresh c) (subst (λ (y : ℕ). m.fresh y ≡ true) (sym (same.forward s v new.2).0 ∙ block) fresh) not_fresh
+        | inr new ↦ both_ways (m.fresh c) not_fresh (subst (λ (y : ℕ). m.fresh y ≡ true) (sym (same.forward s v new.2).0 ∙ block) fresh)
       ];
       dropped = λ j n c drop. h.blocks.dropped j n c (drop_old m.discards.drops history x j n c none drop);
       lost_zeros = h.blocks.lost_zeros;
@@ -113,9 +113,6 @@ issue_fresh o log history m id first content e b p h fresh given same = (
     alike : (j : ℕ) → j < length history → m.discards.drops j ≡ m.discards.drops j
     alike = same_drops m.discards.drops (length history)
 
-    clash : (f : Bool) → f ≡ true → f ≡ false → ⊥
-    clash f set unset = cc
-
     answers : AnswersWell o log history m x
     answers call a n asked reply = absurd (no_reply id call first content reply)
 
@@ -127,9 +124,6 @@ issue_fresh o log history m id first content e b p h fresh given same = (
 
     follows : (c q : ℕ) → m.index.table (o.layout.chunk_of c) ≡ Some q → FollowsGuest o log (history ++ x ∷ []) m.discards.drops c q e
     follows = same_follows o log history m id first content e b p h given same
-
-pub clash : (f : Bool) → f ≡ true → f ≡ false → ⊥
-clash f set unset = cc
 
 -- what is shown stays so where no block stops being local
 pub shown_blocks : (o : Opening) (log : List Entry) (history : List NumberedEntry) (m : Memory) (fresh : ℕ → Bool) (born : ℕ → ℕ) (owed : ℕ → Bool) (pending : ℕ → Option ℕ) → ((b : ℕ) → m.fresh b ≡ true → fresh b ≡ true) → (reach : ℕ) (t : Claim)
@@ -167,8 +161,8 @@ none_live o log history m b j n s v h not_fresh none block w (inl ends) = elim (
   before = at_below history ends.0 (record { event = ends.2.event; number = ends.1 }) ends.2.numbered;
 })) [
   | inl logged ↦ elim logged [
-    | inl stale ↦ absurd (let set = (h.blocks.stale_settled b stale).0 in clash (m.fresh b) set not_fresh)
-    | inr owed ↦ absurd (let set = h.blocks.owed_local b owed in clash (m.fresh b) set not_fresh)
+    | inl stale ↦ absurd (let set = (h.blocks.stale_settled b stale).0 in both_ways (m.fresh b) not_fresh set)
+    | inr owed ↦ absurd (let set = h.blocks.owed_local b owed in both_ways (m.fresh b) not_fresh set)
   ]
   | inr dropped ↦ dropped
 ]
@@ -187,7 +181,7 @@ pub record IsNoDiscard (o : Opening) (drops : ℕ → Option ℕ) (guest : Entry
 -- What stands in a block that isn't local, as the next store event finds it.
 pub fill_now : (o : Opening) (log : List Entry) (history later : List NumberedEntry) (m : Memory) (guest : Entry) (b s : ℕ) (v : Sector) → Holds o log history m → m.fresh b ≡ false → m.pending b ≡ None
     → IsNoDiscard o m.discards.drops guest (length log) history later → o.layout.block_of s ≡ b → v ≡ fill_of o m.discards s → ((u : Sector) → Covers guest s u → ⊥) → IsFill o m.discards.drops later (length log) s v
-fill_now o log history later m guest b s v h not_fresh none same block value uncovered = elim (by_bool (m.discards.zeros (o.layout.chunk_of (o.layout.block_of s)))) [
+fill_now o log history later m guest b s v h not_fresh none same block value uncovered = elim (cases_Bool (m.discards.zeros (o.layout.chunk_of (o.layout.block_of s)))) [
   | inl zeros ↦
       let is_zeros : v ≡ o.zeros = value ∙ ap (λ (y : Bool). if y then o.zeros else o.disk s) zeros in
       elim (h.facts.zeros.from (o.layout.chunk_of (o.layout.block_of s)) zeros) [
@@ -205,7 +199,7 @@ fill_now o log history later m guest b s v h not_fresh none same block value unc
         }
       ]
   | inr base ↦
-      let no_drop : NoDropFrom m.discards.drops history 0 (o.layout.chunk_of (o.layout.block_of s)) = λ k n from drop. (let set = (h.blocks.dropped k n (o.layout.chunk_of (o.layout.block_of s)) drop).0 in clash (m.discards.zeros (o.layout.chunk_of (o.layout.block_of s))) set base) in
+      let no_drop : NoDropFrom m.discards.drops history 0 (o.layout.chunk_of (o.layout.block_of s)) = λ k n from drop. (let set = (h.blocks.dropped k n (o.layout.chunk_of (o.layout.block_of s)) drop).0 in both_ways (m.discards.zeros (o.layout.chunk_of (o.layout.block_of s))) base set) in
       record {
         from = 0;
         value = inl (refl, value ∙ ap (λ (y : Bool). if y then o.zeros else o.disk s) base);
@@ -215,7 +209,7 @@ fill_now o log history later m guest b s v h not_fresh none same block value unc
 ]
   where
     not_stale : m.index.stale (o.layout.block_of s) ≡ false
-    not_stale = is_false (m.index.stale (o.layout.block_of s)) (λ stale. clash (m.fresh b) (subst (λ (y : ℕ). m.fresh y ≡ true) block (h.blocks.stale_settled (o.layout.block_of s) stale).0) not_fresh)
+    not_stale = false_from_ne_true (m.index.stale (o.layout.block_of s)) (λ stale. both_ways (m.fresh b) not_fresh (subst (λ (y : ℕ). m.fresh y ≡ true) block (h.blocks.stale_settled (o.layout.block_of s) stale).0))
 
     writes : (from : ℕ) → NoDropFrom m.discards.drops history from (o.layout.chunk_of (o.layout.block_of s)) → (k n : ℕ) (u : Sector) → from ≤ k → OwnWrites m.discards.drops later k n s u → IsLive later k → length log < n
     writes from no_drop k n u after w live = elim (same.split k n s u w) [

@@ -1,6 +1,5 @@
 -- A flush begins: what its snapshot takes is kept.
-use Rattle.std.proofs.Common.{ℕ, ◌≡◌, ◌≤◌, ◌⊎◌, inl, inr, List, length, Bool, true, false, arith, refl}
-use Rattle.std.specs.Prelude.{◌||◌}
+use Rattle.std.proofs.Common.{ℕ, ◌≡◌, ◌≤◌, ◌⊎◌, inl, inr, List, length, true, arith}
 use Rattle.vd_image.specs.Log.{CallId, Entry, Flush, Ask}
 use Rattle.vd_crash.specs.facts.Safe.{NumberedEntry, Opening}
 use Rattle.vd_crash.specs.facts.Facts.{HasEntry, IsKept, IsSureBy, IsWrittenBefore, Holds}
@@ -9,18 +8,7 @@ use Rattle.vd_crash.proofs.facts.Growth.{kept_grown}
 use Rattle.vd_crash.proofs.facts.Recovered.{settled_kept}
 use Rattle.vd_crash.specs.flushes.Flushing.{snapshot_of, IsFlushUnderWay, flush_ask}
 use Rattle.vd_crash.specs.facts.Memory.{Memory}
-
-either : (x y : Bool) → (x || y) ≡ true → (x ≡ true) ⊎ (y ≡ true)
-either true y h = inl refl
-either false y h = inr h
-
-pub first_of_two : (x y : Bool) → x ≡ true → (x || y) ≡ true
-first_of_two true y h = refl
-first_of_two false y h = absurd cc
-
-pub second_of_two : (x y : Bool) → y ≡ true → (x || y) ≡ true
-second_of_two true y h = refl
-second_of_two false y h = h
+use Rattle.std.proofs.lemmas.Bool.{or_cases, or_left, or_right}
 
 -- the beginning of a flush: the data flush is asked next
 pub begun : (o : Opening) (log : List Entry) (history : List NumberedEntry) (m : Memory) (call : CallId) (a n : ℕ)
@@ -31,17 +19,17 @@ begun o log history m call a n h asked = record {
   after = let l = at_below history a (record { event = Ask call Flush; number = n }) asked in omega arith;
   begun = omega arith;
   reach = h.blocks.reach;
-  kept = λ b wanted. kept b (either (m.index.stale b) (m.owed b) wanted);
+  kept = λ b wanted. kept b (or_cases (m.index.stale b) (m.owed b) wanted);
   zeros = λ c is. is;
   dropped = λ j k c drop less. (h.blocks.dropped j k c drop).1;
   lost_zeros = h.blocks.lost_zeros;
   still_lost = λ c is. is;
-  wanted_was = λ b wanted. inl (either (m.index.stale b) (m.owed b) wanted);
+  wanted_was = λ b wanted. inl (or_cases (m.index.stale b) (m.owed b) wanted);
   zeros_off = h.blocks.zeros_off;
   lost_since = λ c is. inl is;
-  stale_wanted = λ b stale. first_of_two (m.index.stale b) (m.owed b) stale;
-  blocks_wanted = λ b owed. second_of_two (m.index.stale b) (m.owed b) owed;
-  off_wanted = λ b off. elim (h.blocks.off_base_known b off).1 [ inl stale ↦ inl (first_of_two (m.index.stale b) (m.owed b) stale) | inr zeros ↦ inr zeros ];
+  stale_wanted = λ b stale. or_left (m.index.stale b) (m.owed b) stale;
+  blocks_wanted = λ b owed. or_right (m.index.stale b) (m.owed b) owed;
+  off_wanted = λ b off. elim (h.blocks.off_base_known b off).1 [ inl stale ↦ inl (or_left (m.index.stale b) (m.owed b) stale) | inr zeros ↦ inr zeros ];
   owed = λ b owed. inl (owed, h.blocks.born b (h.blocks.owed_local b owed));
   covered = λ b j w. h.blocks.unlogged_untouched b j (whole b j w);
   covered_off = λ b j w. elim (h.blocks.unlogged_untouched b j (whole b j w)) [

@@ -5,7 +5,7 @@ use Rattle.vd_image.specs.Log.{Sector, CallId, Entry, Issue}
 use Rattle.vd_crash.specs.facts.Safe.{NumberedEntry, Opening}
 use Rattle.vd_crash.specs.facts.Facts.{HasEntry, IsDrop, IsWrittenBefore, IsKept, IsClaimSettled}
 use Rattle.vd_crash.specs.facts.Words.{Grows, IsDiscarded}
-use Rattle.vd_image.proofs.Logs.{at_push, at_end, length_push}
+use Rattle.vd_image.proofs.Logs.{at_push, at_end}
 use Rattle.vd_crash.proofs.facts.Growth.{EndsMirrored, kept_entry, kept_grown, written_before_old}
 use Rattle.vd_crash.proofs.facts.Drops.{drop_entry, drops_same, updated_more}
 use Rattle.vd_crash.proofs.facts.Writes.{no_ends, no_done}
@@ -13,6 +13,7 @@ use Rattle.vd_crash.specs.flushes.Flushing.{Snapshot, IsDroppedFrom, IsFlushUnde
 use Rattle.vd_crash.specs.facts.Memory.{Discards, Memory}
 use Rattle.vd_crash.specs.facts.Metadata.{Claim, Stored, Zero}
 use Rattle.vd_crash.proofs.facts.HistoryGrowth.{same_drops, drop_push, drop_pushed}
+use Rattle.std.proofs.lemmas.List.{length_push}
 
 abbrev pub beside_memory : Memory → (table : ℕ → Option ℕ) → (stale fresh : ℕ → Bool) → (born : ℕ → ℕ) → (owed : ℕ → Bool) → (pending : ℕ → Option ℕ) → Discards → Memory
 beside_memory m table stale fresh born owed pending d = record {

@@ -4,7 +4,7 @@ use Rattle.vd_image.specs.Log.{Sector, CallId, Entry, Done, Broke, At, Covers, I
 use Rattle.vd_image.specs.Image.{IsApart}
 use Rattle.vd_crash.specs.facts.Safe.{NumberedEntry, Opening}
 use Rattle.vd_crash.specs.facts.Facts.{IsClaimSettled}
-use Rattle.vd_image.proofs.Logs.{at_end, at_below, writes_push, writes_pushed, writes_end, writes_below, length_push}
+use Rattle.vd_image.proofs.Logs.{at_end, at_below, writes_push, writes_pushed, writes_end, writes_below}
 use Rattle.vd_crash.proofs.facts.Metadata.{WritesPlaces}
 use Rattle.vd_crash.specs.flushes.Flushing.{IsLast}
 use Rattle.vd_crash.specs.flushes.Passes.{IsPutting}
@@ -13,6 +13,7 @@ use Rattle.vd_crash.proofs.flushes.Passes.{in_flight_push, recorded_push, page_p
 use Rattle.vd_crash.specs.facts.Memory.{Memory}
 use Rattle.vd_crash.specs.facts.Metadata.{Claim}
 use Rattle.vd_crash.proofs.flushes.Synced.{last_done}
+use Rattle.std.proofs.lemmas.List.{length_push}
 
 -- a put is issued
 pub putting : (log : List Entry) (e : Entry) (a : ℕ) (v : Sector) (ticket : CallId) → Covers e a v → IsIssueOf e ticket → IsPutting (log ++ e ∷ []) a v ticket (length log)

@@ -6,13 +6,14 @@ use Rattle.vd_crash.specs.flushes.Flushing.{IsSealed, flush_ask}
 use Rattle.std.proofs.lemmas.Bool.{cases_eq}
 use Rattle.vd_crash.specs.facts.Words.{IsUpdated, IsDiscarded, discarded_memory}
 use Rattle.vd_crash.specs.flushes.Stage.{IsOtherCall, AreDistinct, Answering, HasWrite, Flight, Idle, Writing, Copying, FlightHolds, HasTicket, HasBlock, HasCall, AreFlights}
-use Rattle.vd_image.proofs.Logs.{at_push, at_pushed, at_end, at_below, length_push, flushes_push}
+use Rattle.vd_image.proofs.Logs.{at_push, at_pushed, at_end, at_below, flushes_push}
 use Rattle.vd_crash.proofs.facts.Growth.{behind_push, written_before_old}
 use Rattle.vd_crash.proofs.facts.Drops.{drop_entry}
 use Rattle.vd_crash.proofs.flushes.Beside.{sealed_beside, beside_drop}
 use Rattle.vd_crash.proofs.flushes.Passes.{in_flight_pushed, in_flight_push, writing_event, writing_entry}
 use Rattle.vd_crash.specs.facts.Memory.{Discards, Memory}
 use Rattle.vd_crash.proofs.facts.HistoryGrowth.{events_push, same_drops}
+use Rattle.std.proofs.lemmas.List.{length_push}
 
 -- a flush that is over, beside more events and entries
 pub sealed_event : (o : Opening) (log : List Entry) (history : List NumberedEntry) (drops : ℕ → Option ℕ) (stale off_base : ℕ → Bool) (reach : ℕ) (call : CallId) (a n : ℕ) (e : Entry) → IsSealed o log history drops stale off_base reach (flush_ask call a n) → IsSealed o (log ++ e ∷ []) history drops stale off_base reach (flush_ask call a n)

@@ -8,8 +8,7 @@ use Rattle.vd_crash.specs.facts.Words.{with_blocks, with_table, IsDropWrite, IsD
 use Rattle.vd_image.proofs.Logs.{at_push, at_pushed}
 use Rattle.vd_crash.proofs.facts.Drops.{drops_same, drop_issued}
 use Rattle.vd_crash.specs.flushes.Blocks.{issue_of, with_owed, with_pending}
-use Rattle.vd_crash.specs.flushes.Moves.{World, world, Keeps, entry_now, IsQuietStep, Tells, Notes, Takes, Adopts, IsBlockStep, Writes_local, Writes_whole, Copies, Becomes_local, Gives_up, Ends_write, Drops}
-use Rattle.vd_crash.specs.flushes.Moves.{IsFlushStep, Puts_record, Puts_page, Puts_header, Seals_records, Seals_recycle, IsStep, Keeps_contents, Moves_block, Flushes_on, Runs, Stays, Goes_on}
+use Rattle.vd_crash.specs.flushes.Moves.{World, world, Keeps, entry_now, IsQuietStep, Tells, Notes, Takes, Adopts, IsBlockStep, Writes_local, Writes_whole, Copies, Becomes_local, Gives_up, Ends_write, Drops, IsFlushStep, Puts_record, Puts_page, Puts_header, Seals_records, Seals_recycle, IsStep, Keeps_contents, Moves_block, Flushes_on, Runs, Stays, Goes_on}
 use Rattle.vd_crash.proofs.facts.Moments.{safe_event, safe_entry, last_safe}
 use Rattle.vd_crash.proofs.facts.Steps.{EndsNoOwn, quiet_event, quiet_entry, no_done_ends}
 use Rattle.vd_crash.proofs.facts.Writes.{issue_fresh, issue_whole, put_copy, facts_same}

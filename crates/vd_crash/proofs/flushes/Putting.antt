@@ -14,7 +14,7 @@ use Rattle.vd_crash.proofs.flushes.Wanted.{shown_index, shown_less, wanted_left,
 use Rattle.vd_crash.specs.facts.Memory.{Memory, IsTable}
 use Rattle.vd_crash.specs.facts.Metadata.{Claim, IsRight, IsRightPage, IsRecordLeft, chunk_in, IsHeaderLeft, IsMetadata}
 use Rattle.vd_crash.proofs.facts.HistoryGrowth.{numbers_event}
-use Rattle.vd_image.proofs.Logs.{length_push}
+use Rattle.std.proofs.lemmas.List.{length_push}
 
 -- an event that writes to no place
 abbrev pub WritesNoPlace : Opening → Entry → Type 0

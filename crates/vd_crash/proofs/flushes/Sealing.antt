@@ -1,6 +1,6 @@
 -- What the end of a flush leaves of all facts, by records and by a recycle, and its good answer.
-use Rattle.std.proofs.Common.{ℕ, ◌≡◌, ◌+◌, ◌<◌, ◌≤◌, ◌⊎◌, inl, inr, List, [], ◌∷◌, ◌++◌, length, Some, None, Option, Bool, true, false, arith, refl, ap, sym, subst, ◌∙◌, Ok}
-use Rattle.std.proofs.lemmas.Bool.{cases_lt}
+use Rattle.std.proofs.Common.{ℕ, ◌≡◌, ◌+◌, ◌<◌, ◌≤◌, ◌⊎◌, inl, inr, List, [], ◌∷◌, ◌++◌, length, Some, Bool, true, false, arith, refl, ap, sym, subst, ◌∙◌, Ok}
+use Rattle.std.proofs.lemmas.Bool.{cases_lt, cases_Bool, false_from_ne_true}
 use Rattle.vd_image.specs.Log.{Sector, CallId, Entry, Flush, Fine, Ask, Reply, Flushes, May, IsOpen}
 use Rattle.vd_image.specs.Image.{Header, Mapping, Record}
 use Rattle.vd_crash.specs.facts.Safe.{NumberedEntry, events, Opening}
@@ -8,7 +8,6 @@ use Rattle.vd_crash.specs.facts.Facts.{HasEntry, OwnWrites, NoDropFrom, IsClaimS
 use Rattle.vd_image.proofs.Logs.{at_one}
 use Rattle.vd_crash.proofs.facts.Growth.{kept_grown, answered_more}
 use Rattle.vd_crash.proofs.facts.Steps.{quiet_entry, no_done_ends}
-use Rattle.vd_crash.proofs.facts.Recovered.{is_false, by_bool}
 use Rattle.vd_crash.specs.flushes.Flushing.{Snapshot, IsWanted, IsOffAfter, IsFlushUnderWay, IsCaughtUp, IsSealed, IsLogged, flush_ask}
 use Rattle.vd_crash.specs.flushes.Stage.{FlushProgress, IsSoFar}
 use Rattle.vd_crash.specs.facts.Words.{Sealing, sealed_memory}
@@ -17,6 +16,7 @@ use Rattle.vd_crash.proofs.flushes.Synced.{named_in_slots}
 use Rattle.vd_crash.specs.facts.Memory.{Memory}
 use Rattle.vd_crash.specs.facts.Metadata.{IsRight, IsNamed, Need, Local, Off_base, block_in, chunk_in, IsInPage, IsLocalLeft, IsDue, IsMetadata}
 use Rattle.vd_format.specs.Background.{background}
+use Rattle.vd_lists.proofs.Options.{cases_option}
 
 -- the end of a flush, whatever the metadata becomes
 pub seal : (o : Opening) (log : List Entry) (history : List NumberedEntry) (m : Memory) (p : Snapshot) (call : CallId) (a n q : ℕ) (generation tracked : ℕ) (sure : Bool) (tried : ℕ → Bool) (cursor : ℕ) (z : Sealing)
@@ -120,7 +120,7 @@ seal o log history m p call a n q generation tracked sure tried cursor z h way f
     open_still : (j k s : ℕ) (v : Sector) → OwnWrites m.discards.drops history j k s v → IsOpen (events history) j → (st : ℕ) → m.index.table (o.layout.chunk_of (o.layout.block_of s)) ≡ Some st → z.table (o.layout.chunk_of (o.layout.block_of s)) ≡ Some st
     open_still j k s v w is_open st given = elim (logged.table (o.layout.chunk_of (o.layout.block_of s))) [
       | inl same ↦ same ∙ given
-      | inr released ↦ absurd (h.blocks.idle (o.layout.block_of s) j k s v (is_false (m.fresh (o.layout.block_of s)) (released.not_local (o.layout.block_of s) refl)) (released.calm (o.layout.block_of s) refl) refl w is_open)
+      | inr released ↦ absurd (h.blocks.idle (o.layout.block_of s) j k s v (false_from_ne_true (m.fresh (o.layout.block_of s)) (released.not_local (o.layout.block_of s) refl)) (released.calm (o.layout.block_of s) refl) refl w is_open)
     ]
 
     settled : (b : ℕ) → (m.index.stale b ≡ true) ⊎ ((p.blocks b ≡ true) × NoDropFrom m.discards.drops history p.begun (o.layout.chunk_of b)) → IsSettled log m b
@@ -142,7 +142,7 @@ seal o log history m p call a n q generation tracked sure tried cursor z h way f
     zeros_now = record {
       from = λ c is. elim (h.facts.zeros.from c is) [
         | inl last ↦ inl (record { at = last.at; number = last.number; is = last.is; last = last.last })
-        | inr never ↦ inr (never.0, λ s chunk not_stale. never.1 s chunk (is_false (m.index.stale (o.layout.block_of s)) (λ set. let also = logged.stale_still (o.layout.block_of s) set in cc)))
+        | inr never ↦ inr (never.0, λ s chunk not_stale. never.1 s chunk (false_from_ne_true (m.index.stale (o.layout.block_of s)) (λ set. let also = logged.stale_still (o.layout.block_of s) set in cc)))
       ];
       sealed_off = λ j k b drop less. (logged.off_is b).1 (elim (way.dropped j k (o.layout.chunk_of b) drop (let e = logged.reach in omega arith)) [
         | inl sealed ↦ inl (h.facts.zeros.sealed_off j k b drop sealed)
@@ -177,18 +177,13 @@ right_sealed o log history m p generation tracked sure tried cursor z c w logged
       | inr released ↦ absurd (released.unwanted b (right.grammar.blocks b has).1 (only released.lost b has))
     ]
 
--- a chunk with storage in a mapping of the grammar has a block there
-by_storage : (x : Option ℕ) → (x ≡ None) ⊎ ((s : ℕ) × (x ≡ Some s))
-by_storage None = inl refl
-by_storage (Some s) = inr (s, refl)
-
 -- What is right stays so, or it has a block of a chunk whose discard is logged.
 pub right_or_lost : (o : Opening) (log : List Entry) (history : List NumberedEntry) (m : Memory) (p : Snapshot) (call : CallId) (a n q : ℕ) (generation tracked : ℕ) (sure : Bool) (tried : ℕ → Bool) (cursor : ℕ) (z : Sealing) (c : ℕ) (w : Mapping)
     → IsFlushUnderWay o log history m p (flush_ask call a n) q → IsLogged o history m p z
     → IsRight o (IsClaimSettled o log history m m.discards.reach) m.index.table c w
     → IsRight o (IsClaimSettled o log history (sealed_memory m generation tracked sure tried cursor z) z.reach) z.table c w ⊎ ((b : ℕ) × (o.layout.chunk_of b ≡ c) × (p.lost (o.layout.chunk_of b) ≡ true))
-right_or_lost o log history m p call a n q generation tracked sure tried cursor z c w way logged right = elim (by_bool (p.lost c)) [
-  | inl lost ↦ elim (by_storage w.storage) [
+right_or_lost o log history m p call a n q generation tracked sure tried cursor z c w way logged right = elim (cases_Bool (p.lost c)) [
+  | inl lost ↦ elim (cases_option w.storage) [
     | inl none ↦ inl (record {
       grammar = right.grammar;
       storage_agrees = λ s has. absurd cc;

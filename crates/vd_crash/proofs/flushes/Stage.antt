@@ -8,7 +8,7 @@ use Rattle.vd_crash.specs.flushes.Flushing.{IsLast, Snapshot, IsWanted, IsOffAft
 use Rattle.vd_crash.specs.flushes.Passes.{IsPutting}
 use Rattle.vd_crash.specs.flushes.Stage.{IsLoggedBy, FlushProgress, IsSoFar, IsPageToPut}
 use Rattle.vd_crash.specs.facts.Words.{Sealing, with_index, sealed_memory}
-use Rattle.vd_image.proofs.Logs.{flushes_push, length_push}
+use Rattle.vd_image.proofs.Logs.{flushes_push}
 use Rattle.vd_crash.proofs.facts.Growth.{FollowsGuest, kept_event}
 use Rattle.vd_crash.proofs.facts.Metadata.{NoMore, right_more, slots_have_less, named_less, no_more_metadata, WritesPlaces}
 use Rattle.vd_crash.proofs.facts.Steps.{shown_event}
@@ -23,6 +23,7 @@ use Rattle.vd_crash.proofs.flushes.Putting.{WritesNoPlace, no_place_follows, onl
 use Rattle.vd_crash.proofs.flushes.Synced.{only_last, in_slots, caught_up}
 use Rattle.vd_crash.proofs.flushes.Sealing.{seal_records, seal_recycle}
 use Rattle.vd_format.specs.Background.{background}
+use Rattle.std.proofs.lemmas.List.{length_push}
 
 -- the flush goes on after an event that puts into each block's place what stands in the block
 pub under_way_event : (o : Opening) (log : List Entry) (history : List NumberedEntry) (m : Memory) (p : Snapshot) (call : CallId) (a n q : ℕ) (e : Entry) (sure : Bool) (tried : ℕ → Bool) (cursor : ℕ)

@@ -7,7 +7,7 @@ use Rattle.vd_crash.specs.facts.Facts.{IsClaimSettled}
 use Rattle.vd_crash.specs.flushes.Stage.{FlushProgress}
 use Rattle.vd_crash.specs.facts.Words.{Grows, with_blocks, IsDiscarded, discarded_memory}
 use Rattle.vd_crash.specs.primitives.Core.{IsAsking, AsksNone, Stage, Resting, Sending, Working, Putting, Syncing, Puts_next, Has_next, Syncs_next, Is_next, IsNext, StageHolds, StageTicket}
-use Rattle.vd_image.proofs.Logs.{at_push, at_pushed, flushes_push, length_push}
+use Rattle.vd_image.proofs.Logs.{at_push, at_pushed, flushes_push}
 use Rattle.vd_crash.proofs.facts.Growth.{FollowsGuest, EndsMirrored}
 use Rattle.vd_crash.proofs.facts.Metadata.{WritesPlaces}
 use Rattle.vd_crash.proofs.facts.Steps.{shown_event}
@@ -19,6 +19,7 @@ use Rattle.vd_crash.proofs.flushes.Beside.{IsBeside, beside_memory, shown_beside
 use Rattle.vd_crash.specs.facts.Memory.{Discards, Memory}
 use Rattle.vd_crash.proofs.flushes.Synced.{last_push}
 pub use Rattle.vd_crash.specs.primitives.Primitives.{with_table}
+use Rattle.std.proofs.lemmas.List.{length_push}
 
 -- the header is no place
 no_header : (o : Opening) (e : Entry) → IsApart o.layout → WritesPlaces o e → (u : Sector) → Covers e o.layout.header_at u → ⊥

@@ -12,7 +12,7 @@ use Rattle.vd_crash.specs.flushes.Stage.{Flight, Idle, Writing, Copying, Answeri
 use Rattle.vd_crash.specs.facts.Words.{WritesNothing, with_blocks, IsUpdated}
 use Rattle.vd_crash.specs.flushes.Moves.{world, entry_now, Tells, Notes, Keeps_contents}
 use Rattle.vd_crash.specs.primitives.Core.{Stage, StageTicket, IsCore}
-use Rattle.vd_image.proofs.Logs.{at_end, at_below, at_one, length_push}
+use Rattle.vd_image.proofs.Logs.{at_end, at_below, at_one}
 use Rattle.vd_crash.proofs.facts.Growth.{EndsMirrored}
 use Rattle.vd_crash.proofs.facts.Moments.{safe_entry}
 use Rattle.vd_crash.proofs.flushes.Moves.{step_keeps}
@@ -23,6 +23,7 @@ use Rattle.vd_crash.proofs.primitives.PassSteps.{kept, quiet_places}
 use Rattle.vd_crash.proofs.primitives.IssueSteps.{end_no_ask, tickets_set, write_call}
 use Rattle.vd_crash.specs.facts.Memory.{Memory}
 use Rattle.vd_crash.proofs.facts.HistoryGrowth.{events_push}
+use Rattle.std.proofs.lemmas.List.{length_push}
 
 -- a pass's open write is to its block, and its call's
 pub write_block : (o : Opening) (log : List Entry) (history : List NumberedEntry) (m : Memory) (f : Flight) (j i s : ℕ) (v : Sector) → FlightHolds o log history m f → HasWrite f j → GuestWrites history j i s v → HasBlock f (o.layout.block_of s)

@@ -3,8 +3,7 @@ use Rattle.std.proofs.Common.{◌+◌, [], ◌∷◌, ◌++◌, false, sym}
 use Rattle.vd_image.specs.Log.{Flush, Fine, Ask, Done, Reply}
 use Rattle.vd_crash.specs.facts.Safe.{Opening}
 use Rattle.vd_crash.specs.primitives.Core.{IsCore, Resting, Sending, Working, Putting, Syncing}
-use Rattle.vd_crash.specs.primitives.FlushSteps.{puts_header, has_header, syncs_header, synced_header, progress_synced, IsFlushPrimitive, Begins, Data_flushed, Flush_fails, Syncs, Synced, Seals, Seals_recycle}
-use Rattle.vd_crash.specs.primitives.FlushSteps.{IsWorking, IsPutPrimitive, Puts_record, Puts_page, Put_done, Puts_header, Header_done, Syncs_header, Header_synced}
+use Rattle.vd_crash.specs.primitives.FlushSteps.{puts_header, has_header, syncs_header, synced_header, progress_synced, IsFlushPrimitive, Begins, Data_flushed, Flush_fails, Syncs, Synced, Seals, Seals_recycle, IsWorking, IsPutPrimitive, Puts_record, Puts_page, Put_done, Puts_header, Header_done, Syncs_header, Header_synced}
 use Rattle.vd_crash.specs.primitives.Keeping.{IsMarkedCore}
 use Rattle.vd_crash.specs.primitives.States.{State}
 use Rattle.vd_crash.proofs.flushes.Marks.{marks_sealed, clean_caught_up}

@@ -8,7 +8,7 @@ use Rattle.vd_crash.specs.flushes.Stage.{Flight, Idle, Answering, FlightHolds, H
 use Rattle.vd_crash.specs.facts.Words.{WritesNothing, IsUpdated, Sealing, WritesOnly, with_index, sealed_memory}
 use Rattle.vd_crash.specs.flushes.Moves.{world, entry_now, Tells, Keeps_contents}
 use Rattle.vd_crash.specs.primitives.Core.{IsAsking, Stage, StageHolds, StageTicket, IsCore, Resting, Sending, Working, Putting, Syncing, Puts_next, Has_next, Syncs_next, Is_next, IsNext}
-use Rattle.vd_image.proofs.Logs.{at_push, at_end, at_below, at_pushed, length_push}
+use Rattle.vd_image.proofs.Logs.{at_push, at_end, at_below, at_pushed}
 use Rattle.vd_crash.proofs.facts.Moments.{safe_event, safe_entry}
 use Rattle.vd_crash.proofs.flushes.Moves.{step_keeps}
 use Rattle.vd_crash.proofs.flushes.Flights.{flight_entry, flight_memory, flights_event, flights_memory, owned_entry, distinct_set, each_set}
@@ -30,6 +30,7 @@ use Rattle.vd_crash.proofs.flushes.Synced.{last_push}
 use Rattle.vd_crash.proofs.flushes.Beginning.{begun}
 use Rattle.vd_crash.proofs.flushes.Sealing.{flush_answered}
 pub use Rattle.vd_crash.specs.primitives.Primitives.{EndsNone, nothing_put}
+use Rattle.std.proofs.lemmas.List.{length_push}
 
 ask_ends_none : (flights : ℕ → Flight) (ticket : CallId) → EndsNone flights (Ask ticket Flush)
 ask_ends_none flights ticket k t has (inl same) = cc

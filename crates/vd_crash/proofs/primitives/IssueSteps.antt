@@ -8,7 +8,7 @@ use Rattle.vd_crash.specs.flushes.Stage.{Flight, Idle, Writing, Copying, HasTick
 use Rattle.vd_crash.specs.facts.Words.{with_blocks, IsSameWrite, IsUpdated, IsWholeWrite, no_write}
 use Rattle.vd_crash.specs.flushes.Moves.{world, entry_now, Writes_local, Writes_whole, Copies, Moves_block}
 use Rattle.vd_crash.specs.primitives.Core.{Stage, StageTicket, IsCore}
-use Rattle.vd_image.proofs.Logs.{at_push, at_end, at_below, at_pushed, at_one, length_push}
+use Rattle.vd_image.proofs.Logs.{at_push, at_end, at_below, at_pushed, at_one}
 use Rattle.vd_crash.proofs.facts.Metadata.{WritesPlaces}
 use Rattle.vd_crash.proofs.flushes.Moves.{step_keeps}
 use Rattle.vd_crash.proofs.flushes.Flights.{KeepsFor, flight_event, flight_entry, flight_memory, distinct_set, each_set}
@@ -20,6 +20,7 @@ use Rattle.vd_crash.proofs.facts.Steps.{next_ordinary}
 use Rattle.vd_crash.proofs.facts.Writes.{no_done, no_ends, same_follows, issue_whole, put_copy}
 use Rattle.vd_crash.specs.facts.Memory.{Memory}
 use Rattle.vd_crash.proofs.facts.HistoryGrowth.{events_push, length_events}
+use Rattle.std.proofs.lemmas.List.{length_push}
 
 pub issue_no_ask : (e : Entry) (ticket t : CallId) (request : Asked) → IsIssueOf e ticket → e ≡ Ask t request → ⊥
 issue_no_ask e ticket t request issues same = subst (λ (x : Entry). IsIssueOf x ticket) same issues

@@ -10,8 +10,7 @@ use Rattle.vd_crash.specs.flushes.Moves.{entry_now}
 use Rattle.vd_crash.specs.flushes.Stage.{Flight, Writing, FlightHolds}
 use Rattle.vd_crash.specs.primitives.Core.{IsCore, Stage, Resting}
 use Rattle.vd_crash.specs.primitives.Keeping.{IsMarkedCore}
-use Rattle.vd_crash.specs.primitives.PassSteps.{PieceEnd, IsQuietPrimitive, Tells, Notes, Takes, Adopts, Marks, Answers, IsWritePrimitive, Issues, Issues_whole, Copies, Drops}
-use Rattle.vd_crash.specs.primitives.PassSteps.{IsEndPrimitive, Ends_local, Ends_whole, Fails, Fails_whole, Copied, Copy_fails}
+use Rattle.vd_crash.specs.primitives.PassSteps.{PieceEnd, IsQuietPrimitive, Tells, Notes, Takes, Adopts, Marks, Answers, IsWritePrimitive, Issues, Issues_whole, Copies, Drops, IsEndPrimitive, Ends_local, Ends_whole, Fails, Fails_whole, Copied, Copy_fails}
 use Rattle.vd_crash.specs.primitives.States.{State}
 use Rattle.vd_crash.proofs.facts.Steps.{quiet_event}
 use Rattle.vd_crash.proofs.facts.Writes.{no_done, no_ends, same_follows, issue_whole, put_copy}

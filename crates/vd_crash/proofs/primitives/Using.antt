@@ -5,7 +5,6 @@ use Rattle.vd_image.specs.Image.{Header, geometry_of}
 use Rattle.vd_crash.specs.facts.Safe.{NumberedEntry, Opening}
 use Rattle.vd_crash.specs.facts.Facts.{NoDropFrom, IsLastDrop, IsDroppedAfter, IsWrittenBefore}
 use Rattle.vd_crash.specs.flushes.Flushing.{IsDroppedFrom}
-use Rattle.vd_crash.proofs.facts.Recovered.{is_false}
 use Rattle.vd_crash.specs.flushes.Stage.{Flight, FlushProgress}
 use Rattle.vd_crash.specs.primitives.Core.{Stage, Working}
 use Rattle.vd_crash.specs.primitives.FlushSteps.{IsWorking, IsRecycleHeader, MayLowerTracked}
@@ -14,12 +13,13 @@ use Rattle.vd_crash.specs.primitives.Keeping.{KeepsCrashSafety}
 use Rattle.vd_crash.proofs.primitives.Retrack.{same_tracked, lower_tracked}
 use Rattle.vd_crash.specs.facts.Memory.{Memory}
 use Rattle.vd_format.specs.Background.{background}
+use Rattle.std.proofs.lemmas.Bool.{false_from_ne_true}
 
 -- a block that isn't local of a chunk that isn't zeros has the content that it had at opening
 pub kept_background : (o : Opening) (s : State) (t : ℕ) → KeepsCrashSafety o s → t < o.layout.size → s.memory.fresh (o.layout.block_of t) ≡ false → s.memory.discards.zeros (o.layout.chunk_of (o.layout.block_of t)) ≡ false
     → background o.base o.zeros s.memory.index.tracked t ≡ o.disk t
 unfolding KeepsCrashSafety
-kept_background o s t kept within not_fresh base = kept.core.holds.blocks.background_same t within (is_false (s.memory.index.off_base (o.layout.block_of t)) not_off)
+kept_background o s t kept within not_fresh base = kept.core.holds.blocks.background_same t within (false_from_ne_true (s.memory.index.off_base (o.layout.block_of t)) not_off)
   where
     not_off : s.memory.index.off_base (o.layout.block_of t) ≡ true → ⊥
     not_off off = elim (kept.core.holds.blocks.off_base_known (o.layout.block_of t) off).1 [
@@ -33,7 +33,7 @@ pub kept_zeros : (o : Opening) (s : State) (t : ℕ) → KeepsCrashSafety o s �
 unfolding KeepsCrashSafety
 kept_zeros o s t kept not_fresh zeros = elim (kept.core.holds.facts.zeros.from (o.layout.chunk_of (o.layout.block_of t)) zeros) [
   | inl dropped ↦ inl dropped
-  | inr never ↦ inr (never.0, never.1 t refl (is_false (s.memory.index.stale (o.layout.block_of t)) not_stale))
+  | inr never ↦ inr (never.0, never.1 t refl (false_from_ne_true (s.memory.index.stale (o.layout.block_of t)) not_stale))
 ]
   where
     not_stale : s.memory.index.stale (o.layout.block_of t) ≡ true → ⊥

@@ -3,11 +3,12 @@ use Rattle.std.proofs.Common.{◌≡◌, ℕ, inl, inr, true, false, List, [], �
 use Rattle.std.specs.Prelude.{IsSome}
 use Rattle.std.specs.List.{All, AllByRecursion, fold}
 use Rattle.std.proofs.lemmas.List.Elements.{All-from_recursion}
+use Rattle.std.proofs.lemmas.Bool.{cases_Bool}
 use Rattle.vd_law.specs.declared.entry.CallId.{CallId}
 use Rattle.vd_law.specs.Entries.{Entry, Ask, Issue, Done, Broke, Seen, Reply, call_of, same_call, Past, nothing, ◌▸◌}
 use Rattle.vd_law.specs.Calls.{Progress, progress}
 use Rattle.vd_law.specs.Rules.{Each, IsInTurn, IsRegular}
-use Rattle.vd_law.proofs.Opening.{same_call-is, case}
+use Rattle.vd_law.proofs.Opening.{same_call-is}
 use Rattle.vd_law.proofs.OpenLaws.{progress-other}
 use Rattle.vd_run.specs.Driving.{IsAskOf}
 
@@ -32,7 +33,7 @@ own-entry size pass p (Seen id first content) of turn ask = of id turn.asked
 own-entry size pass p (Reply id answer) of turn ask = of id turn.asked
 
 still-of : (pass : ℕ) (p : Past) (e : Entry) → AreOf pass p → (call_of e).pass ≡ pass → AreOf pass (p ▸ e)
-still-of pass p e of own id asked = elim (case (same_call (call_of e) id)) [
+still-of pass p e of own id asked = elim (cases_Bool (same_call (call_of e) id)) [
   | inl same ↦ ap (λ (c : CallId). c.pass) (sym (same_call-is (call_of e) id same)) ∙ own
   | inr other ↦ of id (subst (λ (c : Progress). IsSome c.asked) (progress-other p e id other) asked)
 ]

@@ -19,10 +19,7 @@ use Rattle.vd_core.specs.Moves.{Drives, work}
 use Rattle.vd_run.specs.Serving.{asked_by, requests_in, AddsAnsweredFlush}
 use Rattle.vd_run.specs.Driving.{IsAskOf, Serves}
 use Rattle.vd_law.specs.Needs.{request_room}
-
-all-more : {X : Type 0} (P : X → Type 0) (xs ys : List X) → AllByRecursion P xs → AllByRecursion P ys → AllByRecursion P (xs ++ ys)
-all-more P [] ys front back = back
-all-more P (x ∷ xs) ys front back = (front.0, all-more P xs ys front.1 back)
+use Rattle.vd_lists.proofs.Elements.{each_append}
 
 -- entries that are no Asks
 no-requests : (pass : ℕ) (more : List Entry) → AllByRecursion IsNoAsk more → requests_in more pass ≡ []
@@ -50,7 +47,7 @@ serves-on {entries = entries} {between = between} drives serves =
     let moves = drives.moves in record {
       asked = ap (λ (es : List Entry). requests_in es 1) moves.entries_after ∙ flat_map-append (asked_by 1) between moves.more
           ∙ ap (λ (rs : List Asked). requests_in between 1 ++ rs) (no-requests 1 moves.more moves.none_asked) ∙ append-nil (requests_in between 1) ∙ serves.asked;
-      alone = λ before. subst (AllByRecursion (IsAskOf 1)) (sym moves.entries_after) (all-more (IsAskOf 1) between moves.more (serves.alone before) (no-asks-of 1 moves.more moves.none_asked));
+      alone = λ before. subst (AllByRecursion (IsAskOf 1)) (sym moves.entries_after) (each_append (IsAskOf 1) between moves.more (serves.alone before) (no-asks-of 1 moves.more moves.none_asked));
       events_left = let a = serves.events_left in let b = drives.events_left in omega arith;
       sectors_left = let a = serves.sectors_left in let b = drives.sectors_left in omega arith;
     }
@@ -82,7 +79,7 @@ module _ {request : Asked} {shape shape' : Shape} {events : ℕ} {table table' :
       let needed = some-needed shape.block request in
       let more_events = ap (λ (r : Room). r.events) full.left_after in let more_sectors = ap (λ (r : Room). r.sectors) full.left_after in record {
         asked = ap (λ (es : List Entry). requests_in es 1) full.asks.event ∙ flat_map-append (asked_by 1) history.log.entries _;
-        alone = λ before. subst (AllByRecursion (IsAskOf 1)) (sym full.asks.event) (all-more (IsAskOf 1) history.log.entries _ before (refl, (tt, tt)));
+        alone = λ before. subst (AllByRecursion (IsAskOf 1)) (sym full.asks.event) (each_append (IsAskOf 1) history.log.entries _ before (refl, (tt, tt)));
         events_left = omega (arith, more_events, needed.0);
         sectors_left = omega (arith, more_sectors, needed.1);
       }
@@ -91,7 +88,7 @@ module _ {request : Asked} {shape shape' : Shape} {events : ℕ} {table table' :
   asked-serves asked =
       let more_events = ap (λ (r : Room). r.events) asked.left_after in let more_sectors = ap (λ (r : Room). r.sectors) asked.left_after in record {
         asked = ap (λ (es : List Entry). requests_in es 1) asked.asks.event ∙ flat_map-append (asked_by 1) history.log.entries _;
-        alone = λ before. subst (AllByRecursion (IsAskOf 1)) (sym asked.asks.event) (all-more (IsAskOf 1) history.log.entries _ before (refl, tt));
+        alone = λ before. subst (AllByRecursion (IsAskOf 1)) (sym asked.asks.event) (each_append (IsAskOf 1) history.log.entries _ before (refl, tt));
         events_left = omega (arith, more_events);
         sectors_left = omega (arith, more_sectors);
       }
@@ -115,7 +112,7 @@ pub flush-serves : {answer : Answer} {block : ℕ} {entries entries' : List Entr
     → Serves Flush block entries entries' left left'
 flush-serves {entries = entries} flushes room = record {
   asked = ap (λ (es : List Entry). requests_in es 1) flushes.after ∙ flat_map-append (asked_by 1) entries _;
-  alone = λ before. subst (AllByRecursion (IsAskOf 1)) (sym flushes.after) (all-more (IsAskOf 1) entries _ before (refl, (tt, tt)));
+  alone = λ before. subst (AllByRecursion (IsAskOf 1)) (sym flushes.after) (each_append (IsAskOf 1) entries _ before (refl, (tt, tt)));
   events_left = room.0;
   sectors_left = (let sectors = room.1 in omega arith);
 }

@@ -1,6 +1,5 @@
 -- What steps leave of the devices and of the disk, one after the other.
-use Rattle.std.proofs.Common.{◌≡◌, ℕ, refl, ◌∙◌, ap, subst}
-use Rattle.std.proofs.Common.{length, Option}
+use Rattle.std.proofs.Common.{◌≡◌, ℕ, refl, ◌∙◌, ap, subst, length, Option}
 use Rattle.vd_law.specs.declared.entry.Answer.{Answer}
 use Rattle.vd_law.specs.Entries.{Asked}
 use Rattle.vd_device.specs.declared.store.Store as store

@@ -1,7 +1,7 @@
 use Rattle.std.proofs.Common.{ℕ, ◌≡◌, ◌∙◌, Some, length, slice_get, slice_set, ap, subst, sym, inl, inr, arith}
 use Rattle.std.proofs.lemmas.List.{length-set}
 use Rattle.std.proofs.lemmas.Bool.Decides.{eqb_tells}
-use Rattle.vd_bits.proofs.SetLaws.{set_same, set_other}
+use Rattle.vd_lists.proofs.Changes.{slice_set_inside, slice_set_other}
 use Rattle.vd_table.specs.Tables.{TableState}
 use Rattle.vd_keeper.proofs.tests.full_table.Goals as goal
 
@@ -11,8 +11,8 @@ loop-chunk-preserved c =
       size = ap (λ (t : TableState). length t.chunks) given ∙ length-set chunks chunk (Some chunk) ∙ was.size;
       storage = ap (λ (t : TableState). t.storage) given ∙ was.storage;
       each = λ k below. ap (λ (t : TableState). slice_get t.chunks k) given ∙ (elim (eqb_tells k chunk) [
-        | inl same ↦ subst (λ (x : ℕ). slice_get (slice_set chunks chunk (Some chunk)) x ≡ Some (Some x)) (sym same.1) (set_same chunks chunk (Some chunk) (omega (arith, was.size, c.loop-chunk-test.true)))
-        | inr other ↦ set_other chunks chunk k (Some chunk) other.1 ∙ was.each k (omega (arith, below, other.1))
+        | inl same ↦ subst (λ (x : ℕ). slice_get (slice_set chunks chunk (Some chunk)) x ≡ Some (Some x)) (sym same.1) (slice_set_inside chunks chunk (Some chunk) (omega (arith, was.size, c.loop-chunk-test.true)))
+        | inr other ↦ slice_set_other chunks chunk k (Some chunk) other.1 ∙ was.each k (omega (arith, below, other.1))
       ]);
     }
 

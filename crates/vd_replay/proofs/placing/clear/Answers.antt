@@ -4,7 +4,8 @@ use Rattle.std.proofs.lemmas.List.{length-replicate}
 use Rattle.std.proofs.lemmas.Option.{slice_get_past}
 use Rattle.vd_format.specs.Entries.{empty_entry}
 use Rattle.vd_replay.proofs.placing.clear.Goals as goal
-use Rattle.vd_lists.proofs.Lists.{same_list, slice_get_replicate}
+use Rattle.vd_lists.proofs.Lists.{same_list}
+use Rattle.vd_lists.proofs.Places.{slice_get_replicate}
 
 pub returns : goal.returns
 returns c =

@@ -4,13 +4,13 @@ use Rattle.std.specs.List.{list_any, flat_map}
 use Rattle.std.proofs.lemmas.List.{length-take, length-drop, length-append}
 use Rattle.vd_device.proofs.QuietLaws.{reads_nothing, base_reads_nothing}
 use Rattle.vd_replay.specs.declared.state.State.{State}
-use Rattle.vd_replay.proofs.ListLaws.{get_some}
 use Rattle.vd_report.specs.Ending.{has_failed, shown_text}
 use Rattle.vd_run.proofs.RunningLaws.{line_within}
 use Rattle.vd_report.proofs.WritingLaws.{writes_nothing, writes_both, writes_as}
 use Rattle.vd_run.proofs.ReopeningLaws.{none_shown, one_more, all_later, shown_earlier, all_shown, failed_more, text_more}
 use Rattle.vd_run.proofs.reopening.put_shows.Goals as goal
 use Rattle.vd_device.proofs.DeviceLaws.{both_read_twice}
+use Rattle.vd_lists.proofs.Places.{some_place}
 
 pub loop-at-init : goal.loop-at-init
 loop-at-init g c = record {
@@ -25,7 +25,7 @@ loop-at-init g c = record {
 
 pub put_shown-fails-requires-clause-inside : goal.put_shown-fails-requires-clause-inside
 put_shown-fails-requires-clause-inside g c =
-    let line = get_some c.args.trace.now.shows c.loop-at.at (omega (arith, c.shows-at-end.ensures)) in
+    let line = some_place c.args.trace.now.shows c.loop-at.at (omega (arith, c.shows-at-end.ensures)) in
     let is = c.show-first.ensures.shown line.0 line.1 in
     let k = line_within c.args.disk.now.state.header.size c.args.trace.now c.requires.inside c.loop-at.at line.0 line.1 in
     let n = length-take c.show-first.result.1 c.loop-at.room in
@@ -36,7 +36,7 @@ loop-at-preserved g c =
     let inv = c.loop-at.invariant in
     let put = rw inv.state at c.put_shown-fails.ensures in
     let shows = put.shows.0 in
-    let line = get_some c.args.trace.now.shows c.loop-at.at (omega (arith, c.shows-at-end.ensures)) in
+    let line = some_place c.args.trace.now.shows c.loop-at.at (omega (arith, c.shows-at-end.ensures)) in
     let is = c.show-first.ensures.shown line.0 line.1 in
     let count = length-take c.show-first.result.1 c.loop-at.room in
     let range = c.show-first.ensures.range in

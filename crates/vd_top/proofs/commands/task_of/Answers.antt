@@ -1,7 +1,8 @@
 use Rattle.std.proofs.Common.{false, refl, subst}
+use Rattle.std.proofs.lemmas.Option.{same_Some, none-some}
 use Rattle.vd_command.specs.Words.{Spells}
 use Rattle.vd_command.specs.declared.command.Command.TheVariants.{Show, Make, Run}
-use Rattle.vd_top.proofs.CommandLaws.{is_no_command, same_command, asks_for, no_show, no_make, no_run, one_command, run_exact}
+use Rattle.vd_top.proofs.CommandLaws.{asks_for, no_show, no_make, no_run, one_command, run_exact}
 use Rattle.vd_top.proofs.commands.task_of.Goals as goal
 
 pub returns-in-Show : goal.returns-in-Show
@@ -32,14 +33,14 @@ returns-else-is_alone c =
 
 pub returns-in_default : goal.returns-in_default
 returns-in_default c = (
-  (λ first count spells. c.in_default.not-Show first count (same_command _ _ ((c.in-Some.ensures.exact (Show first count)).1 spells))),
-  (λ size block chunk storage slots spells. c.in_default.not-Make size block chunk storage slots (same_command _ _ ((c.in-Some.ensures.exact (Make size block chunk storage slots)).1 spells))),
-  (λ spells. c.in_default.not-Run 1 0 false 0 (same_command _ _ ((c.in-Some.ensures.exact (Run 1 0 false 0)).1 spells))),
+  (λ first count spells. c.in_default.not-Show first count (same_Some _ _ ((c.in-Some.ensures.exact (Show first count)).1 spells))),
+  (λ size block chunk storage slots spells. c.in_default.not-Make size block chunk storage slots (same_Some _ _ ((c.in-Some.ensures.exact (Make size block chunk storage slots)).1 spells))),
+  (λ spells. c.in_default.not-Run 1 0 false 0 (same_Some _ _ ((c.in-Some.ensures.exact (Run 1 0 false 0)).1 spells))),
 )
 
 pub returns-in-None : goal.returns-in-None
 returns-in-None c = (
-  (λ first count spells. is_no_command (Show first count) ((c.in-None.ensures.exact (Show first count)).1 spells)),
-  (λ size block chunk storage slots spells. is_no_command (Make size block chunk storage slots) ((c.in-None.ensures.exact (Make size block chunk storage slots)).1 spells)),
-  (λ spells. is_no_command (Run 1 0 false 0) ((c.in-None.ensures.exact (Run 1 0 false 0)).1 spells)),
+  (λ first count spells. none-some (Show first count) ((c.in-None.ensures.exact (Show first count)).1 spells)),
+  (λ size block chunk storage slots spells. none-some (Make size block chunk storage slots) ((c.in-None.ensures.exact (Make size block chunk storage slots)).1 spells)),
+  (λ spells. none-some (Run 1 0 false 0) ((c.in-None.ensures.exact (Run 1 0 false 0)).1 spells)),
 )

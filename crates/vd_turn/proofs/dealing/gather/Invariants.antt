@@ -1,7 +1,6 @@
 use Rattle.std.proofs.Common.{◌≡◌, ◌++◌, false, [], map}
 use Rattle.std.specs.List.{All}
-use Rattle.vd_turn.specs.Board.{view_of}
-use Rattle.vd_turn.specs.Board.{note_of}
+use Rattle.vd_turn.specs.Board.{view_of, note_of}
 use Rattle.vd_turn.proofs.dealing.gather.Given as goal
 
 -- the seat has the notes of the passes that are gone

@@ -1,8 +1,9 @@
 use Rattle.std.proofs.Common.{◌-◌, ◌<◌, ap, sym, arith, length, set, false, length-set}
+use Rattle.vd_lists.proofs.Changes.{slice_set_unchanged}
 use Rattle.vd_bits.specs.Blocks.{Blocks}
 use Rattle.vd_bits.proofs.Chunks.{tallied}
 use Rattle.vd_bits.proofs.MarkedLaws.{is_counted}
-use Rattle.vd_bits.proofs.SetLaws.{set_there, count-set_false}
+use Rattle.vd_bits.proofs.SetLaws.{count-set_false}
 use Rattle.vd_bits.proofs.bits.Bits.clear.Goals as goal
 
 pub overflow_sub-self : goal.overflow_sub-self
@@ -18,4 +19,4 @@ invariant_of-self c =
     (omega (arith, count-set_false s c.args.block inside c.if-get.ensures, c.self.invariant.count)))
 
 pub returns-else-get : goal.returns-else-get
-returns-else-get c = ap (λ bits. record { chunk = c.args.self.now.chunk; bits = bits }) (sym (set_there c.args.self.now.bits c.args.block false (rw (← c.self.view_is) c.if-get.ensures)))
+returns-else-get c = ap (λ bits. record { chunk = c.args.self.now.chunk; bits = bits }) (sym (slice_set_unchanged c.args.self.now.bits c.args.block false (rw (← c.self.view_is) c.if-get.ensures)))

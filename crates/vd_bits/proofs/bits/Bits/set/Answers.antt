@@ -1,8 +1,9 @@
 use Rattle.std.proofs.Common.{◌+◌, ◌<◌, ap, sym, arith, length, set, true, length-set}
+use Rattle.vd_lists.proofs.Changes.{slice_set_unchanged}
 use Rattle.vd_bits.specs.Blocks.{Blocks}
 use Rattle.vd_bits.proofs.Chunks.{tallied}
 use Rattle.vd_bits.proofs.MarkedLaws.{has_room}
-use Rattle.vd_bits.proofs.SetLaws.{set_there, count-set_true}
+use Rattle.vd_bits.proofs.SetLaws.{count-set_true}
 use Rattle.vd_bits.proofs.bits.Bits.set.Goals as goal
 
 pub overflow_add-self : goal.overflow_add-self
@@ -18,4 +19,4 @@ invariant_of-self c =
     (omega (arith, count-set_true s c.args.block inside c.if-not-get.ensures, c.self.invariant.count)))
 
 pub returns-else-not-get : goal.returns-else-not-get
-returns-else-not-get c = ap (λ bits. record { chunk = c.args.self.now.chunk; bits = bits }) (sym (set_there c.args.self.now.bits c.args.block true (rw (← c.self.view_is) c.if-not-get.ensures)))
+returns-else-not-get c = ap (λ bits. record { chunk = c.args.self.now.chunk; bits = bits }) (sym (slice_set_unchanged c.args.self.now.bits c.args.block true (rw (← c.self.view_is) c.if-not-get.ensures)))

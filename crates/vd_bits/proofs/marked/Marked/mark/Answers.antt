@@ -1,12 +1,13 @@
 use Rattle.std.proofs.Common.{◌<◌, true, length, sym, ap, arith, length-set}
 use Rattle.std.proofs.lemmas.List.{with_items_is}
-use Rattle.vd_bits.proofs.SetLaws.{set_there, count-set_true}
+use Rattle.vd_lists.proofs.Changes.{slice_set_unchanged}
+use Rattle.vd_bits.proofs.SetLaws.{count-set_true}
 use Rattle.vd_bits.proofs.MarkedLaws.{has_room}
 use Rattle.vd_bits.proofs.LevelLaws.{word_above}
 use Rattle.vd_bits.proofs.marked.Marked.mark.Goals as goal
 
 pub returns-then-get : goal.returns-then-get
-returns-then-get c = sym (set_there c.args.self.now c.args.page true (rw (← c.self.view_is) c.if-get.ensures))
+returns-then-get c = sym (slice_set_unchanged c.args.self.now c.args.page true (rw (← c.self.view_is) c.if-get.ensures))
 
 pub overflow_add-self : goal.overflow_add-self
 overflow_add-self c =

@@ -1,13 +1,14 @@
 use Rattle.std.proofs.Common.{◌/◌, ◌<◌, false, length, set, sym, ap, arith, length-set, subst}
 use Rattle.std.proofs.lemmas.List.{with_items_is}
+use Rattle.vd_lists.proofs.Changes.{slice_set_unchanged}
 use Rattle.vd_bits.specs.Searches.{HasOne, NoneOf}
-use Rattle.vd_bits.proofs.SetLaws.{set_there, count-set_false}
+use Rattle.vd_bits.proofs.SetLaws.{count-set_false}
 use Rattle.vd_bits.proofs.MarkedLaws.{is_counted}
 use Rattle.vd_bits.proofs.LevelLaws.{word_above, covered, kept-level}
 use Rattle.vd_bits.proofs.marked.Marked.unmark.Goals as goal
 
 pub returns-then-not-get : goal.returns-then-not-get
-returns-then-not-get c = sym (set_there c.args.self.now c.args.page false (rw (← c.self.view_is) c.if-not-get.ensures))
+returns-then-not-get c = sym (slice_set_unchanged c.args.self.now c.args.page false (rw (← c.self.view_is) c.if-not-get.ensures))
 
 pub overflow_sub-self : goal.overflow_sub-self
 overflow_sub-self c =

@@ -39,10 +39,10 @@ settle-requires-clause-room g c =
     nothing-read away.2.1.ticket c.take_ticket-ticket.result (some-inj (sym away.2.1.has ∙ has)) away.2.1.kind
 
 pub settled-requires : goal.settled-requires
-settled-requires g c = let at = rw (sym c.self.view_is) at c.requires.phase in away-settling c.self.invariant.0 c.self.invariant.4 c.args.pass at
+settled-requires g c = let at = rw (sym c.self.view_is) at c.requires.phase in record { stage = away-settling c.self.invariant.0 c.self.invariant.4 c.args.pass at }
 
 pub settled-requires-in-Failed : goal.settled-requires-in-Failed
-settled-requires-in-Failed g c = let at = rw (sym c.self.view_is) at c.requires.phase in away-settling c.self.invariant.0 c.self.invariant.4 c.args.pass at
+settled-requires-in-Failed g c = let at = rw (sym c.self.view_is) at c.requires.phase in record { stage = away-settling c.self.invariant.0 c.self.invariant.4 c.args.pass at }
 
 pub index_mut-requires-in-NotYet : goal.index_mut-requires-in-NotYet
 index_mut-requires-in-NotYet g c =

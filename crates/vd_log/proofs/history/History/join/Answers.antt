@@ -11,14 +11,15 @@ use Rattle.vd_law.specs.Contents.{could, may}
 use Rattle.vd_law.specs.Rules.{IsLegal}
 use Rattle.vd_law.specs.Joining.{raised_entry}
 use Rattle.vd_log.proofs.JoinLegal.{legal-joined, could-at, may-at}
-use Rattle.vd_log.proofs.JoinSteps.{at_all, count_before, content-raised, sectors_more, sectors-le, later-more, entries_more, numbers_more}
+use Rattle.vd_log.proofs.JoinSteps.{count_before, content-raised, sectors_more, sectors-le, later-more, entries_more, numbers_more}
 use Rattle.vd_log.proofs.history.History.join.Goals as goal
+use Rattle.vd_lists.proofs.Elements.{all_at_place}
 
 pub raised-requires : goal.raised-requires
 raised-requires c =
     let old = c.args.self.now.log.entries in let next = c.args.next.now.log.entries in let e = entry_of c.event-event.result in
     let at = ap (λ (h : HistoryState). slice_get h.log.entries c.loop-i.i) (sym c.next.view_is) ∙ c.event-event.ensures in
-    let fits = at_all (λ (e : Entry). last_call (past old) (call_of e).pass + (call_of e).call < 2 ^ 64) next c.loop-i.i e at c.requires.calls in
+    let fits = all_at_place (λ (e : Entry). last_call (past old) (call_of e).pass + (call_of e).call < 2 ^ 64) next c.loop-i.i e c.requires.calls at in
     let by = count_before old _ c.self-in-loop-i.inside.log.entries c.len-before.result c.call_of.result.pass (call_of e).pass c.last_call-by.result c.last_call-by.ensures
     (ap (λ (h : HistoryState). h.log.entries) c.self-in-loop-i.view_is ∙ c.loop-i.invariant.entries)
     (c.len-before.ensures.count ∙ ap (λ (h : HistoryState). length h.log.entries) c.self.view_is)
@@ -34,7 +35,7 @@ add-requires-clause-short c =
     (c.len-before.ensures.count ∙ ap (λ (h : HistoryState). length h.log.entries) c.self.view_is)
     (ap (λ (id : CallId). id.pass) c.call_of.ensures) in
     let size = ap (λ (x : Entry). length (content_of x)) (c.raised.ensures calls (sym by)) ∙ ap length (content-raised calls e) in
-    omega (arith, size, at_all IsShort c.next.inside.log.entries c.loop-i.i e c.event-event.ensures c.next.invariant.short)
+    omega (arith, size, all_at_place IsShort c.next.inside.log.entries c.loop-i.i e c.next.invariant.short c.event-event.ensures)
 
 pub add-requires-clause-sectors : goal.add-requires-clause-sectors
 add-requires-clause-sectors c =

@@ -1,7 +1,7 @@
 use Rattle.std.proofs.Common.{◌≡◌, ◌<◌, ◌∙◌, ℕ, Some, Option, length, sym, ap, refl}
 use Rattle.std.specs.List.{slice_get}
 use Rattle.std.proofs.lemmas.Option.{slice_get_read}
-use Rattle.vd_bits.proofs.SetLaws.{set_there}
+use Rattle.vd_lists.proofs.Changes.{slice_set_unchanged}
 use Rattle.vd_table.proofs.Hindrances.{other_first, self_first, lower_first}
 use Rattle.vd_table.proofs.table.Table.set.Goals as goal
 use Rattle.vd_table.proofs.table.Table.set.Goals.{After-index-2}
@@ -21,7 +21,7 @@ pub returns-in-Some-Some-clause-given : goal.returns-in-Some-Some-clause-given
 returns-in-Some-Some-clause-given c =
     let k = (goal.at.returns-in-Some-Some-clause-given c).After-index-2 in
     let owned : slice_get c.self.inside.storage.items c.args.chunk ≡ Some (Some c.args.p) = c.self.invariant.owned c.args.chunk c.args.p (at_storage k ∙ ap (λ (o : Option ℕ). Some o) (c.in-Some-Some.is-1 ∙ ap (λ (n : ℕ). Some n) c.if-owner-chunk.true)) in
-    ap (λ chunks. record { chunks = chunks; storage = c.args.self.now.storage }) (sym (set_there c.args.self.now.chunks c.args.chunk (Some c.args.p) (rw (← c.self.view_is) owned)))
+    ap (λ chunks. record { chunks = chunks; storage = c.args.self.now.storage }) (sym (slice_set_unchanged c.args.self.now.chunks c.args.chunk (Some c.args.p) (rw (← c.self.view_is) owned)))
 
 pub returns-in-None-Some-clause-taken : goal.returns-in-None-Some-clause-taken
 returns-in-None-Some-clause-taken c =
