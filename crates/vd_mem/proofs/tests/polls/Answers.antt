@@ -9,12 +9,12 @@ settle-requires-clause-mine g c =
 
 pub release-requires-clause-alone : goal.release-requires-clause-alone
 release-requires-clause-alone g c =
-    let kept = c.in-NotYet.ensures.settles in
+    let kept = c.in-NotYet.ensures.settles.settles in
     rw kept.0 (kept.2 (c.submit_alone-read.result ∷ []) c.submit_alone-read.ensures.alone)
 
 pub poll_again-requires-clause-alone : goal.poll_again-requires-clause-alone
 poll_again-requires-clause-alone g c =
-    let kept = c.in-NotYet.ensures.settles in
+    let kept = c.in-NotYet.ensures.settles.settles in
     elim c.if-released.branch [
       | then-released w ↦ rw w.store-is w.release.ensures
       | else-released w ↦ rw (w.store-is, kept.0) (kept.2 (c.submit_alone-read.result ∷ []) c.submit_alone-read.ensures.alone)
