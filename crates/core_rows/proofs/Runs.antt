@@ -11,6 +11,7 @@ use Rattle.vd_table.specs.Tables.{TableState}
 use Rattle.vd_passes.specs.declared.shape.Shape.{Shape}
 use Rattle.vd_passes.specs.declared.pass.Pass.{Pass}
 use Rattle.vd_passes.specs.declared.pass.Phase.TheVariants.{Idle, Asked as Asks_first}
+use Rattle.vd_passes.specs.Requests.{RequestState}
 use Rattle.vd_passes.specs.Steps.{IsAt, HasAskedWrite, Enters}
 use Rattle.vd_passes.specs.Passes.{after_ask, after_enter}
 use Rattle.vd_law.specs.declared.entry.Answer.TheVariants.{Full}
@@ -71,29 +72,29 @@ module _ {shape shape' : Shape} {i events : ℕ} {table table' : TableState} {pa
   pub answered-idle : (answer : Answer) (request : Asked) → AskEnds (Some answer) request events i (ask_state shape table passes history left) (ask_state shape' table' passes' history' left') → IsAt passes i (λ p. p.phase ≡ Idle) → IsAt passes' i (λ p. p.phase ≡ Idle)
   answered-idle answer request (inl (exceeds, is, same)) at = subst (λ (ps : List Pass). IsAt ps i (λ p. p.phase ≡ Idle)) (sym same.passes_same) at
   answered-idle answer request (inr (inl (needed, free, is, full))) at =
-      let asks = full.asks in let same : at.0 ≡ asks.pass = some-inj (sym at.1 ∙ asks.there) in let after = record asks.pass { call = asks.pass.call + 1 } in
-      (after, subst (λ (ps : List Pass). slice_get ps i ≡ Some after) (sym asks.after) (get-set-same passes i after asks.pass asks.there), ap (λ (p : Pass). p.phase) (sym same) ∙ at.2)
+      let asks = full.asks [] in let same : at.0 ≡ asks.pass = some-inj (sym at.1 ∙ asks.there) in let after = record asks.pass { call = asks.pass.call + 1 } in
+      (after, subst (λ (ps : List Pass). slice_get ps i ≡ Some after) (sym (ap (λ (r : RequestState). r.passes) asks.after)) (get-set-same passes i after asks.pass asks.there), ap (λ (p : Pass). p.phase) (sym same) ∙ at.2)
   answered-idle answer request (inr (inr (none, asked))) at = cc
 
   pub as-many-asked : (result : Option Answer) (request : Asked) → AskEnds result request events i (ask_state shape table passes history left) (ask_state shape' table' passes' history' left') → length passes' ≡ length passes
   as-many-asked result request (inl (exceeds, is, same)) = ap length same.passes_same
-  as-many-asked result request (inr (inl (needed, free, is, full))) = ap length full.asks.after ∙ length-set' passes i _
-  as-many-asked result request (inr (inr (none, asked))) = ap length asked.asks.after ∙ length-set' passes i _
+  as-many-asked result request (inr (inl (needed, free, is, full))) = ap (λ (r : RequestState). length r.passes) (full.asks []).after ∙ length-set' passes i _
+  as-many-asked result request (inr (inr (none, asked))) = ap (λ (r : RequestState). length r.passes) (asked.asks []).after ∙ length-set' passes i _
 
   pub asked-write : (result : Option Answer) (first : ℕ) (content : List Sector) → ((answer : Answer) → result ≡ Some answer → ⊥) → AskEnds result (Write first content) events i (ask_state shape table passes history left) (ask_state shape' table' passes' history' left')
       → IsAt passes' i (IsBusyWith true (length content)) × HasAskedWrite history'.log.entries i content
   asked-write result first content not (inl (exceeds, is, same)) = absurd (not _ is)
   asked-write result first content not (inr (inl (needed, free, is, full))) = absurd (not _ is)
   asked-write result first content not (inr (inr (none, asked))) =
-      let asks = asked.asks in let after = after_ask asks.pass (Write first content) _ _ in
-      ((after, subst (λ (ps : List Pass). slice_get ps i ≡ Some after) (sym asks.after) (get-set-same passes i after asks.pass asks.there), ((λ e. cc), refl, refl, refl)), asks-write asks)
+      let asks = asked.asks [] in let after = after_ask asks.pass (Write first content) _ _ in
+      ((after, subst (λ (ps : List Pass). slice_get ps i ≡ Some after) (sym (ap (λ (r : RequestState). r.passes) asks.after)) (get-set-same passes i after asks.pass asks.there), ((λ e. cc), refl, refl, refl)), asks-write asks)
 
   pub asked-read : (result : Option Answer) (first count : ℕ) → ((answer : Answer) → result ≡ Some answer → ⊥) → AskEnds result (Read first count) events i (ask_state shape table passes history left) (ask_state shape' table' passes' history' left') → IsAt passes' i (IsBusyWith false count)
   asked-read result first count not (inl (exceeds, is, same)) = absurd (not _ is)
   asked-read result first count not (inr (inl (needed, free, is, full))) = absurd (not _ is)
   asked-read result first count not (inr (inr (none, asked))) =
-      let asks = asked.asks in let after = after_ask asks.pass (Read first count) _ _ in
-      (after, subst (λ (ps : List Pass). slice_get ps i ≡ Some after) (sym asks.after) (get-set-same passes i after asks.pass asks.there), ((λ e. cc), refl, refl, refl))
+      let asks = asked.asks [] in let after = after_ask asks.pass (Read first count) _ _ in
+      (after, subst (λ (ps : List Pass). slice_get ps i ≡ Some after) (sym (ap (λ (r : RequestState). r.passes) asks.after)) (get-set-same passes i after asks.pass asks.there), ((λ e. cc), refl, refl, refl))
 
 -- the step of a match's other arm isn't the last
 pub other-arm : (step : Step) → (step ≡ Again) ⊎ (step ≡ Late) ⊎ ((by : ℕ) × (step ≡ Busy by)) → IsNotLast step
@@ -135,14 +136,14 @@ module _ {block i : ℕ} {passes passes' : List Pass} {entries entries' : List E
       let moves = drives.moves in subst (λ (h : List Entry). HasAskedWrite h other content) (sym moves.entries_after) (asked-after entries moves.more other content moves.none_asked asked)
 
 -- a pass that has asked a write has the region of a block, once it has entered it
-pub entered : {shape : Shape} {places : ℕ → Option ℕ} {i : ℕ} {passes passes' : List Pass} → Enters shape places i passes passes' → IsAt passes i (λ p. (p.phase ≡ Asks_first) × (p.write ≡ true) × (p.flush ≡ false) × (p.count ≡ 1)) → IsAt passes' i (IsBusyWith true 1)
-entered {i = i} {passes = passes} e at =
+pub entered : {places : ℕ → Option ℕ} {i : ℕ} {r r' : RequestState} → Enters places i r r' → IsAt r.passes i (λ p. (p.phase ≡ Asks_first) × (p.write ≡ true) × (p.flush ≡ false) × (p.count ≡ 1)) → IsAt r'.passes i (IsBusyWith true 1)
+entered {i = i} {r = r} e at =
     let same : at.0 ≡ e.pass = some-inj (sym at.1 ∙ e.there) in
     let after = after_enter e.pass e.block e.piece e.at in
-    (after, subst (λ (ps : List Pass). slice_get ps i ≡ Some after) (sym e.after) (get-set-same passes i after e.pass e.there), ((λ x. cc), ap (λ (p : Pass). p.write) (sym same) ∙ at.2.1, ap (λ (p : Pass). p.flush) (sym same) ∙ at.2.2, ap (λ (p : Pass). p.count) (sym same) ∙ at.2.3))
+    (after, ap (λ (x : RequestState). slice_get x.passes i) e.after ∙ get-set-same r.passes i after e.pass e.there, ((λ x. cc), ap (λ (p : Pass). p.write) (sym same) ∙ at.2.1, ap (λ (p : Pass). p.flush) (sym same) ∙ at.2.2, ap (λ (p : Pass). p.count) (sym same) ∙ at.2.3))
 
-pub entered-others : {shape : Shape} {places : ℕ → Option ℕ} {i : ℕ} {passes passes' : List Pass} → Enters shape places i passes passes' → (other : ℕ) → other ≢ i → slice_get passes' other ≡ slice_get passes other
-entered-others {i = i} {passes = passes} e other apart = ap (λ (ps : List Pass). slice_get ps other) e.after ∙ get-set-other passes i other _ apart
+pub entered-others : {places : ℕ → Option ℕ} {i : ℕ} {r r' : RequestState} → Enters places i r r' → (other : ℕ) → other ≢ i → slice_get r'.passes other ≡ slice_get r.passes other
+entered-others {i = i} {r = r} e other apart = ap (λ (x : RequestState). slice_get x.passes other) e.after ∙ get-set-other r.passes i other _ apart
 
 -- An ask leaves every other pass, and what other passes have asked.
 module _ {shape shape' : Shape} {i events : ℕ} {table table' : TableState} {passes passes' : List Pass} {history history' : HistoryState} {left left' : Room} where
@@ -151,23 +152,23 @@ module _ {shape shape' : Shape} {i events : ℕ} {table table' : TableState} {pa
   asked-phase result first content not (inl (exceeds, is, same)) one = absurd (not _ is)
   asked-phase result first content not (inr (inl (needed, free, is, full))) one = absurd (not _ is)
   asked-phase result first content not (inr (inr (none, asked))) one =
-      let asks = asked.asks in let after = after_ask asks.pass (Write first content) _ _ in
-      (after, subst (λ (ps : List Pass). slice_get ps i ≡ Some after) (sym asks.after) (get-set-same passes i after asks.pass asks.there), (refl, refl, refl, one))
+      let asks = asked.asks [] in let after = after_ask asks.pass (Write first content) _ _ in
+      (after, subst (λ (ps : List Pass). slice_get ps i ≡ Some after) (sym (ap (λ (r : RequestState). r.passes) asks.after)) (get-set-same passes i after asks.pass asks.there), (refl, refl, refl, one))
 
   pub ask-others : (result : Option Answer) (request : Asked) → AskEnds result request events i (ask_state shape table passes history left) (ask_state shape' table' passes' history' left') → (other : ℕ) → other ≢ i → slice_get passes' other ≡ slice_get passes other
   ask-others result request (inl (exceeds, is, same)) other apart = ap (λ (ps : List Pass). slice_get ps other) same.passes_same
-  ask-others result request (inr (inl (needed, free, is, full))) other apart = ap (λ (ps : List Pass). slice_get ps other) full.asks.after ∙ get-set-other passes i other _ apart
-  ask-others result request (inr (inr (none, asked))) other apart = ap (λ (ps : List Pass). slice_get ps other) asked.asks.after ∙ get-set-other passes i other _ apart
+  ask-others result request (inr (inl (needed, free, is, full))) other apart = ap (λ (r : RequestState). slice_get r.passes other) (full.asks []).after ∙ get-set-other passes i other _ apart
+  ask-others result request (inr (inr (none, asked))) other apart = ap (λ (r : RequestState). slice_get r.passes other) (asked.asks []).after ∙ get-set-other passes i other _ apart
 
   pub ask-said : (result : Option Answer) (request : Asked) → AskEnds result request events i (ask_state shape table passes history left) (ask_state shape' table' passes' history' left') → (other : ℕ) (said : List Sector) → other ≢ i
       → HasAskedWrite history.log.entries other said → HasAskedWrite history'.log.entries other said
   ask-said result request (inl (exceeds, is, same)) other said apart asked = subst (λ (h : HistoryState). HasAskedWrite h.log.entries other said) (sym same.history_same) asked
   ask-said result request (inr (inl (needed, free, is, full))) other said apart asked =
-      let id : CallId = record { pass = i; call = full.asks.pass.call + 1 } in
-      subst (λ (h : List Entry). HasAskedWrite h other said) (append_assoc history.log.entries (Ask id request ∷ []) (Reply id (Full needed free) ∷ []) ∙ sym full.asks.event)
+      let id : CallId = record { pass = i; call = (full.asks []).pass.call + 1 } in
+      subst (λ (h : List Entry). HasAskedWrite h other said) (append_assoc history.log.entries (Ask id request ∷ []) (Reply id (Full needed free) ∷ []) ∙ sym (ap (λ (r : RequestState). r.entries) (full.asks []).after))
       (write-other (history.log.entries ++ Ask id request ∷ []) (Reply id (Full needed free)) other said (λ same. apart (sym same)) (write-other history.log.entries (Ask id request) other said (λ same. apart (sym same)) asked))
   ask-said result request (inr (inr (none, put))) other said apart asked =
-      subst (λ (h : List Entry). HasAskedWrite h other said) (sym put.asks.event) (write-other history.log.entries _ other said (λ same. apart (sym same)) asked)
+      subst (λ (h : List Entry). HasAskedWrite h other said) (sym (ap (λ (r : RequestState). r.entries) (put.asks []).after)) (write-other history.log.entries _ other said (λ same. apart (sym same)) asked)
 
 -- a pass that hasn't changed stands as it stood
 pub carried : {P : Pass → Type 0} (passes passes' : List Pass) (i : ℕ) → slice_get passes' i ≡ slice_get passes i → IsAt passes i P → IsAt passes' i P

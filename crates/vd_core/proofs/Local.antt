@@ -9,7 +9,8 @@ use Rattle.vd_law.specs.declared.entry.CallId.{CallId}
 use Rattle.vd_law.specs.Entries.{Entry, Ask, Issue, Done, Broke, Seen, Reply, same_call, Past, nothing, ◌▸◌, past}
 use Rattle.vd_law.specs.Contents.{sector_in, issued_contents, Open, open_after_issue, is_of, is_of_another, open_writes, open_write, issue_number, last_done}
 use Rattle.vd_law.proofs.Appending.{after-push}
-use Rattle.vd_device.specs.declared.ticket.Ticket.{Ticket}
+use Rattle.vd_device.specs.declared.store.Store as store
+use Rattle.vd_device.specs.declared.base.Base as base
 use Rattle.vd_format.specs.declared.map.Entry.{Entry as MapEntry}
 use Rattle.vd_replay.specs.declared.state.State.{State}
 use Rattle.vd_replay.specs.States.{IsWholeState}
@@ -22,6 +23,7 @@ use Rattle.vd_passes.specs.declared.pass.Phase.TheVariants.{Issuing}
 use Rattle.vd_passes.specs.Tracks.{content_by, writes}
 use Rattle.vd_passes.specs.Places.{IsIn}
 use Rattle.vd_passes.specs.Passes.{has_region, call_id, IsWriting}
+use Rattle.vd_passes.specs.Requests.{requests}
 use Rattle.vd_passes.specs.Coherent.{IsCoherent}
 use Rattle.vd_passes.proofs.Lists.{some-inj, get-set-same, get-set-other}
 use Rattle.vd_passes.proofs.Places.{same-block}
@@ -121,8 +123,8 @@ unfolding writes
 open-own id c history s one = own-found id c (open_writes (past history) s) one (counted (past history) s)
 
 -- A write is done: its block is local from then on.
-module _ {shape : Shape} {fresh : List Bool} {places : ℕ → Option ℕ} {passes : List Pass} {history : List Entry} {sectors depth base_sectors base_depth : ℕ} {flight base_flight : List Ticket → Type 0}
-    (co : IsCoherent shape fresh places passes history sectors depth base_sectors base_depth flight base_flight) (i : ℕ) (p : Pass) (there : slice_get passes i ≡ Some p) (issuing : p.phase ≡ Issuing) where
+module _ {shape : Shape} {fresh : List Bool} {places : ℕ → Option ℕ} {passes : List Pass} {history : List Entry} {S B : Type 0} {sg : store.Ghosts S} {bg : base.Ghosts B} {the_store : S} {the_base : B}
+    (co : IsCoherent sg bg (requests shape fresh passes history) places the_store the_base) (i : ℕ) (p : Pass) (there : slice_get passes i ≡ Some p) (issuing : p.phase ≡ Issuing) where
   abbrev id : CallId
   id = call_id i p
 

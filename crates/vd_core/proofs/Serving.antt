@@ -10,6 +10,7 @@ use Rattle.vd_law.proofs.Appending.{past-push}
 use Rattle.vd_law.proofs.OpenLaws.{progress-own}
 use Rattle.vd_passes.specs.declared.pass.Pass.{Pass}
 use Rattle.vd_passes.specs.Standings.{Standing, standing}
+use Rattle.vd_passes.specs.Requests.{RequestState}
 use Rattle.vd_passes.specs.Steps.{HasAskedWrite, Asks}
 use Rattle.vd_passes.proofs.Standing.{standing-other}
 
@@ -62,12 +63,12 @@ asked-stays history e i not_asked = asked-is history e i
 pub asked-other : (history : List Entry) (e : Entry) (i : ℕ) → ((call_of e).pass ≡ i → ⊥) → asked_by (history ++ e ∷ []) i ≡ asked_by history i
 asked-other history e i other = ap (λ (t : Standing). t.progress.asked) (standing-other history e i other)
 
-pub asks-asked : {request : Asked} {events sectors i : ℕ} {passes passes' : List Pass} {history history' : List Entry} → Asks request events sectors i passes passes' history history' → asked_by history' i ≡ Some request
-asks-asked {request} {events} {sectors} {i} {passes} {passes'} {history} {history'} step = ap (λ (h : List Entry). asked_by h i) step.event ∙ asked-ask history i _ request
+pub asks-asked : {request : Asked} {events sectors i : ℕ} {r r' : RequestState} → Asks request events sectors i r r' → asked_by r'.entries i ≡ Some request
+asks-asked {request} {events} {sectors} {i} {r} {r'} step = ap (λ (x : RequestState). asked_by x.entries i) step.after ∙ asked-ask r.entries i _ request
 
 -- The same of the content of a write.
-pub asks-write : {first events sectors i : ℕ} {content : List Sector} {passes passes' : List Pass} {history history' : List Entry} → Asks (Write first content) events sectors i passes passes' history history' → HasAskedWrite history' i content
-asks-write {first} {events} {sectors} {i} {content} {passes} {passes'} {history} {history'} step = (first, asks-asked step)
+pub asks-write : {first events sectors i : ℕ} {content : List Sector} {r r' : RequestState} → Asks (Write first content) events sectors i r r' → HasAskedWrite r'.entries i content
+asks-write {first} step = (first, asks-asked step)
 
 pub write-stays : (history : List Entry) (e : Entry) (i : ℕ) (content : List Sector) → IsNoAsk e → HasAskedWrite history i content → HasAskedWrite (history ++ e ∷ []) i content
 write-stays history e i content not_asked asked = (asked.0, asked-stays history e i not_asked ∙ asked.1)

@@ -3,11 +3,8 @@ use Rattle.std.proofs.Common.{◌≡◌, ℕ, ◌<◌, ◌≤◌, List, [], ◌�
 use Rattle.std.proofs.lemmas.List.{take-append-le, take_all}
 use Rattle.vd_law.specs.declared.entry.Sector.{Sector}
 use Rattle.vd_law.specs.Entries.{Entry}
-use Rattle.vd_device.specs.declared.ticket.Ticket.{Ticket}
-use Rattle.vd_device.specs.declared.settled.Settled.{Settled}
 use Rattle.vd_device.specs.Disks.{Disk, IsHonest, GrowsBy, StoppedSince}
 use Rattle.vd_device.specs.Frames.{GoesOn}
-use Rattle.vd_device.specs.Calls.{Tells, settle_entries}
 use Rattle.vd_image.specs.CrashImages.{sectors_or}
 use Rattle.vd_image.proofs.CrashImages.{at_inside}
 use Rattle.vd_passes.specs.Tracks.{track}
@@ -17,9 +14,6 @@ use Rattle.vd_core.specs.Start.{opening_at, WasClean, first_or_zeros, image_at}
 -- the store has gone on by some entries
 abbrev pub HasGrown : Disk → Disk → Type 0
 HasGrown disk disk' = (events : List Entry) × GrowsBy events disk disk'
-
-pub settle-goes-on : {answer : Settled} {ticket : Ticket} {out : List Sector} {disk disk' : Disk} → Tells answer ticket out disk disk' → HasGrown disk disk'
-settle-goes-on {answer} {ticket} {out} tells = (settle_entries answer ticket out, tells.grows)
 
 pub since-more : {disk disk' : Disk} (opened : ℕ) → HasGrown disk disk' → opened ≤ length disk.log → opened ≤ length disk'.log
 since-more {disk} {disk'} opened on since = let log = ap length on.1.log in let long = length-append disk.log on.0 in omega (arith, log, long, since)

@@ -18,8 +18,10 @@ use Rattle.vd_replay.specs.Images.{image_of}
 use Rattle.vd_replay.specs.States.{IsState, IsWholeState, StateSays}
 use Rattle.vd_replay.proofs.Starting.{start-local, start-background, whole-storage}
 use Rattle.vd_passes.specs.declared.shape.Shape.{Shape}
+use Rattle.vd_passes.specs.declared.pass.Pass.{Pass}
 use Rattle.vd_passes.specs.Tracks.{track}
 use Rattle.vd_passes.specs.Places.{IsIn, place_of}
+use Rattle.vd_passes.specs.Requests.{requests}
 use Rattle.vd_passes.specs.Coherent.{AgreesInSector}
 use Rattle.vd_passes.proofs.Lists.{some-inj}
 use Rattle.vd_passes.proofs.Tracks.{is-one}
@@ -82,7 +84,7 @@ module _ (s : State) (whole : IsWholeState s) (version : s.header.version ≡ 2)
         let place : a ≡ (layout_of h).place p x = ap (λ (n : ℕ). n + (x - h.block * b)) from.2 ∙ in-place (storage_start h) h.chunk h.block p b x near in
         clean-one disk opened a w all is.clean held ∙ place-held p x a within place ∙ sym (local-at x p v less there local given)
 
-    pub stands-at : (x : ℕ) → x < length start → AgreesInSector h.block s.fresh.bits (place_of shape s.table.chunks) (background_of base h.tracked) x (track start [] x) (track disk.start disk.log)
+    pub stands-at : {passes : List Pass} (x : ℕ) → x < length start → AgreesInSector (requests shape s.fresh.bits passes []) (place_of shape s.table.chunks) (background_of base h.tracked) x (track start [] x) (track disk.start disk.log)
     stands-at x within =
         let size = is.size in
         elim (slice_get_cases start x).1 [

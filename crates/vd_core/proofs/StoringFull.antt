@@ -18,11 +18,13 @@ use Rattle.vd_law.specs.Rules.{IsRegular}
 use Rattle.vd_law.proofs.Opening.{same_call-is}
 use Rattle.vd_table.specs.Tables.{TableState, used_chunks}
 use Rattle.vd_table.specs.Runs.{lacking}
-use Rattle.vd_device.specs.declared.ticket.Ticket.{Ticket}
+use Rattle.vd_device.specs.declared.store.Store as store
+use Rattle.vd_device.specs.declared.base.Base as base
 use Rattle.vd_passes.specs.declared.shape.Shape.{Shape}
 use Rattle.vd_passes.specs.declared.pass.Pass.{Pass}
 use Rattle.vd_passes.specs.Standings.{standing}
 use Rattle.vd_passes.specs.Passes.{call_id, after_ask}
+use Rattle.vd_passes.specs.Requests.{RequestState}
 use Rattle.vd_passes.specs.Coherent.{IsCoherent}
 use Rattle.vd_passes.specs.Steps.{Asks, AsksFull}
 use Rattle.vd_passes.proofs.Lists.{some-inj}
@@ -164,17 +166,17 @@ asked-call p (Read first count) events sectors = refl
 asked-call p (Write first content) events sectors = refl
 asked-call p Flush events sectors = refl
 
-module _ {shape : Shape} {had : List MapEntry} {fresh : List Bool} {places : ℕ → Option ℕ} {passes : List Pass} {sectors depth base_sectors base_depth : ℕ} {flight base_flight : List Ticket → Type 0} where
-  pub asks-stored : {table table' : TableState} {passes' : List Pass} {history history' : List Entry} {events_left sectors_left i : ℕ} (request : Asked)
-      → IsCoherent shape fresh places passes history sectors depth base_sectors base_depth flight base_flight → Claims table table' (run_from shape request) (run_count shape request)
-      → Asks request events_left sectors_left i passes passes' history history' → IsStoredBy shape had table history → IsStoredBy shape had table' history'
-  asks-stored {events_left = events_left} {sectors_left = sectors_left} {i = i} request co claims step =
-      ask-stored (call_id i (after_ask step.pass request events_left sectors_left)) request co.regular
-      (let call = (co.each i step.pass step.there).call in let more = asked-call step.pass request events_left sectors_left in omega (arith, call, more)) claims step.event
+module _ {had : List MapEntry} {places : ℕ → Option ℕ} {r r' : RequestState} {S B : Type 0} {g : store.Ghosts S} {h : base.Ghosts B} {s : S} {b : B} where
+  pub asks-stored : {table table' : TableState} {events_left sectors_left i : ℕ} (request : Asked)
+      → IsCoherent g h r places s b → Claims table table' (run_from r.shape request) (run_count r.shape request)
+      → Asks request events_left sectors_left i r r' → IsStoredBy r.shape had table r.entries → IsStoredBy r'.shape had table' r'.entries
+  asks-stored {events_left = events_left} {sectors_left = sectors_left} {i = i} request co claims step stored =
+      rw step.after (ask-stored (call_id i (after_ask step.pass request events_left sectors_left)) request co.regular
+      (let call = (co.each i step.pass step.there).call in let more = asked-call step.pass request events_left sectors_left in omega (arith, call, more)) claims refl stored)
 
-  pub asks_full-stored : {table : TableState} {passes' : List Pass} {history history' : List Entry} {needed free i : ℕ} (request : Asked)
-      → IsCoherent shape fresh places passes history sectors depth base_sectors base_depth flight base_flight → run_from shape request + run_count shape request ≤ length table.chunks
-      → needed ≡ lacking table (run_from shape request) (run_count shape request) → free + used_chunks table ≡ table.storage → free < needed
-      → AsksFull request needed free i passes passes' history history' → IsStoredBy shape had table history → IsStoredBy shape had table history'
-  asks_full-stored {needed = needed} {free = free} {i = i} request co inside needed_is free_is fewer step =
-      ask_full-stored (record { pass = i; call = step.pass.call + 1 }) request needed free co.regular (let call = (co.each i step.pass step.there).call in omega (arith, call)) inside needed_is free_is fewer step.event
+  pub asks_full-stored : {table : TableState} {needed free i : ℕ} (request : Asked)
+      → IsCoherent g h r places s b → run_from r.shape request + run_count r.shape request ≤ length table.chunks
+      → needed ≡ lacking table (run_from r.shape request) (run_count r.shape request) → free + used_chunks table ≡ table.storage → free < needed
+      → AsksFull request needed free i r r' → IsStoredBy r.shape had table r.entries → IsStoredBy r'.shape had table r'.entries
+  asks_full-stored {needed = needed} {free = free} {i = i} request co inside needed_is free_is fewer step stored =
+      rw step.after (ask_full-stored (record { pass = i; call = step.pass.call + 1 }) request needed free co.regular (let call = (co.each i step.pass step.there).call in omega (arith, call)) inside needed_is free_is fewer refl stored)

@@ -26,12 +26,13 @@ use Rattle.vd_passes.specs.declared.pass.Pass.{Pass}
 use Rattle.vd_passes.specs.Places.{place_of}
 use Rattle.vd_passes.specs.Needs.{HasRoom}
 use Rattle.vd_passes.specs.Passes.{region_of}
+use Rattle.vd_passes.specs.Requests.{RequestState, requests}
 use Rattle.vd_passes.specs.Coherent.{IsCoherent, IsFaithful}
 use Rattle.vd_passes.specs.Following.{IsFollowed}
 use Rattle.vd_passes.specs.Causes.{OfStore, OfBase, FaultsAddUp, AreOfPasses}
 use Rattle.vd_core.specs.Storing.{IsStoredBy}
 use Rattle.vd_core.specs.Local.{AreLocalBy, HaveMarks}
-use Rattle.vd_safety.specs.Mirrors.{opening_for, HasSafeMirror}
+use Rattle.vd_safety.specs.Mirrors.{core_state, opening_for, HasSafeMirror}
 use Rattle.vd_core.specs.Start.{IsStart, WasSafe, opening_at}
 use Rattle.vd_format.specs.Background.{zero_sector, background_of, base_at}
 
@@ -63,12 +64,12 @@ counted_as last at_opening faults = record { last = last; at_opening = at_openin
 
 -- Why the answers of a history are as they are: each fault names a ticket of its device, which has failed as often, a Full is due
 -- to what writes have taken, and each entry is of one of the passes. And why the local blocks are those that they are.
-pub record IsExplained (shape : Shape) (had : List MapEntry) (table : TableState) (fresh : List Bool) (passes : List Pass) (history : List Entry) (store base : Counted) : Type 0 where
-  pub of_store : FaultsAddUp OfStore passes history store.last store.at_opening store.faults
-  pub of_base : FaultsAddUp OfBase passes history base.last base.at_opening base.faults
-  pub stored : IsStoredBy shape had table history
-  pub local : AreLocalBy shape had fresh history
-  pub of_passes : AreOfPasses passes history
+pub record IsExplained (had : List MapEntry) (table : TableState) (r : RequestState) (store base : Counted) : Type 0 where
+  pub of_store : FaultsAddUp OfStore r.passes r.entries store.last store.at_opening store.faults
+  pub of_base : FaultsAddUp OfBase r.passes r.entries base.last base.at_opening base.faults
+  pub stored : IsStoredBy r.shape had table r.entries
+  pub local : AreLocalBy r.shape had r.fresh r.entries
+  pub of_passes : AreOfPasses r.passes r.entries
 
 -- What is kept where the store tells: what it had told at opening is the first part of its log, and the store faults are traced.
 pub record LogAgrees (passes : List Pass) (history : HistoryState) (disk : Disk) : Type 0 where
@@ -90,10 +91,14 @@ pub record IsStillSafe (h : Header) (base start : List Sector) (disk : Disk) (hi
   pub rising : IsRising history.opened history.numbers
   pub crash_safe : IsCrashSafe (format_of h) (layout_of h) (base_at zero_sector base) zero_sector disk.start disk.log start history
 
+-- what the passes of a core work on, which was opened from this state, or has it now
+abbrev pub core_requests : Shape → State → List Pass → HistoryState → RequestState
+core_requests shape state passes history = requests shape state.fresh.bits passes history.log.entries
+
 module _ {S B : Type 0} (g : store.Ghosts S) (h : base.Ghosts B) where
   -- what is kept whatever the devices tell
   pub record IsSoundCore (shape : Shape) (state : State) (regions : List (Option Region)) (passes : List Pass) (history : HistoryState) (spare : Room) (s : S) (b : B) : Type 0 where
-    pub coherent : IsCoherent shape state.fresh.bits (place_of shape state.table.chunks) passes history.log.entries (g.sectors s) (g.depth s) (h.sectors b) (h.depth b) (g.flight s) (h.flight b)
+    pub coherent : IsCoherent g h (core_requests shape state passes history) (place_of shape state.table.chunks) s b
     pub held : regions ≡ map region_of passes
     pub roomy : RoomIsReserved shape.block passes history spare (g.events s)
     pub storage : IsStorage shape state.table (g.sectors s)
@@ -101,14 +106,14 @@ module _ {S B : Type 0} (g : store.Ghosts S) (h : base.Ghosts B) where
   -- Why the answers and the local blocks are as they are, while the devices had failed so often at opening.
   abbrev pub IsAccounted : Shape → State → List Pass → HistoryState → (store_faults base_faults : ℕ) → S → B → Type 0
   IsAccounted shape state passes history store_faults base_faults s b =
-      IsExplained shape state.map state.table state.fresh.bits passes history.log.entries (counted_as (g.last s) store_faults (g.faults s)) (counted_as (h.last b) base_faults (h.faults b))
+      IsExplained state.map state.table (core_requests shape state passes history) (counted_as (g.last s) store_faults (g.faults s)) (counted_as (h.last b) base_faults (h.faults b))
 
   -- What is kept where both devices tell: from whatever the guest's disk was when the core was made, by the store's first `opened`
   -- events, each read saw what could stand there, and the store agrees with the history.
   pub record IsFaithfullyKept (shape : Shape) (state : State) (passes : List Pass) (history : HistoryState) (s : S) (b : B) : Type 0 where
     pub base_size : length (h.content b) ≡ h.sectors b
     pub faithful : (start : List Sector) → IsStart (opening_at history.opened (g.disk s)) (h.content b) state.header start
-        → IsFaithful start (background_of (h.content b) shape.tracked) shape state.fresh.bits (place_of shape state.table.chunks) passes history.log.entries (g.disk s) (g.last s)
+        → IsFaithful g start (background_of (h.content b) shape.tracked) (core_requests shape state passes history) (place_of shape state.table.chunks) s
 
   -- What is kept where both devices tell so that each image that a crash may leave is safe, if that was so when the core was made: each
   -- write since then lies in the store; and from whatever the guest's disk was then, the laws of crash safety know the core.
@@ -116,7 +121,7 @@ module _ {S B : Type 0} (g : store.Ghosts S) (h : base.Ghosts B) where
     pub size : length (g.disk s).start ≡ g.sectors s
     pub inside : (i a : ℕ) (v : Sector) → history.opened ≤ i → Writes (g.disk s).log i a v → a < g.sectors s
     pub secured : (start : List Sector) → IsStart (opening_at history.opened (g.disk s)) (h.content b) state.header start → WasSafe (opening_at history.opened (g.disk s)) state.header
-        → (held : ℕ → Sector) × HasSafeMirror (opening_for state.header state.map (g.disk s).start held (h.content b) start history.opened) state.table state.fresh.bits k flusher passes history (g.disk s).log
+        → (held : ℕ → Sector) × HasSafeMirror (opening_for state.header state.map (g.disk s).start held (h.content b) start history.opened) (core_state state.table state.fresh.bits k flusher passes history) (g.disk s).log
 
   -- What is kept where the store has stopped and the base tells: by the log as it stood at the stop the history is crash safe from
   -- whatever the guest's disk was when the core was made, if all was safe then.

@@ -12,7 +12,7 @@ use Rattle.vd_passes.specs.Steps.{IsAt, SeesZeros}
 use Rattle.vd_machine.specs.Adding.{AddsEntries}
 use Rattle.vd_machine.specs.Outcomes.{read_numbers_of, read_sectors_of}
 use Rattle.vd_core.specs.View.{View}
-use Rattle.vd_core.specs.Stepping.{LooksInStore, LooksInBase, SettlesStoreLook, SettlesBaseLook}
+use Rattle.vd_core.specs.Stepping.{view_requests, LooksInStore, LooksInBase, SettlesStoreLook, SettlesBaseLook}
 
 -- the pass serves a read, and holds its block
 pub record IsReader (p : Pass) : Type 0 where
@@ -26,7 +26,7 @@ module _ {S B : Type 0} (g : store.Ghosts S) (h : base.Ghosts B) where
   LooksSomewhere i out out' c c' =
       ((l : LooksInStore g i c c') × (slice_get c.fresh l.pass.block ≡ Some true) × (c'.history ≡ c.history) × (out' ≡ out))
       ⊎ ((l : LooksInBase h i c c') × (slice_get c.fresh l.pass.block ≡ Some false) × (0 < count_below c.shape.limit (l.pass.first + l.pass.done) l.pass.piece) × (c'.history ≡ c.history) × (out' ≡ out))
-      ⊎ ((z : SeesZeros c.shape i c.passes c'.passes c.history.log.entries c'.history.log.entries out out')
+      ⊎ ((z : SeesZeros i (view_requests c) (view_requests c') out out')
       × (slice_get c.fresh z.pass.block ≡ Some false) × AddsEntries (g.events c.store ∷ []) z.pass.piece c.history c'.history)
 
   -- a look is settled by the device that was read, and the other has no fault from it

@@ -11,7 +11,7 @@ ghost use Rattle.vd_passes.specs.declared.pass.Phase.TheVariants.{Idle};
 ghost use Rattle.vd_passes.specs.Causes.{OfStore, HasNextTicket};
 ghost use Rattle.vd_passes.specs.Steps.{IsAt};
 ghost use Rattle.vd_machine.specs.Flushing.{place_of_put, put_sector, IsWornOut, SealsFlush};
-ghost use Rattle.vd_core.specs.Stepping.{FlushBegins, FlushPuts, FlushSyncs, FlushSettles};
+ghost use Rattle.vd_core.specs.Stepping.{view_requests, meta_state_of, FlushBegins, FlushPuts, FlushSyncs, FlushSettles};
 ghost use Rattle.vd_core.specs.declared.flushing.Begun.TheVariants.{Going, Busy, Worn};
 ghost use Rattle.vd_device.specs.Stores.{KeepsStore};
 ghost use Rattle.vd_machine.specs.Outcomes.{outcome_of};
@@ -63,7 +63,7 @@ impl<S: Store, B: Base> Core<S, B> {
         requires tracked { (t : ℕ) → route ≡ Recycle t → t ≡ self.old.keeping.header.tracked }
         ensures busy { (by : ℕ) → result ≡ Busy by → (self.old.flusher ≡ Some by) × (by ≢ pass) × (self.new ≡ self.old) }
         ensures going { result ≡ Going → (self.old.flusher ≡ None) × (self.new.flusher ≡ Some pass) × FlushBegins S.Store route pass self.old self.new }
-        ensures worn { result ≡ Worn → (self.old.flusher ≡ None) × IsWornOut route pass self.old.keeping self.old.passes self.new.passes
+        ensures worn { result ≡ Worn → (self.old.flusher ≡ None) × IsWornOut route pass self.old.keeping (view_requests self.old) (view_requests self.new)
             × (self.new ≡ record self.old { passes = self.new.passes }) }
         ensures number { result ≡ Going → IsAt self.new.passes pass (HasNextTicket OfStore (S.last self.old.store) (S.last self.new.store)) }
         ensures keeps { KeepsStore S.Store self.old.store self.new.store }
@@ -164,7 +164,7 @@ impl<S: Store, B: Base> Core<S, B> {
     pub fn seal(&mut self, pass: u32)
         requires phase { IsAt self.old.passes pass IsBetween }
         requires stage { self.old.keeping.stage ≡ Seals }
-        ensures seals { SealsFlush pass self.old.keeping self.new.keeping self.old.passes self.new.passes }
+        ensures seals { SealsFlush pass (meta_state_of self.old) (meta_state_of self.new) }
         ensures others { self.new ≡ record self.old { keeping = self.new.keeping; flusher = None; passes = self.new.passes } }
     {
         self.keeper.seal();

@@ -6,7 +6,7 @@ ghost use Rattle.vd_device.specs.Calls.{IsCaused};
 ghost use Rattle.vd_passes.specs.declared.pass.Phase.TheVariants.{Looking};
 ghost use Rattle.vd_passes.specs.Laying.{count_below};
 ghost use Rattle.vd_passes.specs.Steps.{IsAt, SeesZeros};
-ghost use Rattle.vd_core.specs.Stepping.{LooksInStore, LooksInBase, SettlesStoreLook, SettlesBaseLook};
+ghost use Rattle.vd_core.specs.Stepping.{view_requests, LooksInStore, LooksInBase, SettlesStoreLook, SettlesBaseLook};
 ghost use Rattle.vd_machine.specs.Adding.{AddsEntries};
 ghost use Rattle.vd_device.specs.Stores.{KeepsStore};
 ghost use Rattle.vd_device.specs.Bases.{KeepsBase};
@@ -56,7 +56,7 @@ impl<S: Store, B: Base> Core<S, B> {
     fn look_at_zeros(&mut self, pass: u32, out: &mut [Sector])
         requires phase { IsAt self.old.passes pass (λ p. IsReader p × (slice_get self.old.fresh p.block ≡ Some false)
             × (count_below self.old.shape.limit (p.first + p.done) p.piece ≡ 0) × (p.count ≡ length out.old)) }
-        ensures sees { SeesZeros self.old.shape pass self.old.passes self.new.passes self.old.history.log.entries self.new.history.log.entries out.old out.new }
+        ensures sees { SeesZeros pass (view_requests self.old) (view_requests self.new) out.old out.new }
         ensures extends { IsAt self.old.passes pass (λ p. AddsEntries (S.events self.old.store ∷ []) p.piece self.old.history self.new.history) }
         ensures others { self.new ≡ record self.old { passes = self.new.passes; history = self.new.history } }
     {

@@ -9,7 +9,7 @@ ghost use Rattle.vd_device.specs.Disks.{IsRunning};
 ghost use Rattle.vd_device.specs.Stores.{IsTold};
 ghost use Rattle.vd_machine.specs.Adding.{AddsEntries};
 ghost use Rattle.vd_machine.specs.Asking.{AskEnds, HasSize, IsOkWhereDone, room_after_reply};
-ghost use Rattle.vd_core.specs.Stepping.{ask_state_of};
+ghost use Rattle.vd_core.specs.Stepping.{ask_state_of, view_requests};
 
 use crate::state::Core;
 use vd_device::{Base, Store};
@@ -47,7 +47,7 @@ impl<S: Store, B: Base> Core<S, B> {
     /// device that failed it, with the ticket and the number of sectors done. The room that the call reserved and didn't use is left again.
     pub fn reply(&mut self, pass: u32) -> Answer
         requires phase { IsAt self.old.passes pass (λ p. p.phase ≡ Ready) }
-        ensures replies { Replies result pass self.old.passes self.new.passes self.old.history.log.entries self.new.history.log.entries }
+        ensures replies { Replies result pass (view_requests self.old) (view_requests self.new) }
         ensures ok { IsAt self.old.passes pass (IsOkWhereDone result) }
         ensures extends { AddsEntries (S.events self.old.store ∷ []) 0 self.old.history self.new.history }
         ensures left { IsAt self.old.passes pass (λ p. self.new.spare ≡ room_after_reply p self.old.spare) }

@@ -6,7 +6,7 @@ ghost use Rattle.vd_device.specs.Calls.{IsCaused};
 ghost use Rattle.vd_passes.specs.declared.pass.Phase.TheVariants.{Asked, Held, Fetching, Issuing};
 ghost use Rattle.vd_passes.specs.Passes.{region_of};
 ghost use Rattle.vd_passes.specs.Steps.{IsAt, HasAskedWrite};
-ghost use Rattle.vd_core.specs.Stepping.{SettlesFetch, IssuesPiece, SettlesWrite};
+ghost use Rattle.vd_core.specs.Stepping.{view_requests, FetchesItsBlock, SettlesFetch, IssuesPiece, SettlesWrite};
 ghost use Rattle.vd_machine.specs.Adding.{AddsEntries};
 ghost use Rattle.vd_machine.specs.Outcomes.{outcome_of, numbers_of};
 ghost use Rattle.vd_core.specs.Outcomes.{step_of};
@@ -15,7 +15,6 @@ ghost use Rattle.vd_device.specs.Bases.{KeepsBase};
 ghost use Rattle.vd_device.specs.Disks.{IsRunning};
 ghost use Rattle.vd_passes.specs.Causes.{OfStore, OfBase, HasNextTicket};
 ghost use Rattle.vd_machine.specs.Entering.{IsKeptOut, EntersBlock};
-ghost use Rattle.vd_machine.specs.Fetching.{FetchesBlock};
 ghost use Rattle.vd_machine.specs.Issuing.{IsWritable, keeper_after_write};
 
 use crate::outcome::{Step, release, release_failed};
@@ -30,10 +29,10 @@ impl<S: Store, B: Base> Core<S, B> {
     /// exactly where another pass holds the block and one of the two writes, by the lowest such pass; then nothing changes.
     pub fn enter(&mut self, pass: u32) -> Result<(), Busy>
         requires phase { IsAt self.old.passes pass (λ p. (p.phase ≡ Asked) × (p.flush ≡ false)) }
-        ensures busy { IfErr result (λ busy. IsKeptOut self.old.shape (map region_of self.old.passes)
-            (map region_of self.new.passes) pass self.old.passes self.new.passes busy.by) }
-        ensures enters { OnOk result (EntersBlock self.old.shape self.old.table.chunks (map region_of self.old.passes)
-            (map region_of self.new.passes) pass self.old.passes self.new.passes) }
+        ensures busy { IfErr result (λ busy. IsKeptOut (map region_of self.old.passes) (map region_of self.new.passes) pass busy.by
+            (view_requests self.old) (view_requests self.new)) }
+        ensures enters { OnOk result (EntersBlock self.old.table.chunks (map region_of self.old.passes) (map region_of self.new.passes) pass
+            (view_requests self.old) (view_requests self.new)) }
         ensures others { self.new ≡ record self.old { passes = self.new.passes } }
     {
         enter_block(
@@ -49,7 +48,7 @@ impl<S: Store, B: Base> Core<S, B> {
     /// block. The block isn't fresh.
     pub fn fetch(&mut self, pass: u32)
         requires phase { IsAt self.old.passes pass (λ p. (p.phase ≡ Held) × (p.write ≡ true) × (slice_get self.old.fresh p.block ≡ Some false)) }
-        ensures fetches { FetchesBlock B.Base self.old.shape pass self.old.passes self.new.passes self.old.base self.new.base }
+        ensures fetches { FetchesItsBlock B.Base pass self.old self.new }
         ensures number { IsAt self.new.passes pass (HasNextTicket OfBase (B.last self.old.base) (B.last self.new.base)) }
         ensures base_keeps { KeepsBase B.Base self.old.base self.new.base }
         ensures others { self.new ≡ record self.old { base = self.new.base; passes = self.new.passes } }

@@ -28,10 +28,11 @@ use Rattle.vd_passes.specs.declared.pass.Pass.{Pass}
 use Rattle.vd_passes.specs.declared.pass.Phase.TheVariants.{Asked, Flushing}
 use Rattle.vd_passes.specs.declared.pass.Fault.TheVariants as fault
 use Rattle.vd_passes.specs.Passes.{after_meta, after_fault, after_flush}
+use Rattle.vd_passes.specs.Requests.{RequestState}
 use Rattle.vd_passes.specs.Steps.{EndsFlush}
 use Rattle.vd_machine.specs.Flushing.{meta_state, BeginsFlush, IsWornOut, PutsNext, SyncsPuts, SettlesMeta, SealsFlush}
 use Rattle.vd_machine.specs.Attending.{IsAtStage, KeeperAgrees}
-use Rattle.vd_machine.proofs.Members.{same-member}
+use Rattle.vd_lists.proofs.Places.{same_member}
 use Rattle.vd_machine.proofs.Due.{begun-due}
 use Rattle.vd_machine.proofs.Kept.{put-kept}
 use Rattle.vd_machine.proofs.Stages.{IsPutInStage, no-ticket, put-out, done-stage, out-stage, none-stage, gone-left, gone-kept, gone-in-stage, still-none-put}
@@ -47,7 +48,7 @@ module _ {shape : Shape} {table : TableState} {fresh : List Bool} {passes : List
   pub at-stage : p.phase ≡ Flushing → IsAtStage k.stage k p
   at-stage flushing =
       let w = a.working i (is-flusher flushing) in
-      subst (λ (q : Pass). IsAtStage k.stage k q) (same-member passes i w.0 p w.1 there) w.2
+      subst (λ (q : Pass). IsAtStage k.stage k q) (same_member passes i w.0 p w.1 there) w.2
 
   pub at-stage-of : (s : Stage) → k.stage ≡ s → p.phase ≡ Flushing → IsAtStage s k p
   at-stage-of s stage flushing = subst (λ (x : Stage). IsAtStage x k p) stage (at-stage flushing)
@@ -100,32 +101,32 @@ unfolding way_of
 way-tracked (routes.Recycle t) k u tracked e = let same : u ≡ t = cc in same ∙ tracked t refl
 way-tracked routes.Owed k u tracked e = chosen-tracked (not k.sure || nat_lt (k.header.slots - k.next) (records_for (length (chunks_with k.header k.owed)))) (none_of k.owed) k.header.tracked u e
 
-pub begin-attended : {route : Route} {shape : Shape} {table : TableState} {fresh : List Bool} {i : ℕ} {k k' : KeeperState} {passes passes' : List Pass} {S : Type 0} {g : store.Ghosts S} {s s' : S}
-    → KeeperAgrees shape table fresh passes None k → ((t : ℕ) → route ≡ routes.Recycle t → t ≡ k.header.tracked) → BeginsFlush g route shape i (meta_state k passes) (meta_state k' passes') s s' → KeeperAgrees shape table fresh passes' (Some i) k'
-begin-attended {route} {shape} {table} {fresh} {i} {k} {k'} {passes} {passes'} a tracked b =
+pub begin-attended : {route : Route} {r r' : RequestState} {table : TableState} {i : ℕ} {k k' : KeeperState} {S : Type 0} {g : store.Ghosts S} {s s' : S}
+    → KeeperAgrees r.shape table r.fresh r.passes None k → ((t : ℕ) → route ≡ routes.Recycle t → t ≡ k.header.tracked) → BeginsFlush g route i (meta_state k r) (meta_state k' r') s s' → KeeperAgrees r'.shape table r'.fresh r'.passes (Some i) k'
+begin-attended {route} {r} {r'} {table} {i} {k} {k'} a tracked b =
     let put = (a.keeping.at_rest (a.resting refl)).1 in
     let kept = begun-kept route k a.keeping (λ t e. let same = tracked t e in omega (arith, same)) b.not_worn put in
     let at : IsAtStage DataFlush (after_begin route k) (after_meta b.sends.pass b.sends.ticket) = ((b.sends.ticket, refl, b.kind), begun-due route k a.keeping) in
     let done = attended (after_begin route k) a refl refl refl kept (λ t e. way-tracked route k t tracked e) (inr (inr put))
-    (goes-on passes i b.sends.pass (after_meta b.sends.pass b.sends.ticket) None (after_begin route k) b.sends.there a.flushing (inl refl) refl at) in
-    subst (λ (x : KeeperState). KeeperAgrees shape table fresh passes' (Some i) x) (sym b.after) (subst (λ (ps : List Pass). KeeperAgrees shape table fresh ps (Some i) (after_begin route k)) (sym b.sends.after) done)
+    (goes-on r.passes i b.sends.pass (after_meta b.sends.pass b.sends.ticket) None (after_begin route k) b.sends.there a.flushing (inl refl) refl at) in
+    subst (λ (x : KeeperState). KeeperAgrees r'.shape table r'.fresh r'.passes (Some i) x) (sym b.after) (subst (λ (x : RequestState). KeeperAgrees x.shape table x.fresh x.passes (Some i) (after_begin route k)) (sym b.sends.after) done)
 
 -- or it can't: the pass was asked, and is ready
-pub worn-asked : {generation : ℕ} {i : ℕ} {passes passes' : List Pass} (e : EndsFlush (Some (fault.Worn generation)) i passes passes') → e.pass.phase ≡ Asked
+pub worn-asked : {generation : ℕ} {i : ℕ} {r r' : RequestState} (e : EndsFlush (Some (fault.Worn generation)) i r r') → e.pass.phase ≡ Asked
 worn-asked {generation} e = elim e.cause [ inl none ↦ absurd (let is : Some (fault.Worn generation) ≡ None = none.0 in cc) | inr asked ↦ asked.2 ]
 
-pub worn-attended : {route : Route} {shape : Shape} {table : TableState} {fresh : List Bool} {i : ℕ} {k : KeeperState} {passes passes' : List Pass} {flusher : Option ℕ}
-    → KeeperAgrees shape table fresh passes flusher k → IsWornOut route i k passes passes' → KeeperAgrees shape table fresh passes' flusher k
-worn-attended {route} {shape} {table} {fresh} {i} {k} {passes} {passes'} {flusher} a w =
+pub worn-attended : {route : Route} {r r' : RequestState} {table : TableState} {i : ℕ} {k : KeeperState} {flusher : Option ℕ}
+    → KeeperAgrees r.shape table r.fresh r.passes flusher k → IsWornOut route i k r r' → KeeperAgrees r'.shape table r'.fresh r'.passes flusher k
+worn-attended {route} {r} {r'} {table} {i} {k} {flusher} a w =
     let new = after_flush w.ends.pass (Some (fault.Worn last_generation)) in
-    let f = passed passes i w.ends.pass new flusher k w.ends.there a.flushing a.resting a.working (not-asked w.ends.pass (worn-asked w.ends)) (not-ready new refl) in
-    subst (λ (ps : List Pass). KeeperAgrees shape table fresh ps flusher k) (sym w.ends.after) (attended k a refl refl refl a.keeping a.same_tracked a.put_in_stage f)
+    let f = passed r.passes i w.ends.pass new flusher k w.ends.there a.flushing a.resting a.working (not-asked w.ends.pass (worn-asked w.ends)) (not-ready new refl) in
+    subst (λ (x : RequestState). KeeperAgrees x.shape table x.fresh x.passes flusher k) (sym w.ends.after) (attended k a refl refl refl a.keeping a.same_tracked a.put_in_stage f)
 
 -- ---- a call is submitted
 
-pub put-attended : {shape : Shape} {table : TableState} {fresh : List Bool} {i : ℕ} {k k' : KeeperState} {passes passes' : List Pass} {flusher : Option ℕ} {S : Type 0} {g : store.Ghosts S} {s s' : S}
-    → KeeperAgrees shape table fresh passes flusher k → k.stage ≡ Puts → PutsNext g table shape i (meta_state k passes) (meta_state k' passes') s s' → KeeperAgrees shape table fresh passes' flusher k'
-put-attended {shape} {table} {fresh} {i} {k} {k'} {passes} {passes'} {flusher} a stage n =
+pub put-attended : {r r' : RequestState} {table : TableState} {i : ℕ} {k k' : KeeperState} {flusher : Option ℕ} {S : Type 0} {g : store.Ghosts S} {s s' : S}
+    → KeeperAgrees r.shape table r.fresh r.passes flusher k → k.stage ≡ Puts → PutsNext g table i (meta_state k r) (meta_state k' r') s s' → KeeperAgrees r'.shape table r'.fresh r'.passes flusher k'
+put-attended {r} {r'} {table} {i} {k} {k'} {flusher} a stage n =
     let p = n.sends.pass in let new = after_meta n.sends.pass n.sends.ticket in
     let due = due-at a i p n.sends.there stage n.under_way n.sends.none in
     let left = puts-leave table k k' n.put n.next in
@@ -133,48 +134,48 @@ put-attended {shape} {table} {fresh} {i} {k} {k'} {passes} {passes'} {flusher} a
     let at : IsAtStage Puts k' new = inr ((n.sends.ticket, refl, n.kind), put-out table k k' n.put a.keeping due n.next) in
     let at' = subst (λ (s : Stage). IsAtStage s k' new) (sym (left.stage ∙ stage)) at in
     let done = attended k' a left.header left.stale left.owed (put-kept table k k' n.put a.keeping stage due n.next) (λ t e. a.same_tracked t (sym left.way ∙ e)) (inl (left.stage ∙ stage))
-    (goes-on passes i p new flusher k' n.sends.there a.flushing (inr mine) refl at') in
-    subst (λ (f : Option ℕ). KeeperAgrees shape table fresh passes' f k') (sym mine) (subst (λ (ps : List Pass). KeeperAgrees shape table fresh ps (Some i) k') (sym n.sends.after) done)
+    (goes-on r.passes i p new flusher k' n.sends.there a.flushing (inr mine) refl at') in
+    subst (λ (f : Option ℕ). KeeperAgrees r'.shape table r'.fresh r'.passes f k') (sym mine) (subst (λ (x : RequestState). KeeperAgrees x.shape table x.fresh x.passes (Some i) k') (sym n.sends.after) done)
 
-pub sync-attended : {shape : Shape} {table : TableState} {fresh : List Bool} {i : ℕ} {k : KeeperState} {passes passes' : List Pass} {flusher : Option ℕ} {S : Type 0} {g : store.Ghosts S} {s s' : S}
-    → KeeperAgrees shape table fresh passes flusher k → k.stage ≡ Syncs → SyncsPuts g shape i passes passes' s s' → KeeperAgrees shape table fresh passes' flusher k
-sync-attended {shape} {table} {fresh} {i} {k} {passes} {passes'} {flusher} a stage s =
+pub sync-attended : {r r' : RequestState} {table : TableState} {i : ℕ} {k : KeeperState} {flusher : Option ℕ} {S : Type 0} {g : store.Ghosts S} {s s' : S}
+    → KeeperAgrees r.shape table r.fresh r.passes flusher k → k.stage ≡ Syncs → SyncsPuts g i r r' s s' → KeeperAgrees r'.shape table r'.fresh r'.passes flusher k
+sync-attended {r} {r'} {table} {i} {k} {flusher} a stage s =
     let p = s.sends.pass in let new = after_meta s.sends.pass s.sends.ticket in
     let mine = is-flusher a i p s.sends.there s.under_way in
     let was = at-stage-of a i p s.sends.there Syncs stage s.under_way in
     let at : IsAtStage Syncs k new = (was.0, was.1, inr (s.sends.ticket, refl, s.kind)) in
     let at' = subst (λ (s : Stage). IsAtStage s k new) (sym stage) at in
-    let done = attended k a refl refl refl a.keeping a.same_tracked a.put_in_stage (goes-on passes i p new flusher k s.sends.there a.flushing (inr mine) refl at') in
-    subst (λ (f : Option ℕ). KeeperAgrees shape table fresh passes' f k) (sym mine) (subst (λ (ps : List Pass). KeeperAgrees shape table fresh ps (Some i) k) (sym s.sends.after) done)
+    let done = attended k a refl refl refl a.keeping a.same_tracked a.put_in_stage (goes-on r.passes i p new flusher k s.sends.there a.flushing (inr mine) refl at') in
+    subst (λ (f : Option ℕ). KeeperAgrees r'.shape table r'.fresh r'.passes f k) (sym mine) (subst (λ (x : RequestState). KeeperAgrees x.shape table x.fresh x.passes (Some i) k) (sym s.sends.after) done)
 
 -- ---- a call is settled
 
-pub done-attended : {shape : Shape} {table : TableState} {fresh : List Bool} {i : ℕ} {k k' : KeeperState} {passes passes' : List Pass} {flusher : Option ℕ} {S : Type 0} {g : store.Ghosts S} {s s' : S}
-    → KeeperAgrees shape table fresh passes flusher k → SettlesMeta g settled.Done i (meta_state k passes) (meta_state k' passes') s s' → KeeperAgrees shape table fresh passes' flusher k'
-done-attended {shape} {table} {fresh} {i} {k} {k'} {passes} {passes'} {flusher} a m =
+pub done-attended : {r r' : RequestState} {table : TableState} {i : ℕ} {k k' : KeeperState} {flusher : Option ℕ} {S : Type 0} {g : store.Ghosts S} {s s' : S}
+    → KeeperAgrees r.shape table r.fresh r.passes flusher k → SettlesMeta g settled.Done i (meta_state k r) (meta_state k' r') s s' → KeeperAgrees r'.shape table r'.fresh r'.passes flusher k'
+done-attended {r} {r'} {table} {i} {k} {k'} {flusher} a m =
     let s = m.settles in let p = s.pass in let new = record p { ticket = None } in let next = after_call k.stage k in
     let mine = is-flusher a i p s.there s.phase in
     let left = gone-left k k.stage in
     let at = done-stage k k.stage p s.ticket s.has (at-stage a i p s.there s.phase) in
     let done = attended next a left.header left.stale left.owed (gone-kept k k.stage a.keeping refl) (λ t e. a.same_tracked t (sym left.way ∙ e)) (gone-in-stage k k.stage a.put_in_stage refl)
-    (goes-on passes i p new flusher next s.there a.flushing (inr mine) s.phase at) in
-    subst (λ (x : KeeperState). KeeperAgrees shape table fresh passes' flusher x) (sym m.after)
-    (subst (λ (f : Option ℕ). KeeperAgrees shape table fresh passes' f next) (sym mine) (subst (λ (ps : List Pass). KeeperAgrees shape table fresh ps (Some i) next) (sym s.after) done))
+    (goes-on r.passes i p new flusher next s.there a.flushing (inr mine) s.phase at) in
+    subst (λ (x : KeeperState). KeeperAgrees r'.shape table r'.fresh r'.passes flusher x) (sym m.after)
+    (subst (λ (f : Option ℕ). KeeperAgrees r'.shape table r'.fresh r'.passes f next) (sym mine) (subst (λ (x : RequestState). KeeperAgrees x.shape table x.fresh x.passes (Some i) next) (sym s.after) done))
 
-pub late-attended : {same : Ticket} {shape : Shape} {table : TableState} {fresh : List Bool} {i : ℕ} {k k' : KeeperState} {passes passes' : List Pass} {flusher : Option ℕ} {S : Type 0} {g : store.Ghosts S} {s s' : S}
-    → KeeperAgrees shape table fresh passes flusher k → SettlesMeta g (settled.NotYet same) i (meta_state k passes) (meta_state k' passes') s s' → KeeperAgrees shape table fresh passes' flusher k'
-late-attended {same} {shape} {table} {fresh} {i} {k} {k'} {passes} {passes'} {flusher} a m =
+pub late-attended : {same : Ticket} {r r' : RequestState} {table : TableState} {i : ℕ} {k k' : KeeperState} {flusher : Option ℕ} {S : Type 0} {g : store.Ghosts S} {s s' : S}
+    → KeeperAgrees r.shape table r.fresh r.passes flusher k → SettlesMeta g (settled.NotYet same) i (meta_state k r) (meta_state k' r') s s' → KeeperAgrees r'.shape table r'.fresh r'.passes flusher k'
+late-attended {same} {r} {r'} {table} {i} {k} {k'} {flusher} a m =
     let s = m.settles in
-    let is : passes' ≡ passes = s.after ∙ slice_set_unchanged passes i s.pass s.there in
-    subst (λ (x : KeeperState). KeeperAgrees shape table fresh passes' flusher x) (sym m.after) (subst (λ (ps : List Pass). KeeperAgrees shape table fresh ps flusher k) (sym is) a)
+    let is : r' ≡ r = s.after ∙ ap (λ (ps : List Pass). record r { passes = ps }) (slice_set_unchanged r.passes i s.pass s.there) in
+    subst (λ (x : KeeperState). KeeperAgrees r'.shape table r'.fresh r'.passes flusher x) (sym m.after) (subst (λ (x : RequestState). KeeperAgrees x.shape table x.fresh x.passes flusher k) (sym is) a)
 
-pub failed-attended : {number : ℕ} {shape : Shape} {table : TableState} {fresh : List Bool} {i : ℕ} {k k' : KeeperState} {passes passes' : List Pass} {flusher : Option ℕ} {S : Type 0} {g : store.Ghosts S} {s s' : S}
-    → KeeperAgrees shape table fresh passes flusher k → SettlesMeta g (settled.Failed number) i (meta_state k passes) (meta_state k' passes') s s' → KeeperAgrees shape table fresh passes' None k'
-failed-attended {number} {shape} {table} {fresh} {i} {k} {k'} {passes} {passes'} {flusher} a m =
+pub failed-attended : {number : ℕ} {r r' : RequestState} {table : TableState} {i : ℕ} {k k' : KeeperState} {flusher : Option ℕ} {S : Type 0} {g : store.Ghosts S} {s s' : S}
+    → KeeperAgrees r.shape table r.fresh r.passes flusher k → SettlesMeta g (settled.Failed number) i (meta_state k r) (meta_state k' r') s s' → KeeperAgrees r'.shape table r'.fresh r'.passes None k'
+failed-attended {number} {r} {r'} {table} {i} {k} {k'} {flusher} a m =
     let s = m.settles in let p = s.pass in let new = after_fault (fault.Store s.ticket.number) p in
     let mine = is-flusher a i p s.there s.phase in
-    let done = attended (after_break k) a refl refl refl (broken-kept k a.keeping) a.same_tracked (inr (inr refl)) (ends passes i p new flusher (after_break k) s.there a.flushing mine (not-ready new refl) (inr refl)) in
-    subst (λ (x : KeeperState). KeeperAgrees shape table fresh passes' None x) (sym m.after) (subst (λ (ps : List Pass). KeeperAgrees shape table fresh ps None (after_break k)) (sym s.after) done)
+    let done = attended (after_break k) a refl refl refl (broken-kept k a.keeping) a.same_tracked (inr (inr refl)) (ends r.passes i p new flusher (after_break k) s.there a.flushing mine (not-ready new refl) (inr refl)) in
+    subst (λ (x : KeeperState). KeeperAgrees r'.shape table r'.fresh r'.passes None x) (sym m.after) (subst (λ (x : RequestState). KeeperAgrees x.shape table x.fresh x.passes None (after_break k)) (sym s.after) done)
 
 -- ---- the flush is over
 
@@ -225,13 +226,13 @@ seal-keeps {shape} {table} {fresh} k a stage follows =
       working = follows.working;
     }
 
-pub sealed-flushing : {i : ℕ} {passes passes' : List Pass} (e : EndsFlush None i passes passes') → e.pass.phase ≡ Flushing
+pub sealed-flushing : {i : ℕ} {r r' : RequestState} (e : EndsFlush None i r r') → e.pass.phase ≡ Flushing
 sealed-flushing e = elim e.cause [ inl under_way ↦ under_way.1 | inr worn ↦ absurd (let is : None ≡ Some (fault.Worn worn.0) = worn.1 in cc) ]
 
-pub seal-attended : {shape : Shape} {table : TableState} {fresh : List Bool} {i : ℕ} {k k' : KeeperState} {passes passes' : List Pass} {flusher : Option ℕ}
-    → KeeperAgrees shape table fresh passes flusher k → k.stage ≡ Seals → SealsFlush i k k' passes passes' → KeeperAgrees shape table fresh passes' None k'
-seal-attended {shape} {table} {fresh} {i} {k} {k'} {passes} {passes'} {flusher} a stage s =
+pub seal-attended : {r r' : RequestState} {table : TableState} {i : ℕ} {k k' : KeeperState} {flusher : Option ℕ}
+    → KeeperAgrees r.shape table r.fresh r.passes flusher k → k.stage ≡ Seals → SealsFlush i (meta_state k r) (meta_state k' r') → KeeperAgrees r'.shape table r'.fresh r'.passes None k'
+seal-attended {r} {r'} {table} {i} {k} {k'} {flusher} a stage s =
     let p = s.ends.pass in let new = after_flush s.ends.pass None in
     let mine = is-flusher a i p s.ends.there (sealed-flushing s.ends) in
-    let done = seal-keeps k a stage (ends passes i p new flusher (after_seal k) s.ends.there a.flushing mine (not-ready new refl) (inl refl)) in
-    subst (λ (x : KeeperState). KeeperAgrees shape table fresh passes' None x) (sym s.after) (subst (λ (ps : List Pass). KeeperAgrees shape table fresh ps None (after_seal k)) (sym s.ends.after) done)
+    let done = seal-keeps k a stage (ends r.passes i p new flusher (after_seal k) s.ends.there a.flushing mine (not-ready new refl) (inl refl)) in
+    subst (λ (x : KeeperState). KeeperAgrees r'.shape table r'.fresh r'.passes None x) (sym s.after) (subst (λ (x : RequestState). KeeperAgrees x.shape table x.fresh x.passes None (after_seal k)) (sym s.ends.after) done)

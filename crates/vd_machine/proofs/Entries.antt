@@ -33,7 +33,7 @@ extends-twice {events} {sectors} {old} {between} {new} first second = record {
   sectors_left = let a = first.sectors_left in let b = second.sectors_left in omega arith;
 }
 
-id-is : (id : CallId) (pass call : ℕ) → id.pass ≡ pass → id.call ≡ call → id ≡ record { pass = pass; call = call }
+pub id-is : (id : CallId) (pass call : ℕ) → id.pass ≡ pass → id.call ≡ call → id ≡ record { pass = pass; call = call }
 id-is id pass call by number = ap (λ (n : ℕ). record { pass = n; call = id.call }) by ∙ ap (λ (n : ℕ). record { pass = pass; call = n }) number
 
 -- an Ask and its Reply, added one after the other

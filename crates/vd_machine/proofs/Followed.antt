@@ -6,8 +6,8 @@ use Rattle.vd_keeper.specs.Keeping.{KeeperState}
 use Rattle.vd_passes.specs.declared.pass.Pass.{Pass}
 use Rattle.vd_passes.specs.declared.pass.Phase.TheVariants.{Asked, Flushing, Ready}
 use Rattle.vd_machine.specs.Attending.{IsAtStage}
-use Rattle.vd_machine.proofs.Members.{at-set, set-here, same-member}
-use Rattle.vd_lists.proofs.Changes.{slice_set_other}
+use Rattle.vd_lists.proofs.Changes.{slice_set_either, slice_set_here, slice_set_other}
+use Rattle.vd_lists.proofs.Places.{same_member}
 
 -- the pass that flushes is the one that is remembered
 abbrev pub AreFlushing : List Pass → Option ℕ → Type 0
@@ -48,18 +48,18 @@ module _ (passes : List Pass) (i : ℕ) (old new : Pass) (flusher : Option ℕ) 
   -- the pass flushes now, or still
   pub goes-on : IsAbout flusher i → new.phase ≡ Flushing → IsAtStage k.stage k new → IsFollowed (slice_set passes i new) (Some i) k
   goes-on about flushing at = record {
-    flushing = λ j p is. elim (at-set passes i j new old p there is) [
+    flushing = λ j p is. elim (slice_set_either passes i j new old p there is) [
       | inl here ↦ (λ phase. ap (λ (n : ℕ). Some n) (sym here.0), λ is_some. ap (λ (x : Pass). x.phase) here.1 ∙ flushing)
       | inr other ↦ (λ phase. about-other flusher i j about other.0 ((was j p other.1).0 phase), λ is_some. absurd (other.0 (same-number i j is_some)))
     ];
     resting = λ none. none-some i (sym none);
-    working = λ j is. (new, ap (slice_get (slice_set passes i new)) (same-number i j is) ∙ set-here passes i new old there, at);
+    working = λ j is. (new, ap (slice_get (slice_set passes i new)) (same-number i j is) ∙ slice_set_here passes i new old there, at);
   }
 
   -- it flushes no more
   pub ends : flusher ≡ Some i → new.phase ≢ Flushing → (k.stage ≡ Rest) ⊎ (k.stage ≡ Broken) → IsFollowed (slice_set passes i new) None k
   ends mine no_more rest = record {
-    flushing = λ j p is. elim (at-set passes i j new old p there is) [
+    flushing = λ j p is. elim (slice_set_either passes i j new old p there is) [
       | inl here ↦ (λ phase. absurd (no_more (ap (λ (x : Pass). x.phase) (sym here.1) ∙ phase)), λ none. none-some j none)
       | inr other ↦ (λ phase. about-other flusher i j (inr mine) other.0 ((was j p other.1).0 phase), λ none. none-some j none)
     ];
@@ -70,7 +70,7 @@ module _ (passes : List Pass) (i : ℕ) (old new : Pass) (flusher : Option ℕ) 
   -- another pass takes a step
   pub passed : (flusher ≡ None → (k.stage ≡ Rest) ⊎ (k.stage ≡ Broken)) → IsWorking passes flusher k → old.phase ≢ Flushing → new.phase ≢ Flushing → IsFollowed (slice_set passes i new) flusher k
   passed resting working not_old not_new = record {
-    flushing = λ j p is. elim (at-set passes i j new old p there is) [
+    flushing = λ j p is. elim (slice_set_either passes i j new old p there is) [
       | inl here ↦ (
         λ phase. absurd (not_new (ap (λ (x : Pass). x.phase) (sym here.1) ∙ phase)),
         λ mine. absurd (not_old ((was i old there).1 (mine ∙ ap (λ (n : ℕ). Some n) here.0))),
@@ -80,6 +80,6 @@ module _ (passes : List Pass) (i : ℕ) (old new : Pass) (flusher : Option ℕ) 
     resting = resting;
     working = λ j mine.
         let w = working j mine in
-        let ne : j ≢ i = λ e. not_old (ap (λ (x : Pass). x.phase) (same-member passes i old w.0 there (ap (slice_get passes) (sym e) ∙ w.1)) ∙ (was j w.0 w.1).1 mine) in
+        let ne : j ≢ i = λ e. not_old (ap (λ (x : Pass). x.phase) (same_member passes i old w.0 there (ap (slice_get passes) (sym e) ∙ w.1)) ∙ (was j w.0 w.1).1 mine) in
         (w.0, slice_set_other passes i j new ne ∙ w.1, w.2);
   }

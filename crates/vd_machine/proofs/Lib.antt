@@ -10,7 +10,6 @@ pub mod Attended
 pub mod Others
 pub mod Stored
 pub mod Measuring
-pub mod Picked
 pub mod Entries
 pub mod Placed
 pub mod Entered

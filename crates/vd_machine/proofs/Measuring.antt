@@ -6,7 +6,6 @@ use Rattle.std.proofs.lemmas.Bool.{cases_Bool, false≢true, not_from_true, not_
 use Rattle.std.proofs.lemmas.List.Folds.{list_any_at}
 use Rattle.std.proofs.lemmas.Option.{get_or_from_slice_get, slice_get_within}
 use Rattle.vd_law.specs.declared.entry.Answer.{Answer}
-use Rattle.vd_law.specs.Entries.{Entry}
 use Rattle.vd_bits.specs.Marks.{count_true}
 use Rattle.vd_device.specs.declared.ticket.Ticket.{Ticket}
 use Rattle.vd_device.specs.declared.settled.Settled.TheVariants as settled
@@ -28,17 +27,18 @@ use Rattle.vd_keeper.proofs.NextChunks.{all-none}
 use Rattle.vd_keeper.proofs.Moving.{fewer}
 use Rattle.vd_keeper.proofs.Begun.{after-put-in-stage}
 use Rattle.vd_keeper.proofs.Laws.{puts-leave}
-use Rattle.vd_passes.specs.declared.shape.Shape.{Shape}
 use Rattle.vd_passes.specs.declared.pass.Pass.{Pass}
 use Rattle.vd_passes.specs.declared.pass.Phase.{Phase}
 use Rattle.vd_passes.specs.declared.pass.Phase.TheVariants.{Asked, Flushing, Ready}
 use Rattle.vd_passes.specs.declared.pass.Fault.TheVariants as fault
 use Rattle.vd_passes.specs.Passes.{after_meta, after_fault, after_flush, after_reply}
+use Rattle.vd_passes.specs.Requests.{RequestState}
 use Rattle.vd_passes.specs.Steps.{Replies}
 use Rattle.vd_machine.specs.Flushing.{meta_state, BeginsFlush, IsWornOut, PutsNext, SyncsPuts, SettlesMeta, SealsFlush}
 use Rattle.vd_machine.specs.Attending.{HasUnflushedPuts, IsAtStage, KeeperAgrees}
 use Rattle.vd_machine.specs.Measures.{puts_left, syncs_left, calls_left, steps_at, flush_steps_in, flush_steps}
-use Rattle.vd_machine.proofs.Members.{same-member, set-here}
+use Rattle.vd_lists.proofs.Changes.{slice_set_here}
+use Rattle.vd_lists.proofs.Places.{same_member}
 use Rattle.vd_machine.proofs.Kept.{record-less}
 use Rattle.vd_machine.proofs.Stages.{no-ticket}
 use Rattle.vd_machine.proofs.Attended.{at-stage, due-at, worn-asked, sealed-flushing}
@@ -191,97 +191,100 @@ asked-steps k p phase = ap (λ (f : Phase). flush_steps_in f k p) phase
 
 -- what stands there before a step, and after it
 before : (passes : List Pass) (i : ℕ) (k : KeeperState) (old p : Pass) → slice_get passes i ≡ Some old → slice_get passes i ≡ Some p → flush_steps k p ≡ flush_steps k old
-before passes i k old p was there = ap (λ (q : Pass). flush_steps k q) (same-member passes i p old there was)
+before passes i k old p was there = ap (λ (q : Pass). flush_steps k q) (same_member passes i p old there was)
 
-after : (passes passes' : List Pass) (i : ℕ) (k' next : KeeperState) (old new p' : Pass) → slice_get passes i ≡ Some old → passes' ≡ slice_set passes i new → k' ≡ next → slice_get passes' i ≡ Some p' → flush_steps k' p' ≡ flush_steps next new
-after passes passes' i k' next old new p' was set_is kept there =
-    let is : slice_get passes' i ≡ Some new = ap (λ (ps : List Pass). slice_get ps i) set_is ∙ set-here passes i new old was in
-    ap (λ (q : Pass). flush_steps k' q) (same-member passes' i p' new there is) ∙ ap (λ (x : KeeperState). flush_steps x new) kept
+passes-are : {r r' : RequestState} → r ≡ r' → r.passes ≡ r'.passes
+passes-are same = ap (λ (r : RequestState). r.passes) same
+
+after : (r r' : RequestState) (i : ℕ) (k' next : KeeperState) (old new p' : Pass) → slice_get r.passes i ≡ Some old → r'.passes ≡ slice_set r.passes i new → k' ≡ next → slice_get r'.passes i ≡ Some p' → flush_steps k' p' ≡ flush_steps next new
+after r r' i k' next old new p' was set_is kept there =
+    let is : slice_get r'.passes i ≡ Some new = ap (λ (ps : List Pass). slice_get ps i) set_is ∙ slice_set_here r.passes i new old was in
+    ap (λ (q : Pass). flush_steps k' q) (same_member r'.passes i p' new there is) ∙ ap (λ (x : KeeperState). flush_steps x new) kept
 
 -- ---- each step lowers them
 
-pub begin-lowers : {shape : Shape} {i : ℕ} {k k' : KeeperState} {passes passes' : List Pass} {S : Type 0} {g : store.Ghosts S} {s s' : S} (p p' : Pass)
-    → BeginsFlush g Owed shape i (meta_state k passes) (meta_state k' passes') s s' → slice_get passes i ≡ Some p → slice_get passes' i ≡ Some p' → flush_steps k' p' < flush_steps k p
-begin-lowers {shape} {i} {k} {k'} {passes} {passes'} p p' b there there' =
+pub begin-lowers : {r r' : RequestState} {i : ℕ} {k k' : KeeperState} {S : Type 0} {g : store.Ghosts S} {s s' : S} (p p' : Pass)
+    → BeginsFlush g Owed i (meta_state k r) (meta_state k' r') s s' → slice_get r.passes i ≡ Some p → slice_get r'.passes i ≡ Some p' → flush_steps k' p' < flush_steps k p
+begin-lowers {r} {r'} {i} {k} {k'} p p' b there there' =
     let old = b.sends.pass in let new = after_meta b.sends.pass b.sends.ticket in
-    let was = before passes i k old p b.sends.there there in
-    let is = after passes passes' i k' (after_begin Owed k) old new p' b.sends.there b.sends.after b.after there' in
+    let was = before r.passes i k old p b.sends.there there in
+    let is = after r r' i k' (after_begin Owed k) old new p' b.sends.there (passes-are b.sends.after) b.after there' in
     omega (arith, was, is, asked-steps k old b.asked)
 
-pub worn-lowers : {route : Route} {i : ℕ} {k : KeeperState} {passes passes' : List Pass} (p p' : Pass)
-    → IsWornOut route i k passes passes' → slice_get passes i ≡ Some p → slice_get passes' i ≡ Some p' → flush_steps k p' < flush_steps k p
-worn-lowers {route} {i} {k} {passes} {passes'} p p' w there there' =
+pub worn-lowers : {route : Route} {r r' : RequestState} {i : ℕ} {k : KeeperState} (p p' : Pass)
+    → IsWornOut route i k r r' → slice_get r.passes i ≡ Some p → slice_get r'.passes i ≡ Some p' → flush_steps k p' < flush_steps k p
+worn-lowers {route} {r} {r'} {i} {k} p p' w there there' =
     let old = w.ends.pass in let new = after_flush w.ends.pass (Some (fault.Worn last_generation)) in
-    let was = before passes i k old p w.ends.there there in
-    let is = after passes passes' i k k old new p' w.ends.there w.ends.after refl there' in
+    let was = before r.passes i k old p w.ends.there there in
+    let is = after r r' i k k old new p' w.ends.there (passes-are w.ends.after) refl there' in
     omega (arith, was, is, asked-steps k old (worn-asked w.ends))
 
-pub put-lowers : {shape : Shape} {i : ℕ} {k k' : KeeperState} {passes passes' : List Pass} {table : TableState} {fresh : List Bool} {flusher : Option ℕ} {S : Type 0} {g : store.Ghosts S} {s s' : S} (p p' : Pass)
-    → KeeperAgrees shape table fresh passes flusher k → k.stage ≡ Puts → PutsNext g table shape i (meta_state k passes) (meta_state k' passes') s s' → slice_get passes i ≡ Some p → slice_get passes' i ≡ Some p' → flush_steps k' p' < flush_steps k p
-put-lowers {shape} {i} {k} {k'} {passes} {passes'} {table} p p' a stage n there there' =
+pub put-lowers : {r r' : RequestState} {i : ℕ} {k k' : KeeperState} {table : TableState} {flusher : Option ℕ} {S : Type 0} {g : store.Ghosts S} {s s' : S} (p p' : Pass)
+    → KeeperAgrees r.shape table r.fresh r.passes flusher k → k.stage ≡ Puts → PutsNext g table i (meta_state k r) (meta_state k' r') s s' → slice_get r.passes i ≡ Some p → slice_get r'.passes i ≡ Some p' → flush_steps k' p' < flush_steps k p
+put-lowers {r} {r'} {i} {k} {k'} {table} p p' a stage n there there' =
     let old = n.sends.pass in let new = after_meta n.sends.pass n.sends.ticket in
-    let was = before passes i k old p n.sends.there there in
-    let is = after passes passes' i k' k' old new p' n.sends.there n.sends.after refl there' in
+    let was = before r.passes i k old p n.sends.there there in
+    let is = after r r' i k' k' old new p' n.sends.there (passes-are n.sends.after) refl there' in
     let waits = flushing-steps k old Puts false n.under_way stage (ap is_some n.sends.none) in
     let left = puts-leave table k k' n.put n.next in
     let sent = flushing-steps k' new Puts true refl (left.stage ∙ stage) refl in
     let less = put-less table k k' n.put (due-at a i old n.sends.there stage n.under_way n.sends.none) n.next in
     omega (arith, was, is, waits, sent, less)
 
-pub sync-lowers : {shape : Shape} {i : ℕ} {passes passes' : List Pass} {S : Type 0} {g : store.Ghosts S} {s s' : S} (k : KeeperState) (p p' : Pass)
-    → k.stage ≡ Syncs → SyncsPuts g shape i passes passes' s s' → slice_get passes i ≡ Some p → slice_get passes' i ≡ Some p' → flush_steps k p' < flush_steps k p
-sync-lowers {shape} {i} {passes} {passes'} k p p' stage s there there' =
+pub sync-lowers : {r r' : RequestState} {i : ℕ} {S : Type 0} {g : store.Ghosts S} {s s' : S} (k : KeeperState) (p p' : Pass)
+    → k.stage ≡ Syncs → SyncsPuts g i r r' s s' → slice_get r.passes i ≡ Some p → slice_get r'.passes i ≡ Some p' → flush_steps k p' < flush_steps k p
+sync-lowers {r} {r'} {i} k p p' stage s there there' =
     let old = s.sends.pass in let new = after_meta s.sends.pass s.sends.ticket in
-    let was = before passes i k old p s.sends.there there in
-    let is = after passes passes' i k k old new p' s.sends.there s.sends.after refl there' in
+    let was = before r.passes i k old p s.sends.there there in
+    let is = after r r' i k k old new p' s.sends.there (passes-are s.sends.after) refl there' in
     let waits = flushing-steps k old Syncs false s.under_way stage (ap is_some s.sends.none) in
     let sent = flushing-steps k new Syncs true refl stage refl in
     omega (arith, was, is, waits, sent)
 
-pub done-lowers : {shape : Shape} {i : ℕ} {k k' : KeeperState} {passes passes' : List Pass} {table : TableState} {fresh : List Bool} {flusher : Option ℕ} {S : Type 0} {g : store.Ghosts S} {s s' : S} (p p' : Pass)
-    → KeeperAgrees shape table fresh passes flusher k → SettlesMeta g settled.Done i (meta_state k passes) (meta_state k' passes') s s' → slice_get passes i ≡ Some p → slice_get passes' i ≡ Some p' → flush_steps k' p' < flush_steps k p
-done-lowers {shape} {i} {k} {k'} {passes} {passes'} p p' a m there there' =
+pub done-lowers : {r r' : RequestState} {i : ℕ} {k k' : KeeperState} {table : TableState} {flusher : Option ℕ} {S : Type 0} {g : store.Ghosts S} {s s' : S} (p p' : Pass)
+    → KeeperAgrees r.shape table r.fresh r.passes flusher k → SettlesMeta g settled.Done i (meta_state k r) (meta_state k' r') s s' → slice_get r.passes i ≡ Some p → slice_get r'.passes i ≡ Some p' → flush_steps k' p' < flush_steps k p
+done-lowers {r} {r'} {i} {k} {k'} p p' a m there there' =
     let s = m.settles in let old = s.pass in let new = record old { ticket = None } in
-    let was = before passes i k old p s.there there in
-    let is = after passes passes' i k' (after_call k.stage k) old new p' s.there s.after m.after there' in
+    let was = before r.passes i k old p s.there there in
+    let is = after r r' i k' (after_call k.stage k) old new p' s.there (passes-are s.after) m.after there' in
     let waits = flushing-steps k old k.stage true s.phase refl (ap is_some s.has) in
     let next = flushing-steps (after_call k.stage k) new (after_call k.stage k).stage false s.phase refl refl in
     let less = done-less k k.stage old s.ticket s.has (at-stage a i old s.there s.phase) in
     omega (arith, was, is, waits, next, less)
 
-pub failed-lowers : {shape : Shape} {i : ℕ} {k k' : KeeperState} {passes passes' : List Pass} {number : ℕ} {table : TableState} {fresh : List Bool} {flusher : Option ℕ} {S : Type 0} {g : store.Ghosts S} {s s' : S} (p p' : Pass)
-    → KeeperAgrees shape table fresh passes flusher k → SettlesMeta g (settled.Failed number) i (meta_state k passes) (meta_state k' passes') s s' → slice_get passes i ≡ Some p → slice_get passes' i ≡ Some p' → flush_steps k' p' < flush_steps k p
-failed-lowers {shape} {i} {k} {k'} {passes} {passes'} p p' a m there there' =
+pub failed-lowers : {r r' : RequestState} {i : ℕ} {k k' : KeeperState} {number : ℕ} {table : TableState} {flusher : Option ℕ} {S : Type 0} {g : store.Ghosts S} {s s' : S} (p p' : Pass)
+    → KeeperAgrees r.shape table r.fresh r.passes flusher k → SettlesMeta g (settled.Failed number) i (meta_state k r) (meta_state k' r') s s' → slice_get r.passes i ≡ Some p → slice_get r'.passes i ≡ Some p' → flush_steps k' p' < flush_steps k p
+failed-lowers {r} {r'} {i} {k} {k'} p p' a m there there' =
     let s = m.settles in let old = s.pass in let new = after_fault (fault.Store s.ticket.number) old in
-    let was = before passes i k old p s.there there in
-    let is = after passes passes' i k' (after_break k) old new p' s.there s.after m.after there' in
+    let was = before r.passes i k old p s.there there in
+    let is = after r r' i k' (after_break k) old new p' s.there (passes-are s.after) m.after there' in
     let waits = flushing-steps k old k.stage true s.phase refl (ap is_some s.has) in
     let less = some-steps k k.stage old s.ticket s.has (at-stage a i old s.there s.phase) in
     omega (arith, was, is, waits, less)
 
-pub seal-lowers : {i : ℕ} {k k' : KeeperState} {passes passes' : List Pass} (p p' : Pass)
-    → k.stage ≡ Seals → SealsFlush i k k' passes passes' → slice_get passes i ≡ Some p → slice_get passes' i ≡ Some p' → flush_steps k' p' < flush_steps k p
-seal-lowers {i} {k} {k'} {passes} {passes'} p p' stage s there there' =
+pub seal-lowers : {r r' : RequestState} {i : ℕ} {k k' : KeeperState} (p p' : Pass)
+    → k.stage ≡ Seals → SealsFlush i (meta_state k r) (meta_state k' r') → slice_get r.passes i ≡ Some p → slice_get r'.passes i ≡ Some p' → flush_steps k' p' < flush_steps k p
+seal-lowers {r} {r'} {i} {k} {k'} p p' stage s there there' =
     let old = s.ends.pass in let new = after_flush s.ends.pass None in
-    let was = before passes i k old p s.ends.there there in
-    let is = after passes passes' i k' (after_seal k) old new p' s.ends.there s.ends.after s.after there' in
+    let was = before r.passes i k old p s.ends.there there in
+    let is = after r r' i k' (after_seal k) old new p' s.ends.there (passes-are s.ends.after) s.after there' in
     let waits = flushing-steps k old Seals false (sealed-flushing s.ends) stage (ap is_some s.ends.none) in
     omega (arith, was, is, waits)
 
-pub reply-lowers : {answer : Answer} {i : ℕ} {passes passes' : List Pass} {history history' : List Entry} (k k' : KeeperState) (p p' : Pass)
-    → Replies answer i passes passes' history history' → slice_get passes i ≡ Some p → slice_get passes' i ≡ Some p' → p.phase ≡ Ready → flush_steps k' p' < flush_steps k p
-reply-lowers {answer} {i} {passes} {passes'} k k' p p' r there there' ready =
-    let is = after passes passes' i k' k' r.pass (after_reply r.pass) p' r.there r.after refl there' in
+pub reply-lowers : {answer : Answer} {r r' : RequestState} {i : ℕ} (k k' : KeeperState) (p p' : Pass)
+    → Replies answer i r r' → slice_get r.passes i ≡ Some p → slice_get r'.passes i ≡ Some p' → p.phase ≡ Ready → flush_steps k' p' < flush_steps k p
+reply-lowers {answer} {r} {r'} {i} k k' p p' e there there' ready =
+    let is = after r r' i k' k' e.pass (after_reply e.pass) p' e.there (passes-are e.after) refl there' in
     let one = ap (λ (f : Phase). flush_steps_in f k p) ready in
     omega (arith, is, one)
 
 -- ---- what leaves them as they are
 
 -- a call that is late
-pub late-leaves : {i : ℕ} {k k' : KeeperState} {passes passes' : List Pass} {same : Ticket} {S : Type 0} {g : store.Ghosts S} {s s' : S} (p p' : Pass)
-    → SettlesMeta g (settled.NotYet same) i (meta_state k passes) (meta_state k' passes') s s' → slice_get passes i ≡ Some p → slice_get passes' i ≡ Some p' → flush_steps k' p' ≡ flush_steps k p
-late-leaves {i} {k} {k'} {passes} {passes'} p p' m there there' =
-    let s = m.settles in after passes passes' i k' k s.pass s.pass p' s.there s.after m.after there' ∙ sym (before passes i k s.pass p s.there there)
+pub late-leaves : {r r' : RequestState} {i : ℕ} {k k' : KeeperState} {same : Ticket} {S : Type 0} {g : store.Ghosts S} {s s' : S} (p p' : Pass)
+    → SettlesMeta g (settled.NotYet same) i (meta_state k r) (meta_state k' r') s s' → slice_get r.passes i ≡ Some p → slice_get r'.passes i ≡ Some p' → flush_steps k' p' ≡ flush_steps k p
+late-leaves {r} {r'} {i} {k} {k'} p p' m there there' =
+    let s = m.settles in after r r' i k' k s.pass s.pass p' s.there (passes-are s.after) m.after there' ∙ sym (before r.passes i k s.pass p s.there there)
 
 -- a block that comes to be owed while a flush is under way
 owed-steps : (k : KeeperState) (owed : List Bool) (s : Stage) (waits : Bool) → steps_at s (record k { owed = owed }) waits ≡ steps_at s k waits

@@ -1,5 +1,5 @@
 -- A pass after the end of the read of its piece.
-use Rattle.std.proofs.Common.{◌≡◌, ℕ, ◌+◌, ◌-◌, ◌≤◌, List, [], ◌∷◌, ◌++◌, length, take, drop, replicate, sym, ◌∙◌, ap, subst, append_assoc, arith, Some, None, slice_get, slice_set}
+use Rattle.std.proofs.Common.{◌≡◌, ℕ, ◌+◌, ◌-◌, ◌≤◌, Bool, List, [], ◌∷◌, ◌++◌, length, take, drop, replicate, refl, sym, ◌∙◌, ap, subst, append_assoc, arith, Some, None, slice_get, slice_set}
 use borrow.Rule.Slice.PartMut.{put_mid, mid_of, mid_len, put_same, Post-is}
 use Rattle.vd_law.specs.declared.entry.Sector.{Sector}
 use Rattle.vd_law.specs.declared.entry.CallId.{CallId}
@@ -14,8 +14,10 @@ use Rattle.vd_passes.specs.declared.pass.Fault.TheVariants as fault
 use Rattle.vd_passes.specs.Buffers.{BufferSettled}
 use Rattle.vd_passes.specs.Laying.{content_with_part}
 use Rattle.vd_passes.specs.Passes.{after_piece, after_fault, after_spending}
+use Rattle.vd_passes.specs.Requests.{RequestState, requests}
 use Rattle.vd_passes.specs.Steps.{Sees, EndsRead, BaseLookSettled}
 use Rattle.vd_machine.specs.Adding.{AddsEntries}
+use Rattle.vd_machine.proofs.Ended.{requests-are, own-entry}
 use Rattle.vd_format.specs.Background.{zero_sector}
 
 -- the piece's part of a list
@@ -37,24 +39,22 @@ part-laid q out part long =
     ∙ sym (append_assoc (take q.done out) part (drop (q.done + length part) out))
 
 -- it has seen this part
-pub sees-part : {i : ℕ} {passes : List Pass} {history history' : List Entry} {out : List Sector} (q e s : Pass) (id : CallId) (part : List Sector) → slice_get passes i ≡ Some q → e ≡ after_piece q → s ≡ after_spending 1 e.piece e
-    → id.pass ≡ i → id.call ≡ q.call → history' ≡ history ++ Seen id (q.first + q.done) part ∷ [] → length part ≡ q.piece → Sees part i passes (slice_set passes i s) history history' out (with_part q out part)
-sees-part {i} {passes} {history} {history'} {out} q e s id part there ended used pass call entry long = record {
+pub sees-part : {shape : Shape} {fresh : List Bool} {i : ℕ} {passes : List Pass} {entries entries' : List Entry} {out : List Sector} (q e s : Pass) (id : CallId) (part : List Sector) → slice_get passes i ≡ Some q → e ≡ after_piece q → s ≡ after_spending 1 e.piece e
+    → id.pass ≡ i → id.call ≡ q.call → entries' ≡ entries ++ Seen id (q.first + q.done) part ∷ [] → length part ≡ q.piece
+    → Sees part i (requests shape fresh passes entries) (requests shape fresh (slice_set passes i s) entries') out (with_part q out part)
+sees-part {i = i} {passes} {entries} {entries'} {out} q e s id part there ended used pass call entry long = record {
   pass = q;
   there = there;
   long = long;
-  after = ap (λ (x : Pass). slice_set passes i x) (used ∙ ap (λ (x : Pass). after_spending 1 x.piece x) ended);
-  event = entry ∙ ap (λ (n : ℕ). history ++ Seen (record { pass = n; call = id.call }) (q.first + q.done) part ∷ []) pass ∙ ap (λ (n : ℕ). history ++ Seen (record { pass = i; call = n }) (q.first + q.done) part ∷ []) call;
+  after = requests-are refl (ap (λ (x : Pass). slice_set passes i x) (used ∙ ap (λ (x : Pass). after_spending 1 x.piece x) ended))
+      (own-entry (λ (c : CallId). Seen c (q.first + q.done) part) id i q entries entries' pass call entry);
   filled = part-laid q out part long;
 }
 
 pub extends-part : {numbers : List ℕ} {history history' : HistoryState} (part : List Sector) (piece : ℕ) → length part ≡ piece → AddsEntries numbers (length part) history history' → AddsEntries numbers piece history history'
 extends-part {numbers} {history} {history'} part piece long extends = subst (λ (n : ℕ). AddsEntries numbers n history history') long extends
 
--- a device has failed it
-pub read-failed : (q r f : Pass) (number n : ℕ) → r ≡ record q { ticket = None } → n ≡ number → f ≡ after_fault (fault.Store n) r → f ≡ after_fault (fault.Store number) q
-read-failed q r f number n took is failed = failed ∙ ap (after_fault (fault.Store n)) took ∙ ap (λ (m : ℕ). after_fault (fault.Store m) q) is
-
+-- the base has failed it
 pub base-read-failed : (q r f : Pass) (number n : ℕ) → r ≡ record q { fetch = None } → n ≡ number → f ≡ after_fault (fault.Base n) r → f ≡ after_fault (fault.Base number) q
 base-read-failed q r f number n took is failed = failed ∙ ap (after_fault (fault.Base n)) took ∙ ap (λ (m : ℕ). after_fault (fault.Base m) q) is
 
@@ -67,17 +67,17 @@ fetch-back q r s t same took has is after =
 pub padded-part : (content old new : List Sector) (count piece : ℕ) → new ≡ content ++ replicate (length old - length content) zero_sector → length old ≡ piece → length content ≡ count → new ≡ content ++ replicate (piece - count) zero_sector
 padded-part content old new count piece is long read = is ∙ ap (λ (n : ℕ). content ++ replicate (n - length content) zero_sector) long ∙ ap (λ (n : ℕ). content ++ replicate (piece - n) zero_sector) read
 
-pub base-look-settled : {answer : Settled} {shape : Shape} {i : ℕ} {passes passes' : List Pass} {history history' : List Entry} {B : Type 0} {h : base.Ghosts B} {b b' : B} {old new out out' : List Sector} {q : Pass} {ticket : Ticket}
-    → slice_get passes i ≡ Some q → q.fetch ≡ Some ticket → (settled : BufferSettled h answer ticket old new b b')
-    → EndsRead answer q (fault.Base ticket.number) (settled.content ++ replicate (q.piece - ticket.count) zero_sector) i passes passes' history history' out out' → BaseLookSettled answer shape i passes passes' history history' (h.flight b) (h.flight b') (h.tells b') (h.content b') out out'
+pub base-look-settled : {answer : Settled} {i : ℕ} {r r' : RequestState} {B : Type 0} {h : base.Ghosts B} {b b' : B} {old new out out' : List Sector} {q : Pass} {ticket : Ticket}
+    → slice_get r.passes i ≡ Some q → q.fetch ≡ Some ticket → (settled : BufferSettled h answer ticket old new b b')
+    → EndsRead answer (settled.content ++ replicate (q.piece - ticket.count) zero_sector) (fault.Base ticket.number) i r r' out out' → BaseLookSettled h answer i r r' b b' out out'
 base-look-settled {q = q} {ticket} there has settled effect = record {
   pass = q;
   ticket = ticket;
+  front = settled.front;
   content = settled.content;
   there = there;
   has = has;
   long = settled.long;
-  settles = (settled.front, settled.content, settled.settles.settles);
   effect = effect;
-  gives = settled.settles.gives;
+  call = settled.settles;
 }

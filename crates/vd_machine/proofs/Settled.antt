@@ -1,6 +1,7 @@
 -- A pass after the settle of what it has in flight.
-use Rattle.std.proofs.Common.{◌≡◌, ℕ, ◌-◌, List, ◌++◌, length, replicate, sym, ◌∙◌, ap, Some, None, slice_get, slice_set}
+use Rattle.std.proofs.Common.{◌≡◌, ℕ, ◌-◌, Bool, List, ◌++◌, length, replicate, sym, ◌∙◌, ap, Some, None, slice_get, slice_set}
 use Rattle.vd_law.specs.declared.entry.Sector.{Sector}
+use Rattle.vd_law.specs.Entries.{Entry}
 use Rattle.vd_device.specs.declared.base.Base as base
 use Rattle.vd_device.specs.declared.ticket.Ticket.{Ticket}
 use Rattle.vd_device.specs.declared.settled.Settled.{Settled}
@@ -9,23 +10,24 @@ use Rattle.vd_passes.specs.declared.pass.Pass.{Pass}
 use Rattle.vd_passes.specs.declared.pass.Fault.TheVariants as fault
 use Rattle.vd_passes.specs.Buffers.{BufferSettled}
 use Rattle.vd_passes.specs.Passes.{after_filled, after_fault}
+use Rattle.vd_passes.specs.Requests.{requests}
 use Rattle.vd_passes.specs.Steps.{FetchSettled, after_base_read}
 use Rattle.vd_format.specs.Background.{zero_sector}
 
 -- A base read of a block.
 pub fetch-settled : {answer : Settled} {shape : Shape} {i : ℕ} {passes passes' : List Pass} {B : Type 0} {h : base.Ghosts B} {b b' : B} {old new : List Sector} {q : Pass} {ticket : Ticket}
     → slice_get passes i ≡ Some q → q.fetch ≡ Some ticket → (settled : BufferSettled h answer ticket old new b b') → passes' ≡ slice_set passes i (after_base_read answer q ticket shape.block settled.content)
-    → FetchSettled answer shape i passes passes' (h.flight b) (h.flight b') (h.tells b') (h.content b')
-fetch-settled {q = q} {ticket} there has settled after = record {
+    → (fresh : List Bool) (entries : List Entry) → FetchSettled h answer i (requests shape fresh passes entries) (requests shape fresh passes' entries) b b'
+fetch-settled {shape = shape} {q = q} {ticket} there has settled after fresh entries = record {
   pass = q;
   ticket = ticket;
+  front = settled.front;
   content = settled.content;
   there = there;
   has = has;
   long = settled.long;
-  settles = (settled.front, settled.content, settled.settles.settles);
-  after = after;
-  gives = settled.settles.gives;
+  after = ap (λ (ps : List Pass). requests shape fresh ps entries) after;
+  call = settled.settles;
 }
 
 module _ (q r s : Pass) (took : r ≡ record q { fetch = None }) where

@@ -1,5 +1,5 @@
 -- A request is asked.
-use Rattle.std.specs.Prelude.{ℕ, ◌≡◌, ◌↔◌, ◌⊎◌, ◌+◌, ◌-◌, ◌/◌, ◌^◌, ◌<◌, ◌≤◌, false, List, [], ◌∷◌, Option, None, Some, length}
+use Rattle.std.specs.Prelude.{ℕ, ◌≡◌, ◌↔◌, ◌⊎◌, ◌+◌, ◌-◌, ◌/◌, ◌^◌, ◌<◌, ◌≤◌, Bool, false, List, [], ◌∷◌, Option, None, Some, length}
 use Rattle.vd_law.specs.declared.entry.Room.{Room}
 use Rattle.vd_law.specs.declared.entry.Answer.{Answer}
 use Rattle.vd_law.specs.declared.entry.Answer.TheVariants.{Ok, NoRoom, Full}
@@ -11,6 +11,7 @@ use Rattle.vd_table.specs.Tables.{TableState, Has, IsOneToOne, used_chunks}
 use Rattle.vd_table.specs.Runs.{lacking, TakesRun}
 use Rattle.vd_passes.specs.declared.shape.Shape.{Shape}
 use Rattle.vd_passes.specs.declared.pass.Pass.{Pass}
+use Rattle.vd_passes.specs.Requests.{RequestState, requests}
 use Rattle.vd_passes.specs.Steps.{IsAt, Asks, AsksFull}
 use Rattle.vd_machine.specs.Adding.{AddsEntries}
 use Rattle.vd_law.specs.Needs.{request_room}
@@ -94,6 +95,10 @@ pub record AskState : Type 0 where
 abbrev pub ask_state : Shape → TableState → List Pass → HistoryState → (left : Room) → AskState
 ask_state shape table passes history left = record { shape = shape; table = table; passes = passes; history = history; left = left }
 
+-- what the passes work on, with whatever blocks are fresh: no ask changes these
+abbrev pub asking_requests : (fresh : List Bool) → AskState → RequestState
+asking_requests fresh a = requests a.shape fresh a.passes a.history.log.entries
+
 -- nothing has changed
 pub record IsSame (a a' : AskState) : Type 0 where
   pub table_same : a'.table ≡ a.table
@@ -108,7 +113,7 @@ pub record EndsFull (request : Asked) (needed free events i : ℕ) (a a' : AskSt
   pub free_is : free + used_chunks a.table ≡ a.table.storage
   pub fewer : free < needed
   pub table_same : a'.table ≡ a.table
-  pub asks : AsksFull request needed free i a.passes a'.passes a.history.log.entries a'.history.log.entries
+  pub asks : (fresh : List Bool) → AsksFull request needed free i (asking_requests fresh a) (asking_requests fresh a')
   pub extends : AddsEntries (events ∷ events ∷ []) (length (asked_content request)) a.history a'.history
   pub left_after : a'.left ≡ room_without a.left 2 (length (asked_content request))
 
@@ -116,7 +121,8 @@ pub record EndsFull (request : Asked) (needed free events i : ℕ) (a a' : AskSt
 pub record EndsAsked (request : Asked) (events i : ℕ) (a a' : AskState) : Type 0 where
   pub enough : Suffices (request_room a.shape.block request) a.left
   pub claims : Claims a.table a'.table (run_from a.shape request) (run_count a.shape request)
-  pub asks : Asks request ((request_room a.shape.block request).events - 1) ((request_room a.shape.block request).sectors - length (asked_content request)) i a.passes a'.passes a.history.log.entries a'.history.log.entries
+  pub asks : (fresh : List Bool) → Asks request ((request_room a.shape.block request).events - 1)
+      ((request_room a.shape.block request).sectors - length (asked_content request)) i (asking_requests fresh a) (asking_requests fresh a')
   pub extends : AddsEntries (events ∷ []) (length (asked_content request)) a.history a'.history
   pub left_after : a'.left ≡ room_without a.left (request_room a.shape.block request).events (request_room a.shape.block request).sectors
 

@@ -5,6 +5,7 @@ use Rattle.vd_regions.specs.declared.regions.Mode.TheVariants.{Shared, Own}
 use Rattle.vd_regions.specs.Holding.{Hinders, IsFirstHindrance}
 use Rattle.vd_passes.specs.declared.shape.Shape.{Shape}
 use Rattle.vd_passes.specs.declared.pass.Pass.{Pass}
+use Rattle.vd_passes.specs.Requests.{RequestState}
 use Rattle.vd_passes.specs.Places.{place_of}
 use Rattle.vd_passes.specs.Steps.{IsPieceToEnter, Enters}
 
@@ -24,18 +25,18 @@ pub record CanEnter (shape : Shape) (chunks : List (Option ℕ)) (p : Pass) : Ty
   pub places : (b x : ℕ) → place_of shape chunks b ≡ Some x → x < 2 ^ 64
 
 -- the pass is kept out by another, the lowest that keeps it out, and nothing changes
-pub record IsKeptOut (shape : Shape) (regions regions' : List (Option Region)) (i : ℕ) (passes passes' : List Pass) (by : ℕ) : Type 0 where
+pub record IsKeptOut (regions regions' : List (Option Region)) (i by : ℕ) (r r' : RequestState) : Type 0 where
   pub pass : Pass
-  pub there : slice_get passes i ≡ Some pass
+  pub there : slice_get r.passes i ≡ Some pass
   pub block : ℕ
   pub piece : ℕ
-  pub is_next : IsPieceToEnter shape pass block piece
+  pub is_next : IsPieceToEnter r.shape pass block piece
   pub hindrance : IsFirstHindrance regions i (wanted_region pass block) by
   pub regions_same : regions' ≡ regions
-  pub passes_same : passes' ≡ passes
+  pub same : r' ≡ r
 
 -- it has the region, and nobody keeps it out
-pub record EntersBlock (shape : Shape) (chunks : List (Option ℕ)) (regions regions' : List (Option Region)) (i : ℕ) (passes passes' : List Pass) : Type 0 where
-  pub enters : Enters shape (place_of shape chunks) i passes passes'
+pub record EntersBlock (chunks : List (Option ℕ)) (regions regions' : List (Option Region)) (i : ℕ) (r r' : RequestState) : Type 0 where
+  pub enters : Enters (place_of r.shape chunks) i r r'
   pub free : (by : ℕ) → Hinders regions i (wanted_region enters.pass enters.block) by → ⊥
   pub regions_after : regions' ≡ slice_set regions i (Some (wanted_region enters.pass enters.block))

@@ -33,7 +33,7 @@ module _ {S : Type 0} (g : store.Ghosts S) where
   -- The piece can be written, and its Issue added: the pass holds a block that is fresh or that its piece is the whole of, or has
   -- the block in its buffer.
   pub record CanIssue (shape : Shape) (fresh : List Bool) (content : List Sector) (history : HistoryState) (s : S) (p : Pass) : Type 0 where
-    pub writable : CanWrite shape (g.sectors s) (g.depth s) (g.flight s) p
+    pub writable : CanWrite g shape s p
     pub inside : p.done + p.piece ≤ length content
     pub way : ((p.phase ≡ Held) × ((slice_get fresh p.block ≡ Some true) ⊎ (p.piece ≡ shape.block))) ⊎ (p.phase ≡ Filled)
     pub room : CanAdd p.piece history (g.events s)

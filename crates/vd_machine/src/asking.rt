@@ -1,12 +1,14 @@
 //! A request is asked, and a reply is given, in the room that the history has left.
 
-ghost use Rattle.std.specs.Prelude.{◌≡◌, ◌+◌, ◌-◌, ◌*◌, ◌/◌, ◌^◌, ◌<◌, ◌≤◌, ◌⊎◌, [], ◌∷◌, None, Some, IfSome, IfNone, length};
+ghost use Rattle.std.specs.Prelude.{Bool, List, ◌≡◌, ◌+◌, ◌-◌, ◌*◌, ◌/◌, ◌^◌, ◌<◌, ◌≤◌, ◌⊎◌, [], ◌∷◌, None, Some, IfSome, IfNone, length};
 ghost use Rattle.vd_law.specs.Entries.{asked_of};
 ghost use Rattle.vd_law.specs.declared.entry.Answer.TheVariants.{Full};
 ghost use Rattle.vd_law.specs.Logs.{asked_content};
 ghost use Rattle.vd_law.specs.Rules.{IsInside};
 ghost use Rattle.vd_table.specs.Tables.{used_chunks};
 ghost use Rattle.vd_table.specs.Runs.{lacking};
+ghost use Rattle.vd_passes.specs.declared.shape.Shape.{Shape as AnyShape};
+ghost use Rattle.vd_passes.specs.Requests.{requests};
 ghost use Rattle.vd_passes.specs.Steps.{IsAt, Asks, AsksFull, Replies};
 ghost use Rattle.vd_device.specs.Disks.{IsRunning};
 ghost use Rattle.vd_machine.specs.Adding.{CanAdd, AddsEntries};
@@ -90,8 +92,8 @@ fn ask_request<S: Store>(
     requires there { IsAt passes.old.items pass (λ p. p.call < 2 ^ 64 - 1) }
     requires few { length passes.old.items ≤ 64 }
     requires room { CanAdd (length (asked_content (asked_of request))) history.old (S.events store.now) }
-    ensures asks { Asks (asked_of request.entry) left.events left.sectors pass
-        passes.old.items passes.new.items history.old.log.entries history.new.log.entries }
+    ensures asks { (shape : AnyShape) (fresh : List Bool) → Asks (asked_of request.entry) left.events left.sectors pass
+        (requests shape fresh passes.old.items history.old.log.entries) (requests shape fresh passes.new.items history.new.log.entries) }
     ensures extends { AddsEntries (S.events store.now ∷ []) (length (asked_content (asked_of request.entry))) history.old history.new }
     ensures running { S.tells store.now → IsRunning (S.events store.now) (S.disk store.now) }
 {
@@ -115,7 +117,8 @@ fn ask_full<S: Store>(
     requires room { CanAdd (length (asked_content (asked_of request))) history.old (S.events store.now) }
     requires reply { 1 < history.old.log.left.events }
     ensures answer { result ≡ Full full.0 full.1 }
-    ensures asks { AsksFull (asked_of request.entry) full.0 full.1 pass passes.old.items passes.new.items history.old.log.entries history.new.log.entries }
+    ensures asks { (shape : AnyShape) (fresh : List Bool) → AsksFull (asked_of request.entry) full.0 full.1 pass
+        (requests shape fresh passes.old.items history.old.log.entries) (requests shape fresh passes.new.items history.new.log.entries) }
     ensures extends { AddsEntries (S.events store.now ∷ S.events store.now ∷ []) (length (asked_content (asked_of request.entry))) history.old history.new }
     ensures running { S.tells store.now → IsRunning (S.events store.now) (S.disk store.now) }
 {
@@ -139,7 +142,8 @@ fn reply_request<S: Store>(
     requires there { pass < length passes.old.items }
     requires few { length passes.old.items ≤ 64 }
     requires room { CanAdd 0 history.old (S.events store.now) }
-    ensures replies { Replies result pass passes.old.items passes.new.items history.old.log.entries history.new.log.entries }
+    ensures replies { (shape : AnyShape) (fresh : List Bool) → Replies result pass
+        (requests shape fresh passes.old.items history.old.log.entries) (requests shape fresh passes.new.items history.new.log.entries) }
     ensures extends { AddsEntries (S.events store.now ∷ []) 0 history.old history.new }
     ensures running { S.tells store.now → IsRunning (S.events store.now) (S.disk store.now) }
 {
@@ -199,7 +203,8 @@ pub fn reply_in_room<S: Store>(
     pass: usize,
 ) -> Answer
     requires can { IsAt passes.old.items pass (CanReply passes.old.items history.old spare.old (S.events store.now)) }
-    ensures replies { Replies result pass passes.old.items passes.new.items history.old.log.entries history.new.log.entries }
+    ensures replies { (shape : AnyShape) (fresh : List Bool) → Replies result pass
+        (requests shape fresh passes.old.items history.old.log.entries) (requests shape fresh passes.new.items history.new.log.entries) }
     ensures extends { AddsEntries (S.events store.now ∷ []) 0 history.old history.new }
     ensures left { IsAt passes.old.items pass (λ p. spare.new ≡ room_after_reply p spare.old) }
     ensures running { S.tells store.now → IsRunning (S.events store.now) (S.disk store.now) }

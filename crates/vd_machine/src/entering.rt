@@ -1,7 +1,9 @@
 //! A pass enters the block of its next piece.
 
-ghost use Rattle.std.specs.Prelude.{ℕ, ◌≡◌, ◌+◌, ◌-◌, ◌*◌, ◌/◌, ◌^◌, ◌<◌, ◌≤◌, IfErr, OnOk, length, None, Some, slice_get};
+ghost use Rattle.std.specs.Prelude.{ℕ, Bool, List, ◌≡◌, ◌+◌, ◌-◌, ◌*◌, ◌/◌, ◌^◌, ◌<◌, ◌≤◌, IfErr, OnOk, length, None, Some, slice_get};
 ghost use Rattle.vd_passes.specs.Places.{place_of};
+ghost use Rattle.vd_law.specs.Entries.{Entry};
+ghost use Rattle.vd_passes.specs.Requests.{requests};
 ghost use Rattle.vd_passes.specs.Steps.{IsAt, IsPieceToEnter};
 ghost use Rattle.vd_machine.specs.Entering.{CanEnter, EntersBlock, IsKeptOut};
 
@@ -51,8 +53,10 @@ pub fn enter_block(
     requires can { IsAt passes.old.items pass (CanEnter shape.now table.now.chunks) }
     requires few { length passes.old.items ≤ 64 }
     requires nothing { slice_get regions.old pass ≡ Some None }
-    ensures busy { IfErr result (λ busy. IsKeptOut shape.now regions.old regions.new pass passes.old.items passes.new.items busy.by) }
-    ensures enters { OnOk result (EntersBlock shape.now table.now.chunks regions.old regions.new pass passes.old.items passes.new.items) }
+    ensures busy { IfErr result (λ busy. (fresh : List Bool) (entries : List Entry) → IsKeptOut regions.old regions.new pass busy.by
+        (requests shape.now fresh passes.old.items entries) (requests shape.now fresh passes.new.items entries)) }
+    ensures enters { OnOk result ((fresh : List Bool) (entries : List Entry) → EntersBlock table.now.chunks regions.old regions.new pass
+        (requests shape.now fresh passes.old.items entries) (requests shape.now fresh passes.new.items entries)) }
 {
     let p = &passes[pass];
     let (block, piece) = next_piece(shape, p);

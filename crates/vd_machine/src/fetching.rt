@@ -1,10 +1,12 @@
 //! The base read that fills a pass's buffer with its block.
 
-ghost use Rattle.std.specs.Prelude.{◌≡◌, ◌-◌, ◌*◌, ◌<◌, ◌≤◌};
+ghost use Rattle.std.specs.Prelude.{Bool, List, ◌≡◌, ◌-◌, ◌*◌, ◌<◌, ◌≤◌};
 ghost use Rattle.vd_device.specs.declared.settled.Settled.{Settled as AnySettled};
 ghost use Rattle.vd_device.specs.Calls.{IsCaused};
 ghost use Rattle.vd_passes.specs.Laying.{count_below};
 ghost use Rattle.vd_passes.specs.Causes.{OfBase, HasNextTicket};
+ghost use Rattle.vd_law.specs.Entries.{Entry};
+ghost use Rattle.vd_passes.specs.Requests.{requests};
 ghost use Rattle.vd_passes.specs.Steps.{IsAt, CanReadBase, IsWaitingForBase, FetchSettled};
 ghost use Rattle.vd_machine.specs.Outcomes.{outcome_of};
 ghost use Rattle.vd_device.specs.Bases.{KeepsBase};
@@ -24,8 +26,9 @@ pub fn below(shape: &Shape, first: u64, count: u64) -> u64
 
 /// Submits the base read of a pass's block, or fills the buffer with zeros where the base has nothing of it.
 pub fn fetch_block<B: Base>(base: &mut B, shape: &Shape, passes: &mut Vec<Pass>, pass: usize)
-    requires ready { IsAt passes.old.items pass (CanReadBase shape.now (B.sectors base.old) (B.depth base.old) (B.flight base.old)) }
-    ensures fetches { FetchesBlock B.Base shape.now pass passes.old.items passes.new.items base.old base.new }
+    requires ready { IsAt passes.old.items pass (CanReadBase B.Base shape.now base.old) }
+    ensures fetches { (fresh : List Bool) (entries : List Entry) → FetchesBlock B.Base pass
+        (requests shape.now fresh passes.old.items entries) (requests shape.now fresh passes.new.items entries) base.old base.new }
     ensures number { IsAt passes.new.items pass (HasNextTicket OfBase (B.last base.old) (B.last base.new)) }
     ensures keeps { KeepsBase B.Base base.old base.new }
 {
@@ -48,9 +51,9 @@ pub fn settle_block<B: Base>(
     passes: &mut Vec<Pass>,
     pass: usize,
 ) -> Outcome
-    requires waiting { IsAt passes.old.items pass (λ p. (w : IsWaitingForBase shape.now (B.flight base.old) p) × (w.ticket.count ≤ shape.now.block)) }
-    ensures settled { (answer : AnySettled) × (result ≡ outcome_of answer) × FetchSettled answer shape.now pass
-        passes.old.items passes.new.items (B.flight base.old) (B.flight base.new) (B.tells base.new) (B.content base.new)
+    requires waiting { IsAt passes.old.items pass (λ p. (w : IsWaitingForBase B.Base shape.now base.old p) × (w.ticket.count ≤ shape.now.block)) }
+    ensures settled { (answer : AnySettled) × (result ≡ outcome_of answer) × ((fresh : List Bool) (entries : List Entry) → FetchSettled B.Base answer pass
+        (requests shape.now fresh passes.old.items entries) (requests shape.now fresh passes.new.items entries) base.old base.new)
         × IsCaused answer (B.faults base.old) (B.faults base.new) (B.late base.old) (B.late base.new) }
     ensures number { B.last base.new ≡ B.last base.old }
     ensures keeps { KeepsBase B.Base base.old base.new }

@@ -7,6 +7,7 @@ ghost use Rattle.vd_device.specs.Calls.{IsCaused};
 ghost use Rattle.vd_device.specs.Disks.{IsRunning, TellsOrStoppedSince};
 ghost use Rattle.vd_passes.specs.declared.pass.Phase.TheVariants.{Held, Filled};
 ghost use Rattle.vd_passes.specs.Causes.{OfStore, HasNextTicket};
+ghost use Rattle.vd_passes.specs.Requests.{requests};
 ghost use Rattle.vd_passes.specs.Steps.{IsAt, CanWrite, IsWaiting, Issues, WriteSettled};
 ghost use Rattle.vd_machine.specs.Adding.{CanAdd, AddsEntries};
 ghost use Rattle.vd_machine.specs.Outcomes.{outcome_of, numbers_of};
@@ -26,7 +27,7 @@ use vd_passes::shape::Shape;
 
 /// Submits the write of a piece: by itself, or in the buffer with the block round it.
 fn submit_piece<S: Store>(store: &mut S, shape: &Shape, p: &mut Pass, part: &[Sector]) -> Ticket
-    requires ready { CanWrite shape.now (S.sectors store.old) (S.depth store.old) (S.flight store.old) p.old }
+    requires ready { CanWrite S.Store shape.now store.old p.old }
     requires part { length part.now ≡ p.old.piece }
     requires phase { (p.old.phase ≡ Held) ⊎ (p.old.phase ≡ Filled) }
     ensures { SubmitsPiece S.Store shape.now p.old p.new part.now result store.old store.new }
@@ -53,9 +54,8 @@ pub fn issue_piece<S: Store>(
 )
     requires ready { IsAt passes.old.items pass (CanIssue S.Store shape.now fresh.now.bits content.now history.old store.old) }
     requires few { length passes.old.items ≤ 64 }
-    ensures issues { Issues shape.now fresh.now.bits content.now pass passes.old.items passes.new.items history.old.log.entries history.new.log.entries
-        (S.flight store.old) (S.flight store.new) (S.tells store.old) (S.tells store.new) (S.disk store.old) (S.disk store.new)
-        (S.last store.old) (S.last store.new) }
+    ensures issues { Issues S.Store content.now pass (requests shape.now fresh.now.bits passes.old.items history.old.log.entries)
+        (requests shape.now fresh.now.bits passes.new.items history.new.log.entries) store.old store.new }
     ensures extends { IsAt passes.old.items pass (λ p. AddsEntries (S.events store.old ∷ []) p.piece history.old history.new) }
     ensures number { IsAt passes.new.items pass (HasNextTicket OfStore (S.last store.old) (S.last store.new)) }
     ensures running { S.tells store.old → IsRunning (S.events store.old) (S.disk store.old) }
@@ -87,13 +87,12 @@ pub fn settle_write<S: Store>(
     pass: usize,
 ) -> Outcome
     requires blocks { blocks_of keeper.old.header ≡ length fresh.old.bits }
-    requires waiting { IsAt passes.old.items pass (λ p. IsWaiting Write shape.now (S.flight store.old) p × (p.block < length fresh.old.bits)) }
+    requires waiting { IsAt passes.old.items pass (λ p. IsWaiting S.Store Write shape.now store.old p × (p.block < length fresh.old.bits)) }
     requires few { length passes.old.items ≤ 64 }
     requires room { CanAdd 0 history.old (S.events store.old) }
     ensures settled { (answer : AnySettled) × (result ≡ outcome_of answer)
-        × WriteSettled answer pass fresh.old.bits fresh.new.bits passes.old.items passes.new.items history.old.log.entries history.new.log.entries
-        (S.flight store.old) (S.flight store.new) (S.tells store.old) (S.tells store.new) (S.disk store.old) (S.disk store.new)
-        (S.last store.old) (S.last store.new)
+        × WriteSettled S.Store answer pass (requests shape.now fresh.old.bits passes.old.items history.old.log.entries)
+        (requests shape.now fresh.new.bits passes.new.items history.new.log.entries) store.old store.new
         × AddsEntries (numbers_of answer (S.events store.new)) 0 history.old history.new
         × IsCaused answer (S.faults store.old) (S.faults store.new) (S.late store.old) (S.late store.new)
         × IsAt passes.old.items pass (λ p. keeper.new ≡ keeper_after_write answer p.block keeper.old) }

@@ -1,6 +1,6 @@
 //! The read of a piece: from the store where its block is fresh, else from the base, with zeros where that has nothing.
 
-ghost use Rattle.std.specs.Prelude.{◌≡◌, ◌⊎◌, ◌+◌, ◌-◌, ◌*◌, ◌^◌, [], ◌∷◌, ◌<◌, ◌≤◌, length, replicate, None};
+ghost use Rattle.std.specs.Prelude.{Bool, List, ◌≡◌, ◌⊎◌, ◌+◌, ◌-◌, ◌*◌, ◌^◌, [], ◌∷◌, ◌<◌, ◌≤◌, length, replicate, None};
 ghost use Rattle.vd_device.specs.declared.ticket.Kind.TheVariants.{Read};
 ghost use Rattle.vd_device.specs.declared.settled.Settled.{Settled as AnySettled};
 ghost use Rattle.vd_device.specs.Calls.{IsCaused};
@@ -9,6 +9,9 @@ ghost use Rattle.vd_device.specs.Disks.{IsRunning, TellsOrStoppedSince};
 ghost use Rattle.vd_passes.specs.Buffers.{BufferSettled};
 ghost use Rattle.vd_passes.specs.Laying.{count_below};
 ghost use Rattle.vd_passes.specs.Causes.{OfStore, OfBase, HasNextTicket};
+ghost use Rattle.vd_law.specs.Entries.{Entry};
+ghost use Rattle.vd_passes.specs.declared.shape.Shape.{Shape as AnyShape};
+ghost use Rattle.vd_passes.specs.Requests.{requests};
 ghost use Rattle.vd_passes.specs.Steps.{IsAt, CanRead, CanReadBase, IsWaiting, IsWaitingForBase, Looks, LooksAtBase, Sees, LookSettled, BaseLookSettled};
 ghost use Rattle.vd_machine.specs.Adding.{CanAdd, AddsEntries};
 ghost use Rattle.vd_machine.specs.Outcomes.{outcome_of, read_numbers_of, read_sectors_of};
@@ -28,9 +31,9 @@ use vd_passes::shape::Shape;
 
 /// Submits the read of a pass's piece from its place in the store.
 pub fn look_at_store<S: Store>(store: &mut S, shape: &Shape, passes: &mut Vec<Pass>, pass: usize)
-    requires ready { IsAt passes.old.items pass (CanRead shape.now (S.sectors store.old) (S.depth store.old) (S.flight store.old)) }
-    ensures looks { Looks shape.now pass passes.old.items passes.new.items (S.flight store.old) (S.flight store.new) (S.tells store.old)
-        (S.tells store.new) (S.disk store.old) (S.disk store.new) (S.last store.old) (S.last store.new) }
+    requires ready { IsAt passes.old.items pass (CanRead S.Store shape.now store.old) }
+    ensures looks { (fresh : List Bool) (entries : List Entry) → Looks S.Store pass
+        (requests shape.now fresh passes.old.items entries) (requests shape.now fresh passes.new.items entries) store.old store.new }
     ensures number { IsAt passes.new.items pass (HasNextTicket OfStore (S.last store.old) (S.last store.new)) }
     ensures stopped { S.records store.new → TellsOrStoppedSince (S.tells store.new) (S.events store.new) (S.disk store.old) (S.disk store.new) }
     ensures keeps { KeepsStore S.Store store.old store.new }
@@ -43,9 +46,10 @@ pub fn look_at_store<S: Store>(store: &mut S, shape: &Shape, passes: &mut Vec<Pa
 
 /// Submits the read of what the base has of a pass's piece.
 pub fn look_at_base<B: Base>(base: &mut B, shape: &Shape, passes: &mut Vec<Pass>, pass: usize)
-    requires ready { IsAt passes.old.items pass (λ p. CanReadBase shape.now (B.sectors base.old) (B.depth base.old) (B.flight base.old) p
+    requires ready { IsAt passes.old.items pass (λ p. CanReadBase B.Base shape.now base.old p
         × (0 < count_below shape.now.limit (p.first + p.done) p.piece)) }
-    ensures looks { LooksAtBase shape.now pass passes.old.items passes.new.items (B.flight base.old) (B.flight base.new) }
+    ensures looks { (fresh : List Bool) (entries : List Entry) → LooksAtBase B.Base pass
+        (requests shape.now fresh passes.old.items entries) (requests shape.now fresh passes.new.items entries) base.old base.new }
     ensures number { IsAt passes.new.items pass (HasNextTicket OfBase (B.last base.old) (B.last base.new)) }
     ensures keeps { KeepsBase B.Base base.old base.new }
 {
@@ -66,8 +70,8 @@ pub fn see_zeros<S: Store>(
     requires ready { IsAt passes.old.items pass (λ p. (p.done + p.piece ≤ length out.old) × (p.first + p.count ≤ 2 ^ 26)
         × (p.done + p.piece ≤ p.count) × (p.ticket ≡ None) × (p.fetch ≡ None) × CanAdd p.piece history.old (S.events store.now)) }
     requires few { length passes.old.items ≤ 64 }
-    ensures sees { IsAt passes.old.items pass (λ p. Sees (replicate p.piece zero_sector) pass
-        passes.old.items passes.new.items history.old.log.entries history.new.log.entries out.old out.new
+    ensures sees { IsAt passes.old.items pass (λ p. ((shape : AnyShape) (fresh : List Bool) → Sees (replicate p.piece zero_sector) pass
+        (requests shape fresh passes.old.items history.old.log.entries) (requests shape fresh passes.new.items history.new.log.entries) out.old out.new)
         × AddsEntries (S.events store.now ∷ []) p.piece history.old history.new) }
     ensures running { S.tells store.now → IsRunning (S.events store.now) (S.disk store.now) }
 {
@@ -94,13 +98,12 @@ pub fn settle_store_look<S: Store>(
     pass: usize,
     out: &mut [Sector],
 ) -> Outcome
-    requires waiting { IsAt passes.old.items pass (λ p. (w : IsWaiting Read shape.now (S.flight store.old) p) × (w.ticket.count ≡ p.piece)
+    requires waiting { IsAt passes.old.items pass (λ p. (w : IsWaiting S.Store Read shape.now store.old p) × (w.ticket.count ≡ p.piece)
         × (p.done + p.piece ≤ length out.old) × CanAdd p.piece history.old (S.events store.old)) }
     requires few { length passes.old.items ≤ 64 }
-    ensures settled { (answer : AnySettled) × (result ≡ outcome_of answer) × LookSettled answer pass
-        passes.old.items passes.new.items history.old.log.entries history.new.log.entries
-        (S.flight store.old) (S.flight store.new) (S.tells store.old) (S.tells store.new) (S.disk store.old) (S.disk store.new)
-        (S.last store.old) (S.last store.new) out.old out.new
+    ensures settled { (answer : AnySettled) × (result ≡ outcome_of answer) × ((fresh : List Bool) → LookSettled S.Store answer pass
+        (requests shape.now fresh passes.old.items history.old.log.entries) (requests shape.now fresh passes.new.items history.new.log.entries)
+        store.old store.new out.old out.new)
         × IsAt passes.old.items pass (λ p. AddsEntries (read_numbers_of answer (S.events store.new)) (read_sectors_of answer p.piece) history.old history.new)
         × IsCaused answer (S.faults store.old) (S.faults store.new) (S.late store.old) (S.late store.new) }
     ensures running { S.tells store.new → (history.new ≡ history.old) ⊎ IsRunning (S.events store.new) (S.disk store.new) }
@@ -158,12 +161,12 @@ pub fn settle_base_look<S: Store, B: Base>(
     pass: usize,
     out: &mut [Sector],
 ) -> Outcome
-    requires waiting { IsAt passes.old.items pass (λ p. (w : IsWaitingForBase shape.now (B.flight base.old) p) × (w.ticket.count ≤ p.piece)
+    requires waiting { IsAt passes.old.items pass (λ p. (w : IsWaitingForBase B.Base shape.now base.old p) × (w.ticket.count ≤ p.piece)
         × (p.done + p.piece ≤ length out.old) × CanAdd p.piece history.old (S.events store.now)) }
     requires few { length passes.old.items ≤ 64 }
-    ensures settled { (answer : AnySettled) × (result ≡ outcome_of answer) × BaseLookSettled answer shape.now pass
-        passes.old.items passes.new.items history.old.log.entries history.new.log.entries
-        (B.flight base.old) (B.flight base.new) (B.tells base.new) (B.content base.new) out.old out.new
+    ensures settled { (answer : AnySettled) × (result ≡ outcome_of answer) × ((fresh : List Bool) → BaseLookSettled B.Base answer pass
+        (requests shape.now fresh passes.old.items history.old.log.entries) (requests shape.now fresh passes.new.items history.new.log.entries)
+        base.old base.new out.old out.new)
         × IsAt passes.old.items pass (λ p. AddsEntries (read_numbers_of answer (S.events store.now)) (read_sectors_of answer p.piece) history.old history.new)
         × IsCaused answer (B.faults base.old) (B.faults base.new) (B.late base.old) (B.late base.new) }
     ensures running { S.tells store.now → (history.new ≡ history.old) ⊎ IsRunning (S.events store.now) (S.disk store.now) }

@@ -16,17 +16,18 @@ use Rattle.vd_law.specs.Rules.{Each, IsInTurn, IsUnderWay, IsRegular}
 use Rattle.vd_law.proofs.Opening.{same_call-is}
 use Rattle.vd_law.proofs.OpenLaws.{progress-other}
 use Rattle.vd_law.proofs.CallLaws.{fresh-call}
+use Rattle.vd_device.specs.declared.store.Store as store
+use Rattle.vd_device.specs.declared.base.Base as base
 use Rattle.vd_device.specs.declared.ticket.Ticket.{Ticket}
-use Rattle.vd_passes.specs.declared.shape.Shape.{Shape}
+use Rattle.vd_passes.specs.Requests.{RequestState}
 use Rattle.vd_passes.specs.declared.pass.Pass.{Pass}
 use Rattle.vd_passes.specs.declared.pass.Phase.TheVariants.{Idle}
 use Rattle.vd_device.specs.declared.settled.Settled.{Settled}
 use Rattle.vd_device.specs.declared.settled.Settled.TheVariants as settled
-use Rattle.vd_device.specs.Disks.{Disk}
 use Rattle.vd_passes.specs.declared.pass.Fault.{Fault}
 use Rattle.vd_passes.specs.declared.pass.Fault.TheVariants as fault
 use Rattle.vd_passes.specs.Passes.{call_id as own, after_spending, after_ask, after_reply, after_issue, after_piece, after_fault}
-use Rattle.vd_passes.specs.Steps.{Asks, AsksFull, Replies, Issues, EndsWrite, WriteSettled, Sees, EndsRead, LookSettled, BaseLookSettled}
+use Rattle.vd_passes.specs.Steps.{Asks, AsksFull, Replies, Issues, after_write, WriteSettled, Sees, EndsRead, LookSettled, BaseLookSettled}
 use Rattle.vd_passes.specs.Standings.{standing}
 use Rattle.vd_passes.specs.Coherent.{IsCoherent}
 use Rattle.vd_passes.specs.Causes.{AreOfPasses}
@@ -157,21 +158,21 @@ pub standing-past : {passes : List Pass} {history : List Entry} → AreOfPasses 
 unfolding standing
 standing-past {passes} {history} are i past_it = none-of (length passes) (past history) (each-entry (OfFirst (length passes)) history nothing tt are.each) i past_it
 
-module _ {shape : Shape} {fresh : List Bool} {places : ℕ → Option ℕ} {passes : List Pass} {history : List Entry} {sectors depth base_sectors base_depth : ℕ} {flight base_flight : List Ticket → Type 0}
-    (co : IsCoherent shape fresh places passes history sectors depth base_sectors base_depth flight base_flight) (idle : (i : ℕ) (p : Pass) → slice_get passes i ≡ Some p → p.phase ≡ Idle) where
+module _ {S B : Type 0} {g : store.Ghosts S} {h : base.Ghosts B} {r : RequestState} {places : ℕ → Option ℕ} {s : S} {b : B}
+    (co : IsCoherent g h r places s b) (idle : (i : ℕ) (p : Pass) → slice_get r.passes i ≡ Some p → p.phase ≡ Idle) where
   -- the last call of each pass has its Reply
-  pub idle-answered : (i : ℕ) → i < length passes → 0 < (standing history i).call → (standing history i).progress.answered ≡ true
-  idle-answered i within some = elim (slice_get_cases passes i).1 [
+  pub idle-answered : (i : ℕ) → i < length r.passes → 0 < (standing r.entries i).call → (standing r.entries i).progress.answered ≡ true
+  idle-answered i within some = elim (slice_get_cases r.passes i).1 [
     | inl there ↦ (let stands = co.each i there.0 there.2 in let call = stands.call in stands.idle (idle i there.0 there.2) (omega (arith, call, some)))
     | inr past_it ↦ absurd (let more = past_it.0 in omega (arith, more, within))
   ]
 
-  -- so has each call of these passes
-  pub own-replied : (id : CallId) → id.pass < length passes → IsSome (progress (past history) id).asked → (progress (past history) id).answered ≡ true
+  -- so has each call of these r.passes
+  pub own-replied : (id : CallId) → id.pass < length r.passes → IsSome (progress (past r.entries) id).asked → (progress (past r.entries) id).answered ≡ true
   own-replied id within = call-replied co.regular id (idle-answered id.pass within)
 
-  pub coherent-replied : AreOfPasses passes history → (id : CallId) → IsSome (progress (past history) id).asked → (progress (past history) id).answered ≡ true
-  coherent-replied are = idle-replied co.regular (λ i some. elim (cases_lt i (length passes)) [
+  pub coherent-replied : AreOfPasses r.passes r.entries → (id : CallId) → IsSome (progress (past r.entries) id).asked → (progress (past r.entries) id).answered ≡ true
+  coherent-replied are = idle-replied co.regular (λ i some. elim (cases_lt i (length r.passes)) [
     | inl within ↦ idle-answered i within some
     | inr past_it ↦ absurd (let none = standing-past are i past_it in omega (arith, none, some))
   ])
@@ -200,57 +201,51 @@ many-set passes passes' i p' after = ap length after ∙ length-set' passes i p'
 pub set-of-passes : {passes passes' : List Pass} {history : List Entry} (i : ℕ) (p' : Pass) → passes' ≡ slice_set passes i p' → AreOfPasses passes history → AreOfPasses passes' history
 set-of-passes {passes} {passes'} i p' after are = kept-of-passes (many-set passes passes' i p' after) are
 
+-- a step that changes one pass and adds an entry of it
+one-more : (r : RequestState) {i : ℕ} {p : Pass} (p' : Pass) (e : Entry) → slice_get r.passes i ≡ Some p → (call_of e).pass ≡ i → AreOfPasses r.passes r.entries → AreOfPasses (slice_set r.passes i p') (r.entries ++ e ∷ [])
+one-more r {i} {p} p' e there of are = more-of-passes e (subst (λ (n : ℕ). n < length r.passes) (sym of) (slice_get_within r.passes i p there)) (many-set r.passes (slice_set r.passes i p') i p' refl) refl are
+
 -- the steps, one by one
-pub asks-of-passes : {request : Asked} {events sectors i : ℕ} {passes passes' : List Pass} {history history' : List Entry} → Asks request events sectors i passes passes' history history' → AreOfPasses passes history → AreOfPasses passes' history'
-asks-of-passes {request} {events} {sectors} {i} {passes} {passes'} step =
-    more-of-passes (Ask (own i (after_ask step.pass request events sectors)) request) (slice_get_within passes i step.pass step.there) (many-set passes passes' i (after_ask step.pass request events sectors) step.after) step.event
+pub asks-of-passes : {request : Asked} {events sectors i : ℕ} {r r' : RequestState} → Asks request events sectors i r r' → AreOfPasses r.passes r.entries → AreOfPasses r'.passes r'.entries
+asks-of-passes {request} {events} {sectors} {i} {r} {r'} step are = rw step.after (one-more r (after_ask step.pass request events sectors) (Ask (own i (after_ask step.pass request events sectors)) request) step.there refl are)
 
-pub asks_full-of-passes : {request : Asked} {needed free i : ℕ} {passes passes' : List Pass} {history history' : List Entry} → AsksFull request needed free i passes passes' history history' → AreOfPasses passes history → AreOfPasses passes' history'
-asks_full-of-passes {request} {needed} {free} {i} {passes} {passes'} step =
-    let within = slice_get_within passes i step.pass step.there in let id : CallId = record { pass = i; call = step.pass.call + 1 } in
-    two-of-passes (Ask id request) (Reply id (Full needed free)) within within (many-set passes passes' i (record step.pass { call = step.pass.call + 1 }) step.after) step.event
+pub asks_full-of-passes : {request : Asked} {needed free i : ℕ} {r r' : RequestState} → AsksFull request needed free i r r' → AreOfPasses r.passes r.entries → AreOfPasses r'.passes r'.entries
+asks_full-of-passes {request} {needed} {free} {i} {r} {r'} step are =
+    let within = slice_get_within r.passes i step.pass step.there in let id : CallId = record { pass = i; call = step.pass.call + 1 } in let p' : Pass = record step.pass { call = step.pass.call + 1 } in
+    rw step.after (two-of-passes (Ask id request) (Reply id (Full needed free)) within within (many-set r.passes (slice_set r.passes i p') i p' refl) refl are)
 
-pub replies-of-passes : {answer : Answer} {i : ℕ} {passes passes' : List Pass} {history history' : List Entry} → Replies answer i passes passes' history history' → AreOfPasses passes history → AreOfPasses passes' history'
-replies-of-passes {answer} {i} {passes} {passes'} step =
-    more-of-passes (Reply (own i step.pass) answer) (slice_get_within passes i step.pass step.there) (many-set passes passes' i (after_reply step.pass) step.after) step.event
+pub replies-of-passes : {answer : Answer} {i : ℕ} {r r' : RequestState} → Replies answer i r r' → AreOfPasses r.passes r.entries → AreOfPasses r'.passes r'.entries
+replies-of-passes {answer} {i} {r} {r'} step are = rw step.after (one-more r (after_reply step.pass) (Reply (own i step.pass) answer) step.there refl are)
 
-pub issues-of-passes : {shape : Shape} {fresh : List Bool} {content : List Sector} {i : ℕ} {passes passes' : List Pass} {history history' : List Entry} {flight flight' : List Ticket → Type 0} {tells tells' : Type 0} {disk disk' : Disk} {last last' : ℕ}
-    → Issues shape fresh content i passes passes' history history' flight flight' tells tells' disk disk' last last' → AreOfPasses passes history → AreOfPasses passes' history'
-issues-of-passes {content = content} {i = i} {passes = passes} {passes' = passes'} step =
-    let p = step.pass in
-    more-of-passes (Issue (own i p) (p.first + p.done) (slice_range content p.done (p.done + p.piece))) (slice_get_within passes i p step.there) (many-set passes passes' i (after_issue p step.ticket step.buffer) step.after) step.event
+pub sees-of-passes : {content : List Sector} {i : ℕ} {r r' : RequestState} {out out' : List Sector} → Sees content i r r' out out' → AreOfPasses r.passes r.entries → AreOfPasses r'.passes r'.entries
+sees-of-passes {content} {i} {r} {r'} {out} {out'} step are =
+    let p = step.pass in rw step.after (one-more r (after_spending 1 p.piece (after_piece p)) (Seen (own i p) (p.first + p.done) content) step.there refl are)
 
-ends-write : (answer : Settled) (p : Pass) (ticket : Ticket) (i : ℕ) (fresh fresh' : List Bool) (passes passes' : List Pass) (history history' : List Entry) → i < length passes
-    → EndsWrite answer p ticket i fresh fresh' passes passes' history history' → AreOfPasses passes history → AreOfPasses passes' history'
-ends-write settled.Done p ticket i fresh fresh' passes passes' history history' within ends are = more-of-passes (Done (own i p)) within (many-set passes passes' i (after_spending 1 0 (after_piece p)) ends.1) ends.2 are
-ends-write (settled.NotYet same) p ticket i fresh fresh' passes passes' history history' within ends are = rw (ends.1, ends.2) are
-ends-write (settled.Failed number) p ticket i fresh fresh' passes passes' history history' within ends are =
-    more-of-passes (Broke (own i p)) within (many-set passes passes' i (after_spending 1 0 (after_fault (fault.Store ticket.number) p)) ends.1) ends.2 are
+ends-write : (answer : Settled) (p : Pass) (ticket : Ticket) (i : ℕ) (r r' : RequestState) → slice_get r.passes i ≡ Some p → r' ≡ after_write answer p ticket i r → AreOfPasses r.passes r.entries → AreOfPasses r'.passes r'.entries
+ends-write settled.Done p ticket i r r' there after are = rw after (one-more r (after_spending 1 0 (after_piece p)) (Done (own i p)) there refl are)
+ends-write (settled.NotYet same) p ticket i r r' there after are = rw after are
+ends-write (settled.Failed number) p ticket i r r' there after are = rw after (one-more r (after_spending 1 0 (after_fault (fault.Store ticket.number) p)) (Broke (own i p)) there refl are)
 
-pub write_settled-of-passes : {answer : Settled} {i : ℕ} {fresh fresh' : List Bool} {passes passes' : List Pass} {history history' : List Entry} {flight flight' : List Ticket → Type 0} {tells tells' : Type 0} {disk disk' : Disk} {last last' : ℕ}
-    → WriteSettled answer i fresh fresh' passes passes' history history' flight flight' tells tells' disk disk' last last' → AreOfPasses passes history → AreOfPasses passes' history'
-write_settled-of-passes {answer} {i} {fresh} {fresh'} {passes} {passes'} {history} {history'} step =
-    ends-write answer step.pass step.ticket i fresh fresh' passes passes' history history' (slice_get_within passes i step.pass step.there) step.effect
+ends-read : (answer : Settled) (why : Fault) (content : List Sector) (i : ℕ) (r r' : RequestState) (out out' : List Sector) → EndsRead answer content why i r r' out out' → AreOfPasses r.passes r.entries → AreOfPasses r'.passes r'.entries
+ends-read settled.Done why content i r r' out out' ends are = sees-of-passes ends are
+ends-read (settled.NotYet same) why content i r r' out out' ends are = rw ends.0 are
+ends-read (settled.Failed number) why content i r r' out out' ends are = rw ends.0.after (set-of-passes i (after_fault why ends.0.pass) refl are)
 
-pub sees-of-passes : {content : List Sector} {i : ℕ} {passes passes' : List Pass} {history history' : List Entry} {out out' : List Sector} → Sees content i passes passes' history history' out out' → AreOfPasses passes history → AreOfPasses passes' history'
-sees-of-passes {content} {i} {passes} {passes'} step =
-    let p = step.pass in more-of-passes (Seen (own i p) (p.first + p.done) content) (slice_get_within passes i p step.there) (many-set passes passes' i (after_spending 1 p.piece (after_piece p)) step.after) step.event
+module _ {i : ℕ} {r r' : RequestState} where
+  module _ {S : Type 0} {g : store.Ghosts S} {s s' : S} where
+    pub issues-of-passes : {content : List Sector} → Issues g content i r r' s s' → AreOfPasses r.passes r.entries → AreOfPasses r'.passes r'.entries
+    issues-of-passes {content} step are =
+        let p = step.pass in rw step.after (one-more r (after_issue p step.ticket step.buffer) (Issue (own i p) (p.first + p.done) (slice_range content p.done (p.done + p.piece))) step.there refl are)
 
-ends-read : (answer : Settled) (p : Pass) (why : Fault) (content : List Sector) (i : ℕ) (passes passes' : List Pass) (history history' : List Entry) (out out' : List Sector)
-    → EndsRead answer p why content i passes passes' history history' out out' → AreOfPasses passes history → AreOfPasses passes' history'
-ends-read settled.Done p why content i passes passes' history history' out out' ends are = sees-of-passes ends are
-ends-read (settled.NotYet same) p why content i passes passes' history history' out out' ends are = rw (ends.0, ends.1) are
-ends-read (settled.Failed number) p why content i passes passes' history history' out out' ends are = rw ends.1 (set-of-passes i (after_fault why p) ends.0 are)
+    pub write_settled-of-passes : {answer : Settled} → WriteSettled g answer i r r' s s' → AreOfPasses r.passes r.entries → AreOfPasses r'.passes r'.entries
+    write_settled-of-passes {answer} step = ends-write answer step.pass step.ticket i r r' step.there step.after
 
-pub look_settled-of-passes : {answer : Settled} {i : ℕ} {passes passes' : List Pass} {history history' : List Entry} {flight flight' : List Ticket → Type 0} {tells tells' : Type 0} {disk disk' : Disk} {last last' : ℕ} {out out' : List Sector}
-    → LookSettled answer i passes passes' history history' flight flight' tells tells' disk disk' last last' out out' → AreOfPasses passes history → AreOfPasses passes' history'
-look_settled-of-passes {answer} {i} {passes} {passes'} {history} {history'} {out = out} {out' = out'} step =
-    ends-read answer step.pass (fault.Store step.ticket.number) step.content i passes passes' history history' out out' step.effect
+    pub look_settled-of-passes : {answer : Settled} {out out' : List Sector} → LookSettled g answer i r r' s s' out out' → AreOfPasses r.passes r.entries → AreOfPasses r'.passes r'.entries
+    look_settled-of-passes {answer} {out} {out'} step = ends-read answer (fault.Store step.ticket.number) step.content i r r' out out' step.effect
 
-pub base_look_settled-of-passes : {answer : Settled} {shape : Shape} {i : ℕ} {passes passes' : List Pass} {history history' : List Entry} {flight flight' : List Ticket → Type 0} {tells : Type 0} {base out out' : List Sector}
-    → BaseLookSettled answer shape i passes passes' history history' flight flight' tells base out out' → AreOfPasses passes history → AreOfPasses passes' history'
-base_look_settled-of-passes {answer} {shape} {i} {passes} {passes'} {history} {history'} {out = out} {out' = out'} step =
-    ends-read answer step.pass (fault.Base step.ticket.number) (step.content ++ replicate (step.pass.piece - step.ticket.count) zero_sector) i passes passes' history history' out out' step.effect
+  pub base_look_settled-of-passes : {B : Type 0} {h : base.Ghosts B} {b b' : B} {answer : Settled} {out out' : List Sector} → BaseLookSettled h answer i r r' b b' out out' → AreOfPasses r.passes r.entries → AreOfPasses r'.passes r'.entries
+  base_look_settled-of-passes {B} {h} {b} {b'} {answer} {out} {out'} step =
+      ends-read answer (fault.Base step.ticket.number) (step.content ++ replicate (step.pass.piece - step.ticket.count) zero_sector) i r r' out out' step.effect
 
 -- No entry is of a call that is yet to come.
 abbrev pub IsOfAnother : CallId → Entry → Type 0

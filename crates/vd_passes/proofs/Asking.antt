@@ -9,8 +9,6 @@ use Rattle.vd_law.specs.declared.entry.Answer.TheVariants.{Full}
 use Rattle.vd_law.specs.Entries.{Asked, Read, Write, Flush, Entry, Ask, Reply, past}
 use Rattle.vd_law.specs.Calls.{no_progress, progress_after}
 use Rattle.vd_law.specs.Rules.{Each, IsInside, IsReply, IsRegular, IsShown}
-use Rattle.vd_device.specs.declared.ticket.Ticket.{Ticket}
-use Rattle.vd_device.specs.Disks.{Disk}
 use Rattle.vd_passes.specs.declared.shape.Shape.{Shape}
 use Rattle.vd_passes.specs.declared.pass.Pass.{Pass}
 use Rattle.vd_passes.specs.declared.pass.Phase.TheVariants.{Idle, Issuing, Ready}
@@ -22,11 +20,14 @@ use Rattle.vd_passes.specs.Steps.{IsAt, HasAskedWrite, Asks, AsksFull, Replies}
 use Rattle.vd_passes.proofs.Tracks.{track-more, track-writes, ask-same, reply-same}
 use Rattle.vd_passes.proofs.Standing.{last_of, next_of, standing-other, standing-own, standing-ask, regular-ask, regular-reply, shown-push}
 use Rattle.vd_passes.proofs.Lists.{some-inj, tickets-same, fetches-same}
-use Rattle.vd_passes.proofs.Growing.{grown-coherent, grown-faithful}
+use Rattle.vd_passes.proofs.Growing.{alike-same, grown-coherent, grown-faithful}
 use Rattle.vd_passes.proofs.NotIssuing.{not-issuing-coherent, not-issuing-faithful, apart-free}
 use Rattle.vd_passes.proofs.Replying.{answers, answers-full}
 use Rattle.vd_passes.specs.Passes.{has_region, writes_in, call_id, HasNone, HasInFlight, pending_of, IsAsHistorySays, after_ask, after_reply}
 use Rattle.vd_law.specs.Needs.{sectors_asked}
+use Rattle.vd_device.specs.declared.store.Store.{Ghosts as StoreGhosts}
+use Rattle.vd_device.specs.declared.base.Base.{Ghosts as BaseGhosts}
+use Rattle.vd_passes.specs.Requests.{RequestState, requests}
 
 -- each block that a write touches has a place
 abbrev pub IsPlaced : (block : ℕ) → (ℕ → Option ℕ) → Asked → Type 0
@@ -136,8 +137,8 @@ stands-idle {shape} {fresh} {places} t p idle call answered none buffer = record
 }
 
 -- A step of a pass with entries that tell no content, where it has nothing in flight before or after it.
-module _ {shape : Shape} {fresh : List Bool} {places : ℕ → Option ℕ} {passes : List Pass} {history : List Entry} {sectors depth base_sectors base_depth : ℕ} {flight base_flight : List Ticket → Type 0}
-    (co : IsCoherent shape fresh places passes history sectors depth base_sectors base_depth flight base_flight) (i : ℕ) (p : Pass) (there : slice_get passes i ≡ Some p) (none : HasNone p) (before : p.phase ≢ Issuing)
+module _ {shape : Shape} {fresh : List Bool} {places : ℕ → Option ℕ} {passes : List Pass} {history : List Entry} {S B : Type 0} {g : StoreGhosts S} {h : BaseGhosts B} {store : S} {base : B}
+    (co : IsCoherent g h (requests shape fresh passes history) places store base) (i : ℕ) (p : Pass) (there : slice_get passes i ≡ Some p) (none : HasNone p) (before : p.phase ≢ Issuing)
     (p' : Pass) (none' : HasNone p') (after : has_region p'.phase ≡ false) (history' : List Entry)
     (same : (start : List Sector) (s : ℕ) → track start history' s ≡ track start history s) where
   not-after : p'.phase ≢ Issuing
@@ -147,18 +148,18 @@ module _ {shape : Shape} {fresh : List Bool} {places : ℕ → Option ℕ} {pass
   quiet s = sym (track-writes [] history' s) ∙ ap (λ (t : Track). t.writes) (same [] s) ∙ track-writes [] history s
 
   pub wordless-coherent : IsRegular (shape.block * shape.blocks) history' → ((j : ℕ) → j ≢ i → standing history' j ≡ standing history j) → IsAsHistorySays shape fresh places (standing history' i) p'
-      → IsCoherent shape fresh places (slice_set passes i p') history' sectors depth base_sectors base_depth flight base_flight
-  wordless-coherent regular others next = not-issuing-coherent co i p there before p' not-after history' quiet flight base_flight regular others next
+      → IsCoherent g h (requests shape fresh (slice_set passes i p') history') places store base
+  wordless-coherent regular others next = not-issuing-coherent co i p there before p' not-after history' quiet store base alike-same regular others next
       (λ k r at ne. apart-free p' r after)
-      (subst flight (sym (tickets-same passes i p p' there (none'.ticket ∙ sym none.ticket))) co.flight)
-      (subst base_flight (sym (fetches-same passes i p p' there (none'.fetch ∙ sym none.fetch))) co.base_flight)
+      (subst (g.flight store) (sym (tickets-same passes i p p' there (none'.ticket ∙ sym none.ticket))) co.flight)
+      (subst (h.flight base) (sym (fetches-same passes i p p' there (none'.fetch ∙ sym none.fetch))) co.base_flight)
 
-  pub wordless-faithful : {start : List Sector} {rest : ℕ → Sector} {disk : Disk} {last : ℕ} → IsFaithful start rest shape fresh places passes history disk last → Each (IsShown start) (past history')
-      → IsFaithful start rest shape fresh places (slice_set passes i p') history' disk last
-  wordless-faithful {start} {rest} {disk} {last} fa shown = not-issuing-faithful co i p there before p' not-after history' quiet fa disk last (omega arith) shown
+  pub wordless-faithful : {start : List Sector} {rest : ℕ → Sector} → IsFaithful g start rest (requests shape fresh passes history) places store → Each (IsShown start) (past history')
+      → IsFaithful g start rest (requests shape fresh (slice_set passes i p') history') places store
+  wordless-faithful {start} {rest} fa shown = not-issuing-faithful co i p there before p' not-after history' quiet fa store (omega arith) shown
       (λ t is. absurd (let e = sym is ∙ none'.ticket in cc))
       (λ a low. refl)
-      (λ s inside. subst (λ (g : Track). AgreesInSector shape.block fresh places rest s g (track disk.start disk.log)) (sym (same start s)) (fa.stands s inside))
+      (λ s inside. subst (λ (x : Track). AgreesInSector (requests shape fresh passes history) places rest s x (track (g.disk store).start (g.disk store).log)) (sym (same start s)) (fa.stands s inside))
       (λ a w v among. subst (λ (g : Track). Contains g.contents v) (sym (same start w.sector)) among)
       (λ is. absurd (let h = ap has_region is in cc))
 
@@ -206,11 +207,11 @@ after-call p (Write first content) events sectors = refl
 after-call p Flush events sectors = refl
 
 -- A pass asks a request, for which blocks may have got their places.
-module _ {shape : Shape} {fresh : List Bool} {places places' : ℕ → Option ℕ} {passes passes' : List Pass} {history history' : List Entry} {sectors depth base_sectors base_depth events_left sectors_left i : ℕ} {flight base_flight : List Ticket → Type 0}
-    (request : Asked) (co : IsCoherent shape fresh places passes history sectors depth base_sectors base_depth flight base_flight) (at : IsAt passes i (λ p. p.phase ≡ Idle))
+module _ {shape : Shape} {fresh : List Bool} {places places' : ℕ → Option ℕ} {passes : List Pass} {history : List Entry} {r' : RequestState} {events_left sectors_left i : ℕ} {S B : Type 0} {g : StoreGhosts S} {h : BaseGhosts B} {store : S} {base : B}
+    (request : Asked) (co : IsCoherent g h (requests shape fresh passes history) places store base) (at : IsAt passes i (λ p. p.phase ≡ Idle))
     (some : request ≢ Flush → 0 < sectors_asked request) (inside : IsInside (shape.block * shape.blocks) request)
-    (extends : KeepsPlaces places places') (placed : ArePlaces shape.block shape.storage_at sectors places') (has : IsPlaced shape.block places' request)
-    (step : Asks request events_left sectors_left i passes passes' history history') where
+    (extends : KeepsPlaces places places') (placed : ArePlaces shape.block shape.storage_at (g.sectors store) places') (has : IsPlaced shape.block places' request)
+    (step : Asks request events_left sectors_left i (requests shape fresh passes history) r') where
   abbrev asking : Pass
   asking = step.pass
 
@@ -220,7 +221,7 @@ module _ {shape : Shape} {fresh : List Bool} {places places' : ℕ → Option �
   asking-idle : asking.phase ≡ Idle
   asking-idle = ap (λ (x : Pass). x.phase) (some-inj (sym step.there ∙ at.1)) ∙ at.2
 
-  grown : IsCoherent shape fresh places' passes history sectors depth base_sectors base_depth flight base_flight
+  grown : IsCoherent g h (requests shape fresh passes history) places' store base
   grown = grown-coherent co places' extends placed
 
   asking-stands : IsAsHistorySays shape fresh places' (standing history i) asking
@@ -235,11 +236,11 @@ module _ {shape : Shape} {fresh : List Bool} {places places' : ℕ → Option �
   abbrev ask-id : CallId
   ask-id = record { pass = i; call = asking.call + 1 }
 
-  ask-history : history' ≡ history ++ Ask ask-id request ∷ []
-  ask-history = step.event ∙ ap (λ (n : ℕ). history ++ Ask (record { pass = i; call = n }) request ∷ []) (after-call asking request events_left sectors_left)
+  ask-after : r' ≡ requests shape fresh (slice_set passes i asked) (history ++ Ask ask-id request ∷ [])
+  ask-after = step.after ∙ ap (λ (n : ℕ). requests shape fresh (slice_set passes i asked) (history ++ Ask (record { pass = i; call = n }) request ∷ [])) (after-call asking request events_left sectors_left)
 
-  pub asks-coherent : IsCoherent shape fresh places' passes' history' sectors depth base_sectors base_depth flight base_flight
-  asks-coherent = rw (step.after, ask-history)
+  pub asks-coherent : IsCoherent g h r' places' store base
+  asks-coherent = rw ask-after
       (wordless-coherent grown i asking step.there asking-none asking-not asked (after-none asking request events_left sectors_left asking-none) (after-region asking request events_left sectors_left)
       (history ++ Ask ask-id request ∷ []) (same-after-ask history ask-id request)
       (regular-asked history i asking-stands grown.regular asking-idle request inside)
@@ -247,22 +248,22 @@ module _ {shape : Shape} {fresh : List Bool} {places places' : ℕ → Option �
       (subst (λ (t : Standing). IsAsHistorySays shape fresh places' t asked) (sym (standing-asked history i asking-stands grown.regular asking-idle request inside))
       (stands-asked request events_left sectors_left asking-stands asking-idle some inside has)))
 
-  pub asks-faithful : {start : List Sector} {rest : ℕ → Sector} {disk : Disk} {last : ℕ} → IsFaithful start rest shape fresh places passes history disk last → IsFaithful start rest shape fresh places' passes' history' disk last
-  asks-faithful {start} {rest} {disk} {last} fa = rw (step.after, ask-history)
+  pub asks-faithful : {start : List Sector} {rest : ℕ → Sector} → IsFaithful g start rest (requests shape fresh passes history) places store → IsFaithful g start rest r' places' store
+  asks-faithful {start} {rest} fa = rw ask-after
       (wordless-faithful grown i asking step.there asking-none asking-not asked (after-none asking request events_left sectors_left asking-none) (after-region asking request events_left sectors_left)
       (history ++ Ask ask-id request ∷ []) (same-after-ask history ask-id request)
       (grown-faithful co places' extends fa)
       (shown-push start history (Ask ask-id request) fa.shown tt))
 
   -- after the ask of a write its content is the one that was asked
-  pub asks-content : (first : ℕ) (content : List Sector) → request ≡ Write first content → HasAskedWrite history' i content
-  asks-content first content is = (first, rw ask-history (ap (λ (t : Standing). t.progress.asked) (standing-asked history i asking-stands grown.regular asking-idle request inside) ∙ ap Some is))
+  pub asks-content : (first : ℕ) (content : List Sector) → request ≡ Write first content → HasAskedWrite r'.entries i content
+  asks-content first content is = (first, rw ask-after (ap (λ (t : Standing). t.progress.asked) (standing-asked history i asking-stands grown.regular asking-idle request inside) ∙ ap Some is))
 
 -- A pass asks a write for which too little storage is free.
-module _ {shape : Shape} {fresh : List Bool} {places : ℕ → Option ℕ} {passes passes' : List Pass} {history history' : List Entry} {sectors depth base_sectors base_depth needed free i : ℕ} {flight base_flight : List Ticket → Type 0}
-    (first : ℕ) (content : List Sector) (co : IsCoherent shape fresh places passes history sectors depth base_sectors base_depth flight base_flight) (at : IsAt passes i (λ p. p.phase ≡ Idle))
+module _ {shape : Shape} {fresh : List Bool} {places : ℕ → Option ℕ} {passes : List Pass} {history : List Entry} {r' : RequestState} {needed free i : ℕ} {S B : Type 0} {g : StoreGhosts S} {h : BaseGhosts B} {store : S} {base : B}
+    (first : ℕ) (content : List Sector) (co : IsCoherent g h (requests shape fresh passes history) places store base) (at : IsAt passes i (λ p. p.phase ≡ Idle))
     (some : 0 < length content) (inside : first + length content ≤ shape.block * shape.blocks)
-    (step : AsksFull (Write first content) needed free i passes passes' history history') where
+    (step : AsksFull (Write first content) needed free i (requests shape fresh passes history) r') where
   abbrev full-pass : Pass
   full-pass = step.pass
 
@@ -290,8 +291,8 @@ module _ {shape : Shape} {fresh : List Bool} {places : ℕ → Option ℕ} {pass
   abbrev full-reply : Entry
   full-reply = Reply full-id (Full needed free)
 
-  full-history : history' ≡ full-asked ++ full-reply ∷ []
-  full-history = step.event ∙ sym (append_assoc history (Ask full-id (Write first content) ∷ []) (full-reply ∷ []))
+  full-state : r' ≡ requests shape fresh (slice_set passes i refused) (full-asked ++ full-reply ∷ [])
+  full-state = step.after ∙ ap (requests shape fresh (slice_set passes i refused)) (sym (append_assoc history (Ask full-id (Write first content) ∷ []) (full-reply ∷ [])))
 
   full-standing : standing full-asked i ≡ asked_for (full-pass.call + 1) (Write first content)
   full-standing = standing-asked history i full-stands co.regular full-idle (Write first content) inside
@@ -320,20 +321,20 @@ module _ {shape : Shape} {fresh : List Bool} {places : ℕ → Option ℕ} {pass
   refused-region : has_region refused.phase ≡ false
   refused-region = ap has_region full-idle
 
-  pub asks_full-coherent : IsCoherent shape fresh places passes' history' sectors depth base_sectors base_depth flight base_flight
-  asks_full-coherent = rw (step.after, full-history)
+  pub asks_full-coherent : IsCoherent g h r' places store base
+  asks_full-coherent = rw full-state
       (wordless-coherent co i full-pass step.there full-none full-not refused refused-none refused-region (full-asked ++ full-reply ∷ []) full-same full-regular full-others
       (subst (λ (t : Standing). IsAsHistorySays shape fresh places t refused) (sym full-after) (stands-idle _ refused full-idle refl refl refused-none full-stands.buffer)))
 
-  pub asks_full-faithful : {start : List Sector} {rest : ℕ → Sector} {disk : Disk} {last : ℕ} → IsFaithful start rest shape fresh places passes history disk last → IsFaithful start rest shape fresh places passes' history' disk last
-  asks_full-faithful {start} {rest} {disk} {last} fa = rw (step.after, full-history)
+  pub asks_full-faithful : {start : List Sector} {rest : ℕ → Sector} → IsFaithful g start rest (requests shape fresh passes history) places store → IsFaithful g start rest r' places store
+  asks_full-faithful {start} {rest} fa = rw full-state
       (wordless-faithful co i full-pass step.there full-none full-not refused refused-none refused-region (full-asked ++ full-reply ∷ []) full-same fa
       (shown-push start full-asked full-reply (shown-push start history (Ask full-id (Write first content)) fa.shown tt) tt))
 
 -- A pass that is ready has its reply.
-module _ {shape : Shape} {fresh : List Bool} {places : ℕ → Option ℕ} {passes passes' : List Pass} {history history' : List Entry} {sectors depth base_sectors base_depth i : ℕ} {flight base_flight : List Ticket → Type 0} {answer : Answer}
-    (co : IsCoherent shape fresh places passes history sectors depth base_sectors base_depth flight base_flight) (at : IsAt passes i (λ p. p.phase ≡ Ready))
-    (step : Replies answer i passes passes' history history') where
+module _ {shape : Shape} {fresh : List Bool} {places : ℕ → Option ℕ} {passes : List Pass} {history : List Entry} {r' : RequestState} {i : ℕ} {S B : Type 0} {g : StoreGhosts S} {h : BaseGhosts B} {store : S} {base : B} {answer : Answer}
+    (co : IsCoherent g h (requests shape fresh passes history) places store base) (at : IsAt passes i (λ p. p.phase ≡ Ready))
+    (step : Replies answer i (requests shape fresh passes history) r') where
   abbrev ready-pass : Pass
   ready-pass = step.pass
 
@@ -373,14 +374,14 @@ module _ {shape : Shape} {fresh : List Bool} {places : ℕ → Option ℕ} {pass
   replied-none : HasNone replied
   replied-none = record { ticket = ready-none.ticket; fetch = ready-none.fetch }
 
-  pub replies-coherent : IsCoherent shape fresh places passes' history' sectors depth base_sectors base_depth flight base_flight
-  replies-coherent = rw (step.after, step.event)
+  pub replies-coherent : IsCoherent g h r' places store base
+  replies-coherent = rw step.after
       (wordless-coherent co i ready-pass step.there ready-none ready-not replied replied-none refl (history ++ reply ∷ []) (same-after-reply history (call_id i ready-pass) answer)
       reply-regular
       (λ j ne. standing-other history reply j (λ e. ne (sym e)))
       (subst (λ (t : Standing). IsAsHistorySays shape fresh places t replied) (sym reply-after) (stands-idle _ replied refl ready-stands.call refl replied-none ready-stands.buffer)))
 
-  pub replies-faithful : {start : List Sector} {rest : ℕ → Sector} {disk : Disk} {last : ℕ} → IsFaithful start rest shape fresh places passes history disk last → IsFaithful start rest shape fresh places passes' history' disk last
-  replies-faithful {start} {rest} {disk} {last} fa = rw (step.after, step.event)
+  pub replies-faithful : {start : List Sector} {rest : ℕ → Sector} → IsFaithful g start rest (requests shape fresh passes history) places store → IsFaithful g start rest r' places store
+  replies-faithful {start} {rest} fa = rw step.after
       (wordless-faithful co i ready-pass step.there ready-none ready-not replied replied-none refl (history ++ reply ∷ []) (same-after-reply history (call_id i ready-pass) answer) fa
       (shown-push start history reply fa.shown tt))

@@ -5,13 +5,15 @@ use Rattle.vd_law.specs.declared.entry.CallId.{CallId}
 use Rattle.vd_law.specs.declared.entry.Sector.{Sector}
 use Rattle.vd_law.specs.declared.entry.Answer.{Answer}
 use Rattle.vd_law.specs.declared.entry.Answer.TheVariants.{Full}
-use Rattle.vd_law.specs.Entries.{Asked, Read, Write, Flush, Entry, Ask, Issue, Done, Broke, Seen, Reply}
+use Rattle.vd_law.specs.Entries.{Asked, Read, Write, Flush, Ask, Issue, Done, Broke, Seen, Reply}
+use Rattle.vd_device.specs.declared.store.Store as store
+use Rattle.vd_device.specs.declared.base.Base as base
 use Rattle.vd_device.specs.declared.ticket.Ticket.{Ticket}
 use Rattle.vd_device.specs.declared.settled.Settled.{Settled}
 use Rattle.vd_device.specs.declared.settled.Settled.TheVariants as settled
-use Rattle.vd_device.specs.Disks.{Disk}
 use Rattle.vd_device.specs.Calls.{IsCaused, next_number}
 use Rattle.vd_passes.specs.declared.shape.Shape.{Shape}
+use Rattle.vd_passes.specs.Requests.{RequestState, with_pass}
 use Rattle.vd_passes.specs.declared.pass.Pass.{Pass}
 use Rattle.vd_passes.specs.declared.pass.Phase.{Phase}
 use Rattle.vd_passes.specs.declared.pass.Phase.TheVariants.{Idle, Asked as HasAsked, Held, Ready}
@@ -20,7 +22,7 @@ use Rattle.vd_passes.specs.declared.pass.Fault.TheVariants as fault
 use Rattle.vd_passes.specs.Standings.{Standing}
 use Rattle.vd_passes.specs.Passes.{has_region, call_id, HasNone, HasInFlight, IsAsHistorySays, after_spending, after_ask, after_enter, after_fetch, after_filled, after_issue, after_look, after_base_look, after_piece, after_fault, after_reply, answer_by}
 use Rattle.vd_passes.specs.Coherent.{IsCoherent}
-use Rattle.vd_passes.specs.Steps.{IsAt, Asks, AsksFull, Enters, Fetches, FillsZeros, after_base_read, FetchSettled, Issues, EndsWrite, WriteSettled, Looks, LooksAtBase, Sees, SeesZeros, EndsRead, LookSettled, BaseLookSettled, Replies}
+use Rattle.vd_passes.specs.Steps.{IsAt, Asks, AsksFull, Enters, Fetches, FillsZeros, after_base_read, FetchSettled, Issues, after_write, WriteSettled, Looks, LooksAtBase, Sees, SeesZeros, EndsRead, LookSettled, BaseLookSettled, Replies}
 use Rattle.vd_passes.specs.Causes.{Device, OfStore, OfBase, named_by, ticket_number, ticket_of_fault, to_name, flying_of, FaultsAddUp, HasNextTicket}
 use Rattle.vd_passes.proofs.Lists.{some-inj, get-set-same}
 use Rattle.vd_passes.proofs.Regions.{held-ticket}
@@ -90,73 +92,75 @@ fault-names OfBase (Some (fault.Base ticket)) done = refl
 fault-names OfBase (Some (fault.Worn generation)) done = refl
 
 -- Steps that call no device.
-module _ {device : Device} {passes passes' : List Pass} {history history' : List Entry} {last faults_at_opening faults i : ℕ} (blamed : FaultsAddUp device passes history last faults_at_opening faults) where
-  pub asks-blamed : {request : Asked} {events sectors : ℕ} → Asks request events sectors i passes passes' history history' → FaultsAddUp device passes' history' last faults_at_opening faults
+module _ {device : Device} {r r' : RequestState} {last faults_at_opening faults i : ℕ} (blamed : FaultsAddUp device r.passes r.entries last faults_at_opening faults) where
+  pub asks-blamed : {request : Asked} {events sectors : ℕ} → Asks request events sectors i r r' → FaultsAddUp device r'.passes r'.entries last faults_at_opening faults
   asks-blamed {request} {events} {sectors} step = let asked = after_ask step.pass request events sectors in
-      rw (step.after, step.event) (kept-blamed blamed i step.there asked (Ask (call_id i asked) request ∷ []) (inl (asked-flying device step.pass request events sectors)) (asked-naming device step.pass request events sectors) (refl, tt) (omega arith) (omega arith))
+      rw step.after (kept-blamed blamed i step.there asked (Ask (call_id i asked) request ∷ []) (inl (asked-flying device step.pass request events sectors)) (asked-naming device step.pass request events sectors) (refl, tt) (omega arith) (omega arith))
 
-  pub asks_full-blamed : {request : Asked} {needed free : ℕ} → AsksFull request needed free i passes passes' history history' → FaultsAddUp device passes' history' last faults_at_opening faults
+  pub asks_full-blamed : {request : Asked} {needed free : ℕ} → AsksFull request needed free i r r' → FaultsAddUp device r'.passes r'.entries last faults_at_opening faults
   asks_full-blamed {request} {needed} {free} step = let asked : Pass = record step.pass { call = step.pass.call + 1 } in let id : CallId = record { pass = i; call = step.pass.call + 1 } in
-      rw (step.after, step.event) (kept-blamed blamed i step.there asked (Ask id request ∷ Reply id (Full needed free) ∷ []) (inl (flying-same device step.pass asked refl refl)) (inl refl) (refl, (full-names device needed free, tt)) (omega arith) (omega arith))
+      rw step.after (kept-blamed blamed i step.there asked (Ask id request ∷ Reply id (Full needed free) ∷ []) (inl (flying-same device step.pass asked refl refl)) (inl refl) (refl, (full-names device needed free, tt)) (omega arith) (omega arith))
 
-  pub replies-blamed : {answer : Answer} → IsAt passes i (λ p. p.phase ≡ Ready) → Replies answer i passes passes' history history' → FaultsAddUp device passes' history' last faults_at_opening faults
+  pub replies-blamed : {answer : Answer} → IsAt r.passes i (λ p. p.phase ≡ Ready) → Replies answer i r r' → FaultsAddUp device r'.passes r'.entries last faults_at_opening faults
   replies-blamed {answer} at step =
       let p = step.pass in let ready : p.phase ≡ Ready = ap (λ (x : Pass). x.phase) (some-inj (sym step.there ∙ at.1)) ∙ at.2 in
       let names : named_by device answer ≡ to_name_of device p = ap (named_by device) step.is ∙ fault-names device p.fault p.done ∙ ap (λ ph. to_name device ph p.fault) (sym ready) in
-      rw (step.after, step.event) (told-blamed blamed i step.there (after_reply p) (call_id i p) answer names (flying-same device p (after_reply p) refl refl) refl)
+      rw step.after (told-blamed blamed i step.there (after_reply p) (call_id i p) answer names (flying-same device p (after_reply p) refl refl) refl)
+
+  -- the pass has its region
+  pub enters-blamed : {places : ℕ → Option ℕ} → Enters places i r r' → FaultsAddUp device r'.passes r'.entries last faults_at_opening faults
+  enters-blamed {places} step = let p' = after_enter step.pass step.block step.piece step.at in
+      rw step.after (kept-untold blamed i step.there p' (inl (flying-same device step.pass p' refl refl)) (inr refl) (omega arith) (omega arith))
+
+-- The pass has what a step made of it.
+passes-after : {r' x : RequestState} → r' ≡ x → r'.passes ≡ x.passes
+passes-after is = ap (λ (y : RequestState). y.passes) is
 
 -- Steps that may submit a call, at either device.
-module _ {device : Device} {passes passes' : List Pass} {history : List Entry} {last last' faults_at_opening faults faults' i : ℕ} (blamed : FaultsAddUp device passes history last faults_at_opening faults) where
-  pub fetches-blamed : {shape : Shape} {base_flight base_flight' : List Ticket → Type 0} → Fetches shape i passes passes' base_flight base_flight' → IsAt passes' i (HasNextTicket device last last') → faults ≤ faults' → FaultsAddUp device passes' history last' faults_at_opening faults'
-  fetches-blamed {shape} {base_flight} {base_flight'} step at rise = let p' = after_fetch step.pass step.ticket in
-      rw step.after (numbered-untold blamed i step.there p' (numbered-at device passes passes' last last' i step.pass p' step.there step.after at) refl rise)
+module _ {device : Device} {r r' : RequestState} {last last' faults_at_opening faults faults' i : ℕ} (blamed : FaultsAddUp device r.passes r.entries last faults_at_opening faults) where
+  pub fills-blamed : FillsZeros i r r' → IsAt r'.passes i (HasNextTicket device last last') → faults ≤ faults' → FaultsAddUp device r'.passes r'.entries last' faults_at_opening faults'
+  fills-blamed step at rise = let p' = after_filled step.pass (replicate r.shape.block zero_sector) in
+      let next = numbered-at device r.passes r'.passes last last' i step.pass p' step.there (passes-after step.after) at in rw step.after (numbered-untold blamed i step.there p' next refl rise)
 
-  pub fills-blamed : {shape : Shape} → FillsZeros shape i passes passes' → IsAt passes' i (HasNextTicket device last last') → faults ≤ faults' → FaultsAddUp device passes' history last' faults_at_opening faults'
-  fills-blamed {shape} step at rise = let p' = after_filled step.pass (replicate shape.block zero_sector) in
-      rw step.after (numbered-untold blamed i step.there p' (numbered-at device passes passes' last last' i step.pass p' step.there step.after at) refl rise)
+  module _ {B : Type 0} {h : base.Ghosts B} {b b' : B} where
+    pub fetches-blamed : Fetches h i r r' b b' → IsAt r'.passes i (HasNextTicket device last last') → faults ≤ faults' → FaultsAddUp device r'.passes r'.entries last' faults_at_opening faults'
+    fetches-blamed step at rise = let p' = after_fetch step.pass step.ticket in
+        let next = numbered-at device r.passes r'.passes last last' i step.pass p' step.there (passes-after step.after) at in rw step.after (numbered-untold blamed i step.there p' next refl rise)
 
-  pub base_looks-blamed : {shape : Shape} {base_flight base_flight' : List Ticket → Type 0} → LooksAtBase shape i passes passes' base_flight base_flight' → IsAt passes' i (HasNextTicket device last last') → faults ≤ faults' → FaultsAddUp device passes' history last' faults_at_opening faults'
-  base_looks-blamed {shape} {base_flight} {base_flight'} step at rise = let p' = after_base_look step.pass step.ticket in
-      rw step.after (numbered-untold blamed i step.there p' (numbered-at device passes passes' last last' i step.pass p' step.there step.after at) refl rise)
+    pub base_looks-blamed : LooksAtBase h i r r' b b' → IsAt r'.passes i (HasNextTicket device last last') → faults ≤ faults' → FaultsAddUp device r'.passes r'.entries last' faults_at_opening faults'
+    base_looks-blamed step at rise = let p' = after_base_look step.pass step.ticket in
+        let next = numbered-at device r.passes r'.passes last last' i step.pass p' step.there (passes-after step.after) at in rw step.after (numbered-untold blamed i step.there p' next refl rise)
 
-  module _ {shape : Shape} {flight flight' : List Ticket → Type 0} {tells tells' : Type 0} {disk disk' : Disk} {store_last store_last' : ℕ} where
-    pub looks-blamed : Looks shape i passes passes' flight flight' tells tells' disk disk' store_last store_last' → IsAt passes' i (HasNextTicket device last last') → faults ≤ faults' → FaultsAddUp device passes' history last' faults_at_opening faults'
+  module _ {S : Type 0} {g : store.Ghosts S} {s s' : S} where
+    pub looks-blamed : Looks g i r r' s s' → IsAt r'.passes i (HasNextTicket device last last') → faults ≤ faults' → FaultsAddUp device r'.passes r'.entries last' faults_at_opening faults'
     looks-blamed step at rise = let p' = after_look step.pass step.ticket in
-        rw step.after (numbered-untold blamed i step.there p' (numbered-at device passes passes' last last' i step.pass p' step.there step.after at) refl rise)
+        let next = numbered-at device r.passes r'.passes last last' i step.pass p' step.there (passes-after step.after) at in rw step.after (numbered-untold blamed i step.there p' next refl rise)
 
-    pub issues-blamed : {fresh : List Bool} {content : List Sector} {history' : List Entry} → Issues shape fresh content i passes passes' history history' flight flight' tells tells' disk disk' store_last store_last' → IsAt passes' i (HasNextTicket device last last') → faults ≤ faults'
-        → FaultsAddUp device passes' history' last' faults_at_opening faults'
-    issues-blamed {fresh} {content} {history'} step at rise = let p = step.pass in let p' = after_issue p step.ticket step.buffer in
-        rw (step.after, step.event) (numbered-blamed blamed i step.there p' (Issue (call_id i p) (p.first + p.done) (slice_range content p.done (p.done + p.piece)) ∷ [])
-        (numbered-at device passes passes' last last' i p p' step.there step.after at) refl (refl, tt) rise)
+    pub issues-blamed : {content : List Sector} → Issues g content i r r' s s' → IsAt r'.passes i (HasNextTicket device last last') → faults ≤ faults' → FaultsAddUp device r'.passes r'.entries last' faults_at_opening faults'
+    issues-blamed {content} step at rise = let p = step.pass in let p' = after_issue p step.ticket step.buffer in
+        let next = numbered-at device r.passes r'.passes last last' i p p' step.there (passes-after step.after) at in
+        rw step.after (numbered-blamed blamed i step.there p' (Issue (call_id i p) (p.first + p.done) (slice_range content p.done (p.done + p.piece)) ∷ []) next refl (refl, tt) rise)
 
 -- Of the other device such a step's record says enough: the base, where the store has the call,
-module _ {passes passes' : List Pass} {history : List Entry} {last faults_at_opening faults i : ℕ} (blamed : FaultsAddUp OfBase passes history last faults_at_opening faults)
-    {shape : Shape} {flight flight' : List Ticket → Type 0} {tells tells' : Type 0} {disk disk' : Disk} {store_last store_last' : ℕ} where
-  pub looks-base_blamed : Looks shape i passes passes' flight flight' tells tells' disk disk' store_last store_last' → FaultsAddUp OfBase passes' history last faults_at_opening faults
+module _ {r r' : RequestState} {last faults_at_opening faults i : ℕ} (blamed : FaultsAddUp OfBase r.passes r.entries last faults_at_opening faults) {S : Type 0} {g : store.Ghosts S} {s s' : S} where
+  pub looks-base_blamed : Looks g i r r' s s' → FaultsAddUp OfBase r'.passes r'.entries last faults_at_opening faults
   looks-base_blamed step = rw step.after (kept-untold blamed i step.there (after_look step.pass step.ticket) (inl refl) (inr refl) (omega arith) (omega arith))
 
-  pub issues-base_blamed : {fresh : List Bool} {content : List Sector} {history' : List Entry} → Issues shape fresh content i passes passes' history history' flight flight' tells tells' disk disk' store_last store_last' → FaultsAddUp OfBase passes' history' last faults_at_opening faults
-  issues-base_blamed {fresh} {content} {history'} step = let p = step.pass in
-      rw (step.after, step.event) (kept-blamed blamed i step.there (after_issue p step.ticket step.buffer) (Issue (call_id i p) (p.first + p.done) (slice_range content p.done (p.done + p.piece)) ∷ []) (inl refl) (inr refl) (refl, tt) (omega arith) (omega arith))
+  pub issues-base_blamed : {content : List Sector} → Issues g content i r r' s s' → FaultsAddUp OfBase r'.passes r'.entries last faults_at_opening faults
+  issues-base_blamed {content} step = let p = step.pass in
+      rw step.after (kept-blamed blamed i step.there (after_issue p step.ticket step.buffer) (Issue (call_id i p) (p.first + p.done) (slice_range content p.done (p.done + p.piece)) ∷ []) (inl refl) (inr refl) (refl, tt) (omega arith) (omega arith))
 
 -- and the store, where the base has it.
-module _ {passes passes' : List Pass} {history : List Entry} {last faults_at_opening faults i : ℕ} (blamed : FaultsAddUp OfStore passes history last faults_at_opening faults) {shape : Shape} where
-  pub fills-store_blamed : FillsZeros shape i passes passes' → FaultsAddUp OfStore passes' history last faults_at_opening faults
-  fills-store_blamed step = rw step.after (kept-untold blamed i step.there (after_filled step.pass (replicate shape.block zero_sector)) (inl refl) (inr refl) (omega arith) (omega arith))
+module _ {r r' : RequestState} {last faults_at_opening faults i : ℕ} (blamed : FaultsAddUp OfStore r.passes r.entries last faults_at_opening faults) where
+  pub fills-store_blamed : FillsZeros i r r' → FaultsAddUp OfStore r'.passes r'.entries last faults_at_opening faults
+  fills-store_blamed step = rw step.after (kept-untold blamed i step.there (after_filled step.pass (replicate r.shape.block zero_sector)) (inl refl) (inr refl) (omega arith) (omega arith))
 
-  module _ {base_flight base_flight' : List Ticket → Type 0} where
-    pub fetches-store_blamed : Fetches shape i passes passes' base_flight base_flight' → FaultsAddUp OfStore passes' history last faults_at_opening faults
+  module _ {B : Type 0} {h : base.Ghosts B} {b b' : B} where
+    pub fetches-store_blamed : Fetches h i r r' b b' → FaultsAddUp OfStore r'.passes r'.entries last faults_at_opening faults
     fetches-store_blamed step = rw step.after (kept-untold blamed i step.there (after_fetch step.pass step.ticket) (inl refl) (inr refl) (omega arith) (omega arith))
 
-    pub base_looks-store_blamed : LooksAtBase shape i passes passes' base_flight base_flight' → FaultsAddUp OfStore passes' history last faults_at_opening faults
+    pub base_looks-store_blamed : LooksAtBase h i r r' b b' → FaultsAddUp OfStore r'.passes r'.entries last faults_at_opening faults
     base_looks-store_blamed step = rw step.after (kept-untold blamed i step.there (after_base_look step.pass step.ticket) (inl refl) (inr refl) (omega arith) (omega arith))
-
--- the pass has its region
-pub enters-blamed : {device : Device} {passes passes' : List Pass} {history : List Entry} {last faults_at_opening faults i : ℕ} {shape : Shape} {places : ℕ → Option ℕ}
-    → FaultsAddUp device passes history last faults_at_opening faults → Enters shape places i passes passes' → FaultsAddUp device passes' history last faults_at_opening faults
-enters-blamed {device} {passes} {passes'} {history} {last} {faults_at_opening} {faults} {i} {shape} {places} blamed step = let p' = after_enter step.pass step.block step.piece step.at in
-    rw step.after (kept-untold blamed i step.there p' (inl (flying-same device step.pass p' refl refl)) (inr refl) (omega arith) (omega arith))
 
 -- A pass whose piece has ended, in the phase that follows.
 ended-flying : (device : Device) (events sectors : ℕ) (p : Pass) → flying_of device (after_spending events sectors (after_piece p)) ≡ None
@@ -166,122 +170,122 @@ ended-naming : (device : Device) (events sectors : ℕ) (p : Pass) → p.fault �
 ended-naming device events sectors p none = nothing-to-name device (if nat_lt (p.done + p.piece) p.count then HasAsked else Ready) p.fault none
 
 -- the piece of a pass is seen
-seen-blamed : {device : Device} {passes passes' : List Pass} {history history' : List Entry} {last faults_at_opening faults faults' : ℕ} (i : ℕ) (p : Pass) → slice_get passes i ≡ Some p → FaultsAddUp device passes history last faults_at_opening faults → p.fault ≡ None
-    → {content : List Sector} {out out' : List Sector} → Sees content i passes passes' history history' out out' → faults ≤ faults' → FaultsAddUp device passes' history' last faults_at_opening faults'
-seen-blamed {device} {passes} {passes'} {history} {history'} {last} {faults_at_opening} {faults} {faults'} i p there blamed none {content} {out} {out'} step rise =
+seen-blamed : {device : Device} {r r' : RequestState} {last faults_at_opening faults faults' : ℕ} (i : ℕ) (p : Pass) → slice_get r.passes i ≡ Some p → FaultsAddUp device r.passes r.entries last faults_at_opening faults → p.fault ≡ None
+    → {content : List Sector} {out out' : List Sector} → Sees content i r r' out out' → faults ≤ faults' → FaultsAddUp device r'.passes r'.entries last faults_at_opening faults'
+seen-blamed {device} {r} {r'} {last} {faults_at_opening} {faults} {faults'} i p there blamed none {content} {out} {out'} step rise =
     let q = step.pass in let whole : q.fault ≡ None = ap (λ (x : Pass). x.fault) (some-inj (sym step.there ∙ there)) ∙ none in
-    rw (step.after, step.event) (kept-blamed blamed i step.there (after_spending 1 q.piece (after_piece q)) (Seen (call_id i q) (q.first + q.done) content ∷ []) (inr (ended-flying device 1 q.piece q)) (inr (ended-naming device 1 q.piece q whole)) (refl, tt) (omega arith) rise)
+    rw step.after (kept-blamed blamed i step.there (after_spending 1 q.piece (after_piece q)) (Seen (call_id i q) (q.first + q.done) content ∷ []) (inr (ended-flying device 1 q.piece q)) (inr (ended-naming device 1 q.piece q whole)) (refl, tt) (omega arith) rise)
 
 -- What the end of a fetch, of a write or of a read makes of the device that had it, and of the other.
-module _ {passes passes' : List Pass} {history : List Entry} {last faults_at_opening faults : ℕ} (i : ℕ) (p : Pass) (there : slice_get passes i ≡ Some p) (ticket : Ticket) where
-  fetched-base : FaultsAddUp OfBase passes history last faults_at_opening faults → (answer : Settled) (block : ℕ) (content : List Sector) → passes' ≡ slice_set passes i (after_base_read answer p ticket block content) → p.fetch ≡ Some ticket
-      → (faults' late late' : ℕ) → IsCaused answer faults faults' late late' → FaultsAddUp OfBase passes' history last faults_at_opening faults'
+module _ (r r' : RequestState) {last faults_at_opening faults : ℕ} (i : ℕ) (p : Pass) (there : slice_get r.passes i ≡ Some p) (ticket : Ticket) where
+  fetched-base : FaultsAddUp OfBase r.passes r.entries last faults_at_opening faults → (answer : Settled) (block : ℕ) (content : List Sector) → r' ≡ with_pass i (after_base_read answer p ticket block content) r → p.fetch ≡ Some ticket
+      → (faults' late late' : ℕ) → IsCaused answer faults faults' late late' → FaultsAddUp OfBase r'.passes r'.entries last faults_at_opening faults'
   fetched-base blamed settled.Done block content after has faults' late late' cause = rw after (kept-untold blamed i there (after_base_read settled.Done p ticket block content) (inr refl) (inr refl) (omega arith) cause.0)
   fetched-base blamed (settled.NotYet same) block content after has faults' late late' cause = rw after (kept-untold blamed i there p (inl refl) (inl refl) (omega arith) cause.0.0)
   fetched-base blamed (settled.Failed number) block content after has faults' late late' cause = rw after (failed-untold blamed i there (after_fault (fault.Base ticket.number) p) (sym (ap ticket_number has)) refl cause.1)
 
-  fetched-store : FaultsAddUp OfStore passes history last faults_at_opening faults → (answer : Settled) (block : ℕ) (content : List Sector) → passes' ≡ slice_set passes i (after_base_read answer p ticket block content) → FaultsAddUp OfStore passes' history last faults_at_opening faults
+  fetched-store : FaultsAddUp OfStore r.passes r.entries last faults_at_opening faults → (answer : Settled) (block : ℕ) (content : List Sector) → r' ≡ with_pass i (after_base_read answer p ticket block content) r → FaultsAddUp OfStore r'.passes r'.entries last faults_at_opening faults
   fetched-store blamed settled.Done block content after = rw after (kept-untold blamed i there (after_base_read settled.Done p ticket block content) (inl refl) (inr refl) (omega arith) (omega arith))
   fetched-store blamed (settled.NotYet same) block content after = rw after (kept-untold blamed i there p (inl refl) (inl refl) (omega arith) (omega arith))
   fetched-store blamed (settled.Failed number) block content after = rw after (kept-untold blamed i there (after_fault (fault.Base ticket.number) p) (inr refl) (inr refl) (omega arith) (omega arith))
 
-  module _ (fresh fresh' : List Bool) {history' : List Entry} where
-    written-store : FaultsAddUp OfStore passes history last faults_at_opening faults → p.fault ≡ None → (answer : Settled) → EndsWrite answer p ticket i fresh fresh' passes passes' history history' → p.ticket ≡ Some ticket
-        → (faults' late late' : ℕ) → IsCaused answer faults faults' late late' → FaultsAddUp OfStore passes' history' last faults_at_opening faults'
-    written-store blamed none settled.Done ends has faults' late late' cause = rw (ends.1, ends.2) (kept-blamed blamed i there (after_spending 1 0 (after_piece p)) (Done (call_id i p) ∷ []) (inr refl) (inr (ended-naming OfStore 1 0 p none)) (refl, tt) (omega arith) cause.0)
-    written-store blamed none (settled.NotYet same) ends has faults' late late' cause = rw (ends.1, ends.2) (later-blamed blamed (omega arith) cause.0.0)
-    written-store blamed none (settled.Failed number) ends has faults' late late' cause = rw (ends.1, ends.2) (failed-blamed blamed i there (after_spending 1 0 (after_fault (fault.Store ticket.number) p)) (Broke (call_id i p) ∷ []) (sym (ap ticket_number has)) refl (refl, tt) cause.1)
+  written-store : FaultsAddUp OfStore r.passes r.entries last faults_at_opening faults → p.fault ≡ None → (answer : Settled) → r' ≡ after_write answer p ticket i r → p.ticket ≡ Some ticket
+      → (faults' late late' : ℕ) → IsCaused answer faults faults' late late' → FaultsAddUp OfStore r'.passes r'.entries last faults_at_opening faults'
+  written-store blamed none settled.Done after has faults' late late' cause = rw after (kept-blamed blamed i there (after_spending 1 0 (after_piece p)) (Done (call_id i p) ∷ []) (inr refl) (inr (ended-naming OfStore 1 0 p none)) (refl, tt) (omega arith) cause.0)
+  written-store blamed none (settled.NotYet same) after has faults' late late' cause = rw after (later-blamed blamed (omega arith) cause.0.0)
+  written-store blamed none (settled.Failed number) after has faults' late late' cause = rw after (failed-blamed blamed i there (after_spending 1 0 (after_fault (fault.Store ticket.number) p)) (Broke (call_id i p) ∷ []) (sym (ap ticket_number has)) refl (refl, tt) cause.1)
 
-    written-base : FaultsAddUp OfBase passes history last faults_at_opening faults → p.fault ≡ None → (answer : Settled) → EndsWrite answer p ticket i fresh fresh' passes passes' history history' → FaultsAddUp OfBase passes' history' last faults_at_opening faults
-    written-base blamed none settled.Done ends = rw (ends.1, ends.2) (kept-blamed blamed i there (after_spending 1 0 (after_piece p)) (Done (call_id i p) ∷ []) (inr refl) (inr (ended-naming OfBase 1 0 p none)) (refl, tt) (omega arith) (omega arith))
-    written-base blamed none (settled.NotYet same) ends = rw (ends.1, ends.2) blamed
-    written-base blamed none (settled.Failed number) ends = rw (ends.1, ends.2) (kept-blamed blamed i there (after_spending 1 0 (after_fault (fault.Store ticket.number) p)) (Broke (call_id i p) ∷ []) (inr refl) (inr refl) (refl, tt) (omega arith) (omega arith))
+  written-base : FaultsAddUp OfBase r.passes r.entries last faults_at_opening faults → p.fault ≡ None → (answer : Settled) → r' ≡ after_write answer p ticket i r → FaultsAddUp OfBase r'.passes r'.entries last faults_at_opening faults
+  written-base blamed none settled.Done after = rw after (kept-blamed blamed i there (after_spending 1 0 (after_piece p)) (Done (call_id i p) ∷ []) (inr refl) (inr (ended-naming OfBase 1 0 p none)) (refl, tt) (omega arith) (omega arith))
+  written-base blamed none (settled.NotYet same) after = rw after blamed
+  written-base blamed none (settled.Failed number) after = rw after (kept-blamed blamed i there (after_spending 1 0 (after_fault (fault.Store ticket.number) p)) (Broke (call_id i p) ∷ []) (inr refl) (inr refl) (refl, tt) (omega arith) (omega arith))
 
-  module _ (content : List Sector) (history' : List Entry) (out out' : List Sector) where
-    read-store : FaultsAddUp OfStore passes history last faults_at_opening faults → p.fault ≡ None → (answer : Settled) → EndsRead answer p (fault.Store ticket.number) content i passes passes' history history' out out' → p.ticket ≡ Some ticket
-        → (faults' late late' : ℕ) → IsCaused answer faults faults' late late' → FaultsAddUp OfStore passes' history' last faults_at_opening faults'
+  module _ (content : List Sector) (out out' : List Sector) where
+    read-store : FaultsAddUp OfStore r.passes r.entries last faults_at_opening faults → p.fault ≡ None → (answer : Settled) → EndsRead answer content (fault.Store ticket.number) i r r' out out' → p.ticket ≡ Some ticket
+        → (faults' late late' : ℕ) → IsCaused answer faults faults' late late' → FaultsAddUp OfStore r'.passes r'.entries last faults_at_opening faults'
     read-store blamed none settled.Done ends has faults' late late' cause = seen-blamed i p there blamed none ends cause.0
-    read-store blamed none (settled.NotYet same) ends has faults' late late' cause = rw (ends.0, ends.1) (later-blamed blamed (omega arith) cause.0.0)
-    read-store blamed none (settled.Failed number) ends has faults' late late' cause = rw (ends.0, ends.1) (failed-untold blamed i there (after_fault (fault.Store ticket.number) p) (sym (ap ticket_number has)) refl cause.1)
+    read-store blamed none (settled.NotYet same) ends has faults' late late' cause = rw ends.0 (later-blamed blamed (omega arith) cause.0.0)
+    read-store blamed none (settled.Failed number) ends has faults' late late' cause =
+        let f = ends.0 in let mine : f.pass ≡ p = some-inj (sym f.there ∙ there) in
+        rw f.after (failed-untold blamed i f.there (after_fault (fault.Store ticket.number) f.pass) (sym (ap ticket_number (ap (λ (x : Pass). x.ticket) mine ∙ has))) refl cause.1)
 
-    read-base : FaultsAddUp OfBase passes history last faults_at_opening faults → p.fault ≡ None → (answer : Settled) → EndsRead answer p (fault.Base ticket.number) content i passes passes' history history' out out' → p.fetch ≡ Some ticket
-        → (faults' late late' : ℕ) → IsCaused answer faults faults' late late' → FaultsAddUp OfBase passes' history' last faults_at_opening faults'
+    read-base : FaultsAddUp OfBase r.passes r.entries last faults_at_opening faults → p.fault ≡ None → (answer : Settled) → EndsRead answer content (fault.Base ticket.number) i r r' out out' → p.fetch ≡ Some ticket
+        → (faults' late late' : ℕ) → IsCaused answer faults faults' late late' → FaultsAddUp OfBase r'.passes r'.entries last faults_at_opening faults'
     read-base blamed none settled.Done ends has faults' late late' cause = seen-blamed i p there blamed none ends cause.0
-    read-base blamed none (settled.NotYet same) ends has faults' late late' cause = rw (ends.0, ends.1) (later-blamed blamed (omega arith) cause.0.0)
-    read-base blamed none (settled.Failed number) ends has faults' late late' cause = rw (ends.0, ends.1) (failed-untold blamed i there (after_fault (fault.Base ticket.number) p) (sym (ap ticket_number has)) refl cause.1)
+    read-base blamed none (settled.NotYet same) ends has faults' late late' cause = rw ends.0 (later-blamed blamed (omega arith) cause.0.0)
+    read-base blamed none (settled.Failed number) ends has faults' late late' cause =
+        let f = ends.0 in let mine : f.pass ≡ p = some-inj (sym f.there ∙ there) in
+        rw f.after (failed-untold blamed i f.there (after_fault (fault.Base ticket.number) f.pass) (sym (ap ticket_number (ap (λ (x : Pass). x.fetch) mine ∙ has))) refl cause.1)
 
     -- a fault of the other device
-    read-other : {device : Device} → FaultsAddUp device passes history last faults_at_opening faults → p.fault ≡ None → (answer : Settled) (why : Fault) → ticket_of_fault device (Some why) ≡ None → EndsRead answer p why content i passes passes' history history' out out' → FaultsAddUp device passes' history' last faults_at_opening faults
+    read-other : {device : Device} → FaultsAddUp device r.passes r.entries last faults_at_opening faults → p.fault ≡ None → (answer : Settled) (why : Fault) → ticket_of_fault device (Some why) ≡ None → EndsRead answer content why i r r' out out' → FaultsAddUp device r'.passes r'.entries last faults_at_opening faults
     read-other {device} blamed none settled.Done why other ends = seen-blamed i p there blamed none ends (omega arith)
-    read-other {device} blamed none (settled.NotYet same) why other ends = rw (ends.0, ends.1) blamed
-    read-other {device} blamed none (settled.Failed number) why other ends = rw (ends.0, ends.1) (kept-untold blamed i there (after_fault why p) (inr (flying-none device (after_fault why p) refl refl)) (inr other) (omega arith) (omega arith))
+    read-other {device} blamed none (settled.NotYet same) why other ends = rw ends.0 blamed
+    read-other {device} blamed none (settled.Failed number) why other ends = let f = ends.0 in
+        rw f.after (kept-untold blamed i f.there (after_fault why f.pass) (inr (flying-none device (after_fault why f.pass) refl refl)) (inr other) (omega arith) (omega arith))
 
 -- The settle of a fetch.
-module _ {answer : Settled} {shape : Shape} {passes passes' : List Pass} {history : List Entry} {last faults_at_opening faults i : ℕ} {base_flight base_flight' : List Ticket → Type 0} {base_tells : Type 0} {base : List Sector} where
-  pub fetch_settled-blamed : FaultsAddUp OfBase passes history last faults_at_opening faults → FetchSettled answer shape i passes passes' base_flight base_flight' base_tells base → {last' faults' : ℕ} → last' ≡ last → (late late' : ℕ) → IsCaused answer faults faults' late late'
-      → FaultsAddUp OfBase passes' history last' faults_at_opening faults'
-  fetch_settled-blamed blamed step {last'} {faults'} same late late' cause = rw same (fetched-base i step.pass step.there step.ticket blamed answer shape.block step.content step.after step.has faults' late late' cause)
+module _ {answer : Settled} {r r' : RequestState} {last faults_at_opening faults i : ℕ} {B : Type 0} {h : base.Ghosts B} {b b' : B} where
+  pub fetch_settled-blamed : FaultsAddUp OfBase r.passes r.entries last faults_at_opening faults → FetchSettled h answer i r r' b b' → {last' faults' : ℕ} → last' ≡ last → (late late' : ℕ) → IsCaused answer faults faults' late late'
+      → FaultsAddUp OfBase r'.passes r'.entries last' faults_at_opening faults'
+  fetch_settled-blamed blamed step {last'} {faults'} same late late' cause = rw same (fetched-base r r' i step.pass step.there step.ticket blamed answer r.shape.block step.content step.after step.has faults' late late' cause)
 
-  pub fetch_settled-store_blamed : FaultsAddUp OfStore passes history last faults_at_opening faults → FetchSettled answer shape i passes passes' base_flight base_flight' base_tells base → FaultsAddUp OfStore passes' history last faults_at_opening faults
-  fetch_settled-store_blamed blamed step = fetched-store i step.pass step.there step.ticket blamed answer shape.block step.content step.after
+  pub fetch_settled-store_blamed : FaultsAddUp OfStore r.passes r.entries last faults_at_opening faults → FetchSettled h answer i r r' b b' → FaultsAddUp OfStore r'.passes r'.entries last faults_at_opening faults
+  fetch_settled-store_blamed blamed step = fetched-store r r' i step.pass step.there step.ticket blamed answer r.shape.block step.content step.after
 
-module _ {shape : Shape} {fresh : List Bool} {places : ℕ → Option ℕ} {passes : List Pass} {history : List Entry} {sectors depth base_sectors base_depth : ℕ} {flight base_flight : List Ticket → Type 0}
-    (co : IsCoherent shape fresh places passes history sectors depth base_sectors base_depth flight base_flight) where
-  module _ {passes' : List Pass} {history' : List Entry} {faults_at_opening faults i : ℕ} where
+module _ {S B : Type 0} {g : store.Ghosts S} {h : base.Ghosts B} {r : RequestState} {places : ℕ → Option ℕ} {s : S} {b : B} (co : IsCoherent g h r places s b) where
+  module _ {r' : RequestState} {faults_at_opening faults i : ℕ} where
     -- A piece is seen, with no call.
-    module _ {device : Device} {last : ℕ} {out out' : List Sector} (blamed : FaultsAddUp device passes history last faults_at_opening faults) where
-      pub sees-blamed : {content : List Sector} (step : Sees content i passes passes' history history' out out') → has_region step.pass.phase ≡ true → FaultsAddUp device passes' history' last faults_at_opening faults
+    module _ {device : Device} {last : ℕ} {out out' : List Sector} (blamed : FaultsAddUp device r.passes r.entries last faults_at_opening faults) where
+      pub sees-blamed : {content : List Sector} (step : Sees content i r r' out out') → has_region step.pass.phase ≡ true → FaultsAddUp device r'.passes r'.entries last faults_at_opening faults
       sees-blamed {content} step holds = seen-blamed i step.pass step.there blamed (region-faultless (co.each i step.pass step.there) holds) step (omega arith)
 
-      pub sees_zeros-blamed : IsAt passes i (λ p. p.phase ≡ Held) → SeesZeros shape i passes passes' history history' out out' → FaultsAddUp device passes' history' last faults_at_opening faults
+      pub sees_zeros-blamed : IsAt r.passes i (λ p. p.phase ≡ Held) → SeesZeros i r r' out out' → FaultsAddUp device r'.passes r'.entries last faults_at_opening faults
       sees_zeros-blamed at step = sees-blamed step.sees (ap (λ (x : Pass). has_region x.phase) (some-inj (sym step.sees.there ∙ at.1)) ∙ ap has_region at.2)
 
     -- The settle of a write, of a read in the store, and of one in the base.
-    module _ {answer : Settled} where
-      module _ {flight' : List Ticket → Type 0} {tells tells' : Type 0} {disk disk' : Disk} {store_last store_last' : ℕ} where
-        module _ {fresh' : List Bool} where
-          pub write_settled-blamed : FaultsAddUp OfStore passes history store_last faults_at_opening faults → WriteSettled answer i fresh fresh' passes passes' history history' flight flight' tells tells' disk disk' store_last store_last'
-              → {faults' : ℕ} (late late' : ℕ) → IsCaused answer faults faults' late late' → FaultsAddUp OfStore passes' history' store_last' faults_at_opening faults'
-          write_settled-blamed blamed step {faults'} late late' cause = rw step.number (written-store i step.pass step.there step.ticket fresh fresh' blamed (store-faultless (co.each i step.pass step.there) step.ticket step.has) answer step.effect step.has faults' late late' cause)
+    module _ {answer : Settled} {s' : S} where
+      pub write_settled-blamed : FaultsAddUp OfStore r.passes r.entries (g.last s) faults_at_opening faults → WriteSettled g answer i r r' s s'
+          → {faults' : ℕ} (late late' : ℕ) → IsCaused answer faults faults' late late' → FaultsAddUp OfStore r'.passes r'.entries (g.last s') faults_at_opening faults'
+      write_settled-blamed blamed step {faults'} late late' cause = rw step.call.last (written-store r r' i step.pass step.there step.ticket blamed (store-faultless (co.each i step.pass step.there) step.ticket step.has) answer step.after step.has faults' late late' cause)
 
-          pub write_settled-base_blamed : {last : ℕ} → FaultsAddUp OfBase passes history last faults_at_opening faults → WriteSettled answer i fresh fresh' passes passes' history history' flight flight' tells tells' disk disk' store_last store_last' → FaultsAddUp OfBase passes' history' last faults_at_opening faults
-          write_settled-base_blamed {last} blamed step = written-base i step.pass step.there step.ticket fresh fresh' blamed (store-faultless (co.each i step.pass step.there) step.ticket step.has) answer step.effect
+      pub write_settled-base_blamed : {last : ℕ} → FaultsAddUp OfBase r.passes r.entries last faults_at_opening faults → WriteSettled g answer i r r' s s' → FaultsAddUp OfBase r'.passes r'.entries last faults_at_opening faults
+      write_settled-base_blamed {last} blamed step = written-base r r' i step.pass step.there step.ticket blamed (store-faultless (co.each i step.pass step.there) step.ticket step.has) answer step.after
 
-        module _ {out out' : List Sector} where
-          pub look_settled-blamed : FaultsAddUp OfStore passes history store_last faults_at_opening faults → LookSettled answer i passes passes' history history' flight flight' tells tells' disk disk' store_last store_last' out out'
-              → {faults' : ℕ} (late late' : ℕ) → IsCaused answer faults faults' late late' → FaultsAddUp OfStore passes' history' store_last' faults_at_opening faults'
-          look_settled-blamed blamed step {faults'} late late' cause =
-              rw step.number (read-store i step.pass step.there step.ticket step.content history' out out' blamed (store-faultless (co.each i step.pass step.there) step.ticket step.has) answer step.effect step.has faults' late late' cause)
+      module _ {out out' : List Sector} where
+        pub look_settled-blamed : FaultsAddUp OfStore r.passes r.entries (g.last s) faults_at_opening faults → LookSettled g answer i r r' s s' out out'
+            → {faults' : ℕ} (late late' : ℕ) → IsCaused answer faults faults' late late' → FaultsAddUp OfStore r'.passes r'.entries (g.last s') faults_at_opening faults'
+        look_settled-blamed blamed step {faults'} late late' cause =
+            rw step.call.last (read-store r r' i step.pass step.there step.ticket step.content out out' blamed (store-faultless (co.each i step.pass step.there) step.ticket step.has) answer step.effect step.has faults' late late' cause)
 
-          pub look_settled-base_blamed : {last : ℕ} → FaultsAddUp OfBase passes history last faults_at_opening faults → LookSettled answer i passes passes' history history' flight flight' tells tells' disk disk' store_last store_last' out out' → FaultsAddUp OfBase passes' history' last faults_at_opening faults
-          look_settled-base_blamed {last} blamed step =
-              read-other i step.pass step.there step.ticket step.content history' out out' blamed (store-faultless (co.each i step.pass step.there) step.ticket step.has) answer (fault.Store step.ticket.number) refl step.effect
+        pub look_settled-base_blamed : {last : ℕ} → FaultsAddUp OfBase r.passes r.entries last faults_at_opening faults → LookSettled g answer i r r' s s' out out' → FaultsAddUp OfBase r'.passes r'.entries last faults_at_opening faults
+        look_settled-base_blamed {last} blamed step =
+            read-other r r' i step.pass step.there step.ticket step.content out out' blamed (store-faultless (co.each i step.pass step.there) step.ticket step.has) answer (fault.Store step.ticket.number) refl step.effect
 
-      module _ {last : ℕ} {base_flight' : List Ticket → Type 0} {base_tells : Type 0} {base out out' : List Sector} where
-        pub base_look_settled-blamed : FaultsAddUp OfBase passes history last faults_at_opening faults → BaseLookSettled answer shape i passes passes' history history' base_flight base_flight' base_tells base out out'
-            → {last' faults' : ℕ} → last' ≡ last → (late late' : ℕ) → IsCaused answer faults faults' late late' → FaultsAddUp OfBase passes' history' last' faults_at_opening faults'
-        base_look_settled-blamed blamed step {last'} {faults'} same late late' cause =
-            rw same (read-base i step.pass step.there step.ticket (step.content ++ replicate (step.pass.piece - step.ticket.count) zero_sector) history' out out' blamed (base-faultless (co.each i step.pass step.there) step.ticket step.has) answer step.effect step.has faults' late late' cause)
+    module _ {answer : Settled} {last : ℕ} {b' : B} {out out' : List Sector} where
+      pub base_look_settled-blamed : FaultsAddUp OfBase r.passes r.entries last faults_at_opening faults → BaseLookSettled h answer i r r' b b' out out'
+          → {last' faults' : ℕ} → last' ≡ last → (late late' : ℕ) → IsCaused answer faults faults' late late' → FaultsAddUp OfBase r'.passes r'.entries last' faults_at_opening faults'
+      base_look_settled-blamed blamed step {last'} {faults'} same late late' cause =
+          rw same (read-base r r' i step.pass step.there step.ticket (step.content ++ replicate (step.pass.piece - step.ticket.count) zero_sector) out out' blamed (base-faultless (co.each i step.pass step.there) step.ticket step.has) answer step.effect step.has faults' late late' cause)
 
-        pub base_look_settled-store_blamed : FaultsAddUp OfStore passes history last faults_at_opening faults → BaseLookSettled answer shape i passes passes' history history' base_flight base_flight' base_tells base out out' → FaultsAddUp OfStore passes' history' last faults_at_opening faults
-        base_look_settled-store_blamed blamed step =
-            read-other i step.pass step.there step.ticket (step.content ++ replicate (step.pass.piece - step.ticket.count) zero_sector) history' out out' blamed (base-faultless (co.each i step.pass step.there) step.ticket step.has) answer (fault.Base step.ticket.number) refl step.effect
+      pub base_look_settled-store_blamed : FaultsAddUp OfStore r.passes r.entries last faults_at_opening faults → BaseLookSettled h answer i r r' b b' out out' → FaultsAddUp OfStore r'.passes r'.entries last faults_at_opening faults
+      base_look_settled-store_blamed blamed step =
+          read-other r r' i step.pass step.there step.ticket (step.content ++ replicate (step.pass.piece - step.ticket.count) zero_sector) out out' blamed (base-faultless (co.each i step.pass step.there) step.ticket step.has) answer (fault.Base step.ticket.number) refl step.effect
 
 -- The numbers of the device that such a step has not called.
-pub fills-numbered : {shape : Shape} {passes passes' : List Pass} {i : ℕ} (last : ℕ) → FillsZeros shape i passes passes' → IsAt passes' i (HasNextTicket OfBase last last)
-fills-numbered {shape} {passes} {passes'} {i} last step = none-numbered OfBase passes passes' last last i step.pass (after_filled step.pass (replicate shape.block zero_sector)) step.there step.after refl refl
+pub fills-numbered : {r r' : RequestState} {i : ℕ} (last : ℕ) → FillsZeros i r r' → IsAt r'.passes i (HasNextTicket OfBase last last)
+fills-numbered {r} {r'} {i} last step = none-numbered OfBase r.passes r'.passes last last i step.pass (after_filled step.pass (replicate r.shape.block zero_sector)) step.there (passes-after step.after) refl refl
 
-pub sees-numbered : {content : List Sector} {passes passes' : List Pass} {history history' : List Entry} {out out' : List Sector} {i : ℕ} (device : Device) (last : ℕ) → Sees content i passes passes' history history' out out' → IsAt passes' i (HasNextTicket device last last)
-sees-numbered {content} {passes} {passes'} {history} {history'} {out} {out'} {i} device last step =
-    let p = step.pass in none-numbered device passes passes' last last i p (after_spending 1 p.piece (after_piece p)) step.there step.after (ended-flying device 1 p.piece p) refl
+pub sees-numbered : {content : List Sector} {r r' : RequestState} {out out' : List Sector} {i : ℕ} (device : Device) (last : ℕ) → Sees content i r r' out out' → IsAt r'.passes i (HasNextTicket device last last)
+sees-numbered {content} {r} {r'} {out} {out'} {i} device last step =
+    let p = step.pass in none-numbered device r.passes r'.passes last last i p (after_spending 1 p.piece (after_piece p)) step.there (passes-after step.after) (ended-flying device 1 p.piece p) refl
 
-module _ {shape : Shape} {fresh : List Bool} {places : ℕ → Option ℕ} {passes : List Pass} {history : List Entry} {sectors depth base_sectors base_depth : ℕ} {flight base_flight : List Ticket → Type 0}
-    (co : IsCoherent shape fresh places passes history sectors depth base_sectors base_depth flight base_flight) (i : ℕ) (at : IsAt passes i (λ p. p.phase ≡ Held)) where
-  held-none : (p : Pass) → slice_get passes i ≡ Some p → HasNone p
+module _ {S B : Type 0} {g : store.Ghosts S} {h : base.Ghosts B} {r : RequestState} {places : ℕ → Option ℕ} {s : S} {b : B} (co : IsCoherent g h r places s b) (i : ℕ) (at : IsAt r.passes i (λ p. p.phase ≡ Held)) where
+  held-none : (p : Pass) → slice_get r.passes i ≡ Some p → HasNone p
   held-none p there = held-ticket (co.each i p there) (ap (λ (x : Pass). x.phase) (some-inj (sym there ∙ at.1)) ∙ at.2)
 
-  pub looks-base_numbered : (last : ℕ) {passes' : List Pass} {flight' : List Ticket → Type 0} {tells tells' : Type 0} {disk disk' : Disk} {store_last store_last' : ℕ} → Looks shape i passes passes' flight flight' tells tells' disk disk' store_last store_last' → IsAt passes' i (HasNextTicket OfBase last last)
-  looks-base_numbered last {passes'} {flight'} {tells} {tells'} {disk} {disk'} {store_last} {store_last'} step = let p = step.pass in none-numbered OfBase passes passes' last last i p (after_look p step.ticket) step.there step.after (ap ticket_number (held-none p step.there).fetch) refl
+  pub looks-base_numbered : (last : ℕ) {r' : RequestState} {s' : S} → Looks g i r r' s s' → IsAt r'.passes i (HasNextTicket OfBase last last)
+  looks-base_numbered last {r'} {s'} step = let p = step.pass in none-numbered OfBase r.passes r'.passes last last i p (after_look p step.ticket) step.there (passes-after step.after) (ap ticket_number (held-none p step.there).fetch) refl
 
-  pub base_looks-store_numbered : (last : ℕ) {passes' : List Pass} {base_flight' : List Ticket → Type 0} → LooksAtBase shape i passes passes' base_flight base_flight' → IsAt passes' i (HasNextTicket OfStore last last)
-  base_looks-store_numbered last {passes'} {base_flight'} step = let p = step.pass in none-numbered OfStore passes passes' last last i p (after_base_look p step.ticket) step.there step.after (ap ticket_number (held-none p step.there).ticket) refl
+  pub base_looks-store_numbered : (last : ℕ) {r' : RequestState} {b' : B} → LooksAtBase h i r r' b b' → IsAt r'.passes i (HasNextTicket OfStore last last)
+  base_looks-store_numbered last {r'} {b'} step = let p = step.pass in none-numbered OfStore r.passes r'.passes last last i p (after_base_look p step.ticket) step.there (passes-after step.after) (ap ticket_number (held-none p step.there).ticket) refl

@@ -9,7 +9,7 @@ use Rattle.vd_law.specs.Rules.{IsRegular, IsShown}
 use Rattle.vd_device.specs.declared.ticket.Ticket.{Ticket}
 use Rattle.vd_device.specs.declared.ticket.Kind.TheVariants.{Write as WriteKind}
 use Rattle.vd_device.specs.Tickets.{ticket_id, Takes}
-use Rattle.vd_device.specs.Disks.{Disk, Adds}
+use Rattle.vd_device.specs.Disks.{Adds}
 use Rattle.vd_passes.specs.declared.shape.Shape.{Shape}
 use Rattle.vd_passes.specs.declared.pass.Pass.{Pass}
 use Rattle.vd_passes.specs.declared.pass.Phase.TheVariants.{Filled, Issuing}
@@ -18,10 +18,14 @@ use Rattle.vd_passes.specs.Standings.{standing}
 use Rattle.vd_passes.specs.Passes.{has_region, call_id, TicketCovers, IsWriting, IsFilling, IsPiece, IsStored, IsAsHistorySays}
 use Rattle.vd_passes.specs.Coherent.{IsCoherent, IsFaithful, AgreesInSector, IsUnwritten, IsWritten, IsUnfilled, IsFilled}
 use Rattle.vd_passes.proofs.Lists.{some-inj, at-set, length-set', tickets-taken, fetches-same}
+use Rattle.vd_passes.proofs.Growing.{AreAlike}
 use Rattle.vd_passes.proofs.Places.{same-block, same-place}
 use Rattle.vd_passes.proofs.Standing.{shown-push}
 use Rattle.vd_passes.proofs.Tracks.{track-more, disk-track, same-false, done-none, done-own, done-other, broke-none, broke-own, broke-other}
 use Rattle.vd_passes.proofs.Regions.{region-of, write-ticket, issuing-write, issuing-place, writing-block, filling-range, alone, unwritten-set, written-set, unfilled-set, filled-set, apart-set, each-set}
+use Rattle.vd_device.specs.declared.store.Store.{Ghosts as StoreGhosts}
+use Rattle.vd_device.specs.declared.base.Base.{Ghosts as BaseGhosts}
+use Rattle.vd_passes.specs.Requests.{requests}
 
 -- an entry closes the write of one call and no other
 pub record Closes (id : CallId) (ws ws' : List (CallId × Sector)) : Type 0 where
@@ -43,8 +47,8 @@ broke-closes s t id = record {
   other = broke-other s t id;
 }
 
-module _ {shape : Shape} {fresh : List Bool} {places : ℕ → Option ℕ} {passes : List Pass} {history : List Entry} {sectors depth base_sectors base_depth : ℕ} {flight base_flight : List Ticket → Type 0}
-    (co : IsCoherent shape fresh places passes history sectors depth base_sectors base_depth flight base_flight) (i : ℕ) (p : Pass) (there : slice_get passes i ≡ Some p)
+module _ {shape : Shape} {fresh : List Bool} {places : ℕ → Option ℕ} {passes : List Pass} {history : List Entry} {S B : Type 0} {g : StoreGhosts S} {h : BaseGhosts B} {store : S} {base : B}
+    (co : IsCoherent g h (requests shape fresh passes history) places store base) (i : ℕ) (p : Pass) (there : slice_get passes i ≡ Some p)
     (issuing : p.phase ≡ Issuing) (t : Ticket) (has : p.ticket ≡ Some t) where
   pub stands : IsAsHistorySays shape fresh places (standing history i) p
   stands = co.each i p there
@@ -115,38 +119,38 @@ module _ {shape : Shape} {fresh : List Bool} {places : ℕ → Option ℕ} {pass
       ]
     ]
 
-    pub close-coherent : (e : Entry) (fresh' : List Bool) (flight' : List Ticket → Type 0) → (caller_of e).pass ≡ i → IsRegular (shape.block * shape.blocks) (history ++ e ∷ [])
+    pub close-coherent : (e : Entry) (fresh' : List Bool) (store' : S) → AreAlike g h store store' base base → (caller_of e).pass ≡ i → IsRegular (shape.block * shape.blocks) (history ++ e ∷ [])
         → ((s : ℕ) → Closes (call_id i p) (writes history s) (writes (history ++ e ∷ []) s))
         → length fresh' ≡ length fresh → ((b : ℕ) → b ≢ p.block → slice_get fresh' b ≡ slice_get fresh b)
         → ((j : ℕ) (q : Pass) → slice_get passes j ≡ Some q → j ≢ i → IsAsHistorySays shape fresh' places (standing history j) q)
-        → IsAsHistorySays shape fresh' places (standing (history ++ e ∷ []) i) p' → p'.ticket ≡ None → p'.fetch ≡ None → Takes t flight flight'
-        → IsCoherent shape fresh' places (slice_set passes i p') (history ++ e ∷ []) sectors depth base_sectors base_depth flight' base_flight
-    close-coherent e fresh' flight' of regular closes size same each next no_ticket no_fetch takes = record {
-      shaped = co.shaped;
+        → IsAsHistorySays shape fresh' places (standing (history ++ e ∷ []) i) p' → p'.ticket ≡ None → p'.fetch ≡ None → Takes t (g.flight store) (g.flight store')
+        → IsCoherent g h (requests shape fresh' (slice_set passes i p') (history ++ e ∷ [])) places store' base
+    close-coherent e fresh' store' alike of regular closes size same each next no_ticket no_fetch takes = record {
+      shaped = rw alike.sectors co.shaped;
       size = size ∙ co.size;
-      placed = co.placed;
+      placed = rw alike.sectors co.placed;
       fresh_placed = λ b is. elim (cases_eq b p.block) [
         | inl this ↦ (p.at, ap places this ∙ placed)
         | inr ne ↦ co.fresh_placed b (sym (same b ne) ∙ is)
       ];
       regular = regular;
       few = rw (length-set' passes i p') co.few;
-      deep = co.deep;
+      deep = rw alike.depth co.deep;
       base_deep = co.base_deep;
       each = each-set shape fresh' places passes history e i p p' there of each next;
       apart = apart-set passes i p p' there co.apart (λ k r at ne has_p. absurd (cc));
       flight = takes _ _ (tickets-taken passes i p p' t there has no_ticket) co.flight;
-      base_flight = subst base_flight (sym (fetches-same passes i p p' there (no_fetch ∙ sym no-fetch))) co.base_flight;
+      base_flight = subst (h.flight base) (sym (fetches-same passes i p p' there (no_fetch ∙ sym no-fetch))) co.base_flight;
       guest = λ s. close-guest s _ (closes s);
     }
 
   -- Where the store tells.
-  module _ {start : List Sector} {rest : ℕ → Sector} {disk : Disk} {last : ℕ} (fa : IsFaithful start rest shape fresh places passes history disk last) where
+  module _ {start : List Sector} {rest : ℕ → Sector} (fa : IsFaithful g start rest (requests shape fresh passes history) places store) where
     abbrev guest-of : ℕ → Track
     guest-of s = track start history s
 
     abbrev store-of : ℕ → Track
-    store-of a = track disk.start disk.log a
+    store-of a = track (g.disk store).start (g.disk store).log a
 
     -- the ticket found at a pass that is this one is this ticket
     pub this-ticket : (q : Pass) (j : ℕ) (u : Ticket) → slice_get passes j ≡ Some q → q.ticket ≡ Some u → j ≡ i → u ≡ t
@@ -186,17 +190,17 @@ module _ {shape : Shape} {fresh : List Bool} {places : ℕ → Option ℕ} {pass
         ]
       ]
 
-      pub close-faithful : {disk' : Disk} (e e' : Entry) (fresh' : List Bool) → p'.ticket ≡ None → IsShown start (past history) e → Adds e' disk disk'
+      pub close-faithful : {store' : S} → g.last store' ≡ g.last store → (e e' : Entry) (fresh' : List Bool) → p'.ticket ≡ None → IsShown start (past history) e → Adds e' (g.disk store) (g.disk store')
           → ((s : ℕ) → Closes (call_id i p) (guest-of s).writes (follow s (guest-of s) e).writes) → ((a : ℕ) → Closes (ticket_id t) (store-of a).writes (follow a (store-of a) e').writes)
-          → ((s : ℕ) → s < length start → AgreesInSector shape.block fresh' places rest s (follow s (guest-of s) e) (λ a. follow a (store-of a) e'))
+          → ((s : ℕ) → s < length start → AgreesInSector (requests shape fresh' passes history) places rest s (follow s (guest-of s) e) (λ a. follow a (store-of a) e'))
           → ((a : ℕ) (w : IsFilled shape.block passes a (track start history) (store-of a)) → (w.by ≡ i → ⊥) → (v : Sector) → Contains (guest-of w.sector).contents v → Contains (follow w.sector (guest-of w.sector) e).contents v)
-          → IsFaithful start rest shape fresh' places (slice_set passes i p') (history ++ e ∷ []) disk' last
-      close-faithful {disk'} e e' fresh' no_ticket true_to adds closes closes' stands' more = record {
+          → IsFaithful g start rest (requests shape fresh' (slice_set passes i p') (history ++ e ∷ [])) places store'
+      close-faithful {store'} same e e' fresh' no_ticket true_to adds closes closes' stands' more = record {
         size = fa.size;
         shown = shown-push start history e fa.shown true_to;
         numbers = λ j q u at is. elim (at-set passes i j p' p q there at) [
           | inl a ↦ absurd (let n = sym is ∙ ap (λ (x : Pass). x.ticket) a.1 ∙ no_ticket in cc)
-          | inr a ↦ fa.numbers j q u a.1 is
+          | inr a ↦ rw same (fa.numbers j q u a.1 is)
         ];
         distinct = λ j k q r u v at_j at_k ne has_u has_v. elim (at-set passes i j p' p q there at_j) [
           | inl a ↦ absurd (let n = sym has_u ∙ ap (λ (x : Pass). x.ticket) a.1 ∙ no_ticket in cc)

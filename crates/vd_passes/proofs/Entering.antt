@@ -1,13 +1,10 @@
 -- A pass that takes the region of its next piece's block keeps a core coherent, and true to its devices.
 use Rattle.std.proofs.Common.{◌≡◌, ◌≢◌, ℕ, ◌+◌, ◌*◌, ◌<◌, ◌≤◌, ◌⊎◌, Bool, true, false, List, map, refl, sym, ◌∙◌, ap, subst, inl, inr, arith, Option, Some, slice_get, slice_set}
-use Rattle.std.proofs.Math.Nat.{mul-le-mul_left}
-use Rattle.std.proofs.lemmas.Bool.{cases_lt}
+use Rattle.vd_lists.proofs.Numbers.{block_below_end}
 use Rattle.vd_law.specs.declared.entry.Sector.{Sector}
 use Rattle.vd_law.specs.Entries.{Asked, Read, Write, Flush, Entry}
 use Rattle.vd_regions.specs.declared.regions.Region.{Region}
 use Rattle.vd_regions.specs.Holding.{Hinders}
-use Rattle.vd_device.specs.declared.ticket.Ticket.{Ticket}
-use Rattle.vd_device.specs.Disks.{Disk}
 use Rattle.vd_passes.specs.declared.shape.Shape.{Shape}
 use Rattle.vd_passes.specs.declared.pass.Pass.{Pass}
 use Rattle.vd_passes.specs.declared.pass.Phase.TheVariants.{Idle, Asked as HasAsked, Issuing, Ready}
@@ -19,13 +16,10 @@ use Rattle.vd_passes.proofs.Lists.{some-inj, tickets-same, fetches-same}
 use Rattle.vd_passes.proofs.Regions.{request-kept}
 use Rattle.vd_passes.proofs.NotIssuing.{quiet-coherent, still-faithful}
 use Rattle.vd_passes.proofs.Holding.{region_on, apart-entered, regions-taken}
-
--- a block that begins below the end of a disk of so many is one of them
-below-end : (block b blocks s : ℕ) → block * b ≤ s → s < block * blocks → b < blocks
-below-end block b blocks s from to = elim (cases_lt b blocks) [
-  | inl less ↦ less
-  | inr more ↦ absurd (let h : block * blocks ≤ block * b = mul-le-mul_left block more in omega arith)
-]
+use Rattle.vd_device.specs.declared.store.Store.{Ghosts as StoreGhosts}
+use Rattle.vd_device.specs.declared.base.Base.{Ghosts as BaseGhosts}
+use Rattle.vd_passes.specs.Requests.{RequestState, requests}
+use Rattle.vd_passes.proofs.Growing.{alike-same}
 
 -- a request of some sectors is no flush
 pub served : (p : Pass) (r : Asked) → IsRequestOf p r → 0 < p.count → p.flush ≡ false
@@ -39,13 +33,13 @@ next-piece {shape} {fresh} {places} {t} {p} {block} {piece} at stands was next =
   no_more = next.no_more;
   from = next.from;
   to = next.inside;
-  in_disk = let range = stands.range (λ e. absurd (cc)) in below-end shape.block block shape.blocks (p.first + p.done) next.from (let r = range.0 in let some = next.some in let no_more = next.no_more in omega arith);
+  in_disk = let range = stands.range (λ e. absurd (cc)) in block_below_end shape.block block shape.blocks (p.first + p.done) next.from (let r = range.0 in let some = next.some in let no_more = next.no_more in omega arith);
   ends = next.ends;
 }
 
-module _ {shape : Shape} {fresh : List Bool} {places : ℕ → Option ℕ} {passes passes' : List Pass} {history : List Entry} {sectors depth base_sectors base_depth i : ℕ} {flight base_flight : List Ticket → Type 0}
-    (co : IsCoherent shape fresh places passes history sectors depth base_sectors base_depth flight base_flight) (was : IsAt passes i (λ p. p.phase ≡ HasAsked))
-    (step : Enters shape places i passes passes')
+module _ {shape : Shape} {fresh : List Bool} {places : ℕ → Option ℕ} {passes : List Pass} {history : List Entry} {r' : RequestState} {i : ℕ} {S B : Type 0} {g : StoreGhosts S} {h : BaseGhosts B} {store : S} {base : B}
+    (co : IsCoherent g h (requests shape fresh passes history) places store base) (was : IsAt passes i (λ p. p.phase ≡ HasAsked))
+    (step : Enters places i (requests shape fresh passes history) r')
     (regions : List (Option Region)) (held : regions ≡ map region_of passes)
     (free : (by : ℕ) → Hinders regions i (region_on step.block step.pass.write) by → ⊥) where
   abbrev entering : Pass
@@ -107,17 +101,17 @@ module _ {shape : Shape} {fresh : List Bool} {places : ℕ → Option ℕ} {pass
     buffer = entering-stands.buffer;
   }
 
-  pub enters-coherent : IsCoherent shape fresh places passes' history sectors depth base_sectors base_depth flight base_flight
+  pub enters-coherent : IsCoherent g h r' places store base
   enters-coherent = rw step.after
-      (quiet-coherent co i entering step.there entering-not entered (λ e. absurd (cc)) flight base_flight stands-entered
+      (quiet-coherent co i entering step.there entering-not entered (λ e. absurd (cc)) store base alike-same stands-entered
       (apart-entered passes i step.block entered (λ by h. free by (subst (λ rs. Hinders rs i (region_on step.block entering.write) by) (sym held) h)) refl)
-      (subst flight (sym (tickets-same passes i entering entered step.there refl)) co.flight)
-      (subst base_flight (sym (fetches-same passes i entering entered step.there refl)) co.base_flight))
+      (subst (g.flight store) (sym (tickets-same passes i entering entered step.there refl)) co.flight)
+      (subst (h.flight base) (sym (fetches-same passes i entering entered step.there refl)) co.base_flight))
 
-  pub enters-faithful : {start : List Sector} {rest : ℕ → Sector} {disk : Disk} {last : ℕ} → IsFaithful start rest shape fresh places passes history disk last → IsFaithful start rest shape fresh places passes' history disk last
-  enters-faithful {start} {rest} {disk} {last} fa = rw step.after
+  pub enters-faithful : {start : List Sector} {rest : ℕ → Sector} → IsFaithful g start rest (requests shape fresh passes history) places store → IsFaithful g start rest r' places store
+  enters-faithful {start} {rest} fa = rw step.after
       (still-faithful co i entering step.there entering-not entered (λ e. absurd (cc)) fa (λ t is. is) (λ e. absurd (cc)))
 
   -- the pass has the region from now on
-  pub enters-regions : map region_of passes' ≡ slice_set regions i (Some (region_on step.block step.pass.write))
+  pub enters-regions : map region_of r'.passes ≡ slice_set regions i (Some (region_on step.block step.pass.write))
   enters-regions = rw (step.after, held) (regions-taken passes i entered refl)

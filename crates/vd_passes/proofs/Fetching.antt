@@ -8,7 +8,6 @@ use Rattle.vd_device.specs.declared.ticket.Kind.TheVariants.{Read as ReadKind}
 use Rattle.vd_device.specs.declared.settled.Settled.{Settled}
 use Rattle.vd_device.specs.declared.settled.Settled.TheVariants as settled
 use Rattle.vd_device.specs.Tickets.{IsClear, Puts}
-use Rattle.vd_device.specs.Disks.{Disk}
 use Rattle.vd_device.specs.Calls.{Settles, Gives, IsHeld}
 use Rattle.vd_passes.specs.declared.shape.Shape.{Shape}
 use Rattle.vd_passes.specs.declared.pass.Pass.{Pass}
@@ -26,6 +25,10 @@ use Rattle.vd_passes.proofs.Regions.{region-of, fetch-ticket, held-ticket, look-
 use Rattle.vd_passes.proofs.NotIssuing.{quiet-coherent, still-faithful, apart-kept, apart-free}
 use Rattle.vd_passes.proofs.Onward.{not-idle, moved-stands, failed-stands}
 use Rattle.vd_format.specs.Background.{zero_sector}
+use Rattle.vd_device.specs.declared.store.Store.{Ghosts as StoreGhosts}
+use Rattle.vd_device.specs.declared.base.Base.{Ghosts as BaseGhosts}
+use Rattle.vd_passes.specs.Requests.{RequestState, requests}
+use Rattle.vd_passes.proofs.Growing.{AreAlike, alike-same, alike-base}
 
 -- it holds the region of a block that isn't fresh, to write a piece of it
 abbrev pub IsToFill : List Bool → Pass → Type 0
@@ -62,13 +65,13 @@ base-reads Looking shape fresh q u has is = elim has.1 [
 base-reads Flushing shape fresh q u has is = absurd (let n = has.0 in cc)
 base-reads Ready shape fresh q u has is = absurd (let n = has.fetch in cc)
 
-module _ {shape : Shape} {fresh : List Bool} {places : ℕ → Option ℕ} {passes : List Pass} {history : List Entry} {sectors depth base_sectors base_depth : ℕ} {flight base_flight : List Ticket → Type 0}
-    (co : IsCoherent shape fresh places passes history sectors depth base_sectors base_depth flight base_flight) (i : ℕ) where
+module _ {shape : Shape} {fresh : List Bool} {places : ℕ → Option ℕ} {passes : List Pass} {history : List Entry} {S B : Type 0} {g : StoreGhosts S} {h : BaseGhosts B} {store : S} {base : B}
+    (co : IsCoherent g h (requests shape fresh passes history) places store base) (i : ℕ) where
   end-within : (p : Pass) → slice_get passes i ≡ Some p → has_region p.phase ≡ true → p.first + p.count ≤ 2 ^ 26
   end-within p there has = let range = ((co.each i p there).range (not-idle p.phase has)).0 in let size = co.shaped.size in omega arith
 
   -- A pass that holds its region can read from the base.
-  pub can-read-base : IsAt passes i (λ p. p.phase ≡ Held) → IsAt passes i (CanReadBase shape base_sectors base_depth base_flight)
+  pub can-read-base : IsAt passes i (λ p. p.phase ≡ Held) → IsAt passes i (CanReadBase h shape base)
   can-read-base at =
       let p = at.0 in let there = at.1 in let has = region-of _ Held refl at.2 in let stands = co.each i p there in
       let limit = co.shaped.limit in let tracked = co.shaped.tracked in let size = co.shaped.size in (
@@ -94,7 +97,7 @@ module _ {shape : Shape} {fresh : List Bool} {places : ℕ → Option ℕ} {pass
 
   module _ (p : Pass) (there : slice_get passes i ≡ Some p) (has : has_region p.phase ≡ true) (t : Ticket) (is : p.fetch ≡ Some t) where
     -- the pass has this read in flight
-    waiting : p.ticket ≡ None → IsWaitingForBase shape base_flight p
+    waiting : p.ticket ≡ None → IsWaitingForBase h shape base p
     waiting none = let stands = co.each i p there in let gone : Pass = record p { fetch = None } in record {
       ticket = t;
       has = is;
@@ -106,7 +109,7 @@ module _ {shape : Shape} {fresh : List Bool} {places : ℕ → Option ℕ} {pass
       buffer = stands.buffer;
     }
 
-  pub waiting-for-fetch : IsAt passes i (λ p. p.phase ≡ Fetching) → IsAt passes i (IsWaitingForBase shape base_flight)
+  pub waiting-for-fetch : IsAt passes i (λ p. p.phase ≡ Fetching) → IsAt passes i (IsWaitingForBase h shape base)
   waiting-for-fetch at = let f = fetch-ticket (co.each i at.0 at.1) at.2 in (at.0, at.1, waiting at.0 at.1 (region-of _ Fetching refl at.2) f.0 f.1 f.2)
 
   -- a fetch reads a block at most
@@ -115,7 +118,7 @@ module _ {shape : Shape} {fresh : List Bool} {places : ℕ → Option ℕ} {pass
       let same : t.count ≡ f.0.count = ap (λ (x : Ticket). x.count) (some-inj (sym is ∙ f.1)) in omega arith
 
   -- a pass that reads its piece from the base: its block isn't fresh
-  pub waiting-for-base : IsAt passes i (λ p. (p.phase ≡ Looking) × (slice_get fresh p.block ≡ Some false)) → IsAt passes i (IsWaitingForBase shape base_flight)
+  pub waiting-for-base : IsAt passes i (λ p. (p.phase ≡ Looking) × (slice_get fresh p.block ≡ Some false)) → IsAt passes i (IsWaitingForBase h shape base)
   waiting-for-base at = let l = look-ticket (co.each i at.0 at.1) at.2.0 in elim l.1 [
     | inl store ↦ absurd (let local = store.local in let not_fresh = at.2.1 in cc)
     | inr base ↦ (at.0, at.1, waiting at.0 at.1 (region-of _ Looking refl at.2.0) l.0 base.has base.none)
@@ -132,25 +135,25 @@ module _ {shape : Shape} {fresh : List Bool} {places : ℕ → Option ℕ} {pass
     none : HasNone p
     none = held-ticket stands to_fill.0
 
-    pub fetch-coherent : (t : Ticket) (base_flight' : List Ticket → Type 0) → t.kind ≡ ReadKind → t.first ≡ shape.block * p.block → t.count ≡ count_below shape.limit (shape.block * p.block) shape.block → Puts t base_flight base_flight'
-        → IsCoherent shape fresh places (slice_set passes i (after_fetch p t)) history sectors depth base_sectors base_depth flight base_flight'
-    fetch-coherent t base_flight' kind first count puts = quiet-coherent co i p there (λ e. absurd (let h = to_fill.0 in cc)) (after_fetch p t) (λ e. absurd (cc)) flight base_flight'
+    pub fetch-coherent : (t : Ticket) (base' : B) → AreAlike g h store store base base' → t.kind ≡ ReadKind → t.first ≡ shape.block * p.block → t.count ≡ count_below shape.limit (shape.block * p.block) shape.block → Puts t (h.flight base) (h.flight base')
+        → IsCoherent g h (requests shape fresh (slice_set passes i (after_fetch p t)) history) places store base'
+    fetch-coherent t base' alike kind first count puts = quiet-coherent co i p there (λ e. absurd (let h = to_fill.0 in cc)) (after_fetch p t) (λ e. absurd (cc)) store base' alike
         (moved-stands stands region Fetching p.ticket (Some t) p.buffer refl (ap (λ (ph : Phase). pending_of ph p.piece) (sym to_fill.0)) (λ e. to_fill.1) (λ e. absurd (cc))
         (t, refl, none.ticket, record { kind = kind; first = first; count = count }, to_fill.2) stands.buffer)
         (apart-kept passes co.apart i p (after_fetch p t) there region refl refl)
-        (subst flight (sym (tickets-same passes i p (after_fetch p t) there refl)) co.flight)
+        (subst (g.flight store) (sym (tickets-same passes i p (after_fetch p t) there refl)) co.flight)
         (puts _ _ (fetches-put passes i p (after_fetch p t) t there none.fetch refl) co.base_flight)
 
     abbrev zeros : List Sector
     zeros = replicate shape.block zero_sector
 
-    pub zeros-coherent : IsCoherent shape fresh places (slice_set passes i (after_filled p zeros)) history sectors depth base_sectors base_depth flight base_flight
-    zeros-coherent = quiet-coherent co i p there (λ e. absurd (let h = to_fill.0 in cc)) (after_filled p zeros) (λ e. absurd (cc)) flight base_flight
+    pub zeros-coherent : IsCoherent g h (requests shape fresh (slice_set passes i (after_filled p zeros)) history) places store base
+    zeros-coherent = quiet-coherent co i p there (λ e. absurd (let h = to_fill.0 in cc)) (after_filled p zeros) (λ e. absurd (cc)) store base alike-same
         (moved-stands stands region Filled p.ticket None zeros refl (ap (λ (ph : Phase). pending_of ph p.piece) (sym to_fill.0)) (λ e. to_fill.1) (λ e. absurd (cc))
         (record { ticket = none.ticket; fetch = refl }, to_fill.2) (length-replicate shape.block zero_sector))
         (apart-kept passes co.apart i p (after_filled p zeros) there region refl refl)
-        (subst flight (sym (tickets-same passes i p (after_filled p zeros) there refl)) co.flight)
-        (subst base_flight (sym (fetches-same passes i p (after_filled p zeros) there (sym none.fetch))) co.base_flight)
+        (subst (g.flight store) (sym (tickets-same passes i p (after_filled p zeros) there refl)) co.flight)
+        (subst (h.flight base) (sym (fetches-same passes i p (after_filled p zeros) there (sym none.fetch))) co.base_flight)
 
   -- one that reads its block from the base
   module _ (p : Pass) (there : slice_get passes i ≡ Some p) (fetching : p.phase ≡ Fetching) (t : Ticket) (has : p.fetch ≡ Some t) where
@@ -175,80 +178,80 @@ module _ {shape : Shape} {fresh : List Bool} {places : ℕ → Option ℕ} {pass
     full : (content : List Sector) → length content ≡ t.count → length (content ++ replicate (shape.block - length content) zero_sector) ≡ shape.block
     full content long = length-padded content shape.block (let w = within content long in omega arith)
 
-    pub fetched-coherent : (answer : Settled) (content : List Sector) (base_flight' : List Ticket → Type 0) (out out' : List Sector) → length content ≡ t.count → Settles answer t out out' base_flight base_flight'
-        → IsCoherent shape fresh places (slice_set passes i (after_base_read answer p t shape.block content)) history sectors depth base_sectors base_depth flight base_flight'
-    fetched-coherent settled.Done content base_flight' out out' long takes =
+    pub fetched-coherent : (answer : Settled) (content : List Sector) (base' : B) (out out' : List Sector) → AreAlike g h store store base base' → length content ≡ t.count → Settles answer t out out' (h.flight base) (h.flight base')
+        → IsCoherent g h (requests shape fresh (slice_set passes i (after_base_read answer p t shape.block content)) history) places store base'
+    fetched-coherent settled.Done content base' out out' alike long takes =
         let buffer = content ++ replicate (shape.block - length content) zero_sector in let p' = after_filled p buffer in
-        quiet-coherent co i p there (λ e. absurd (cc)) p' (λ e. absurd (cc)) flight base_flight'
+        quiet-coherent co i p there (λ e. absurd (cc)) p' (λ e. absurd (cc)) store base' alike
         (moved-stands now holds Filled p.ticket None buffer refl (ap (λ (ph : Phase). pending_of ph p.piece) (sym fetching)) (λ e. now.write (ap writes_in fetching)) (λ e. absurd (cc))
         (record { ticket = fetch.2; fetch = refl }, fetch.4) (full content long))
         (apart-kept passes co.apart i p p' there holds refl refl)
-        (subst flight (sym (tickets-same passes i p p' there refl)) co.flight)
+        (subst (g.flight store) (sym (tickets-same passes i p p' there refl)) co.flight)
         (takes _ _ (fetches-taken passes i p p' t there has refl) co.base_flight)
-    fetched-coherent (settled.NotYet late) content base_flight' out out' long keeps =
-        quiet-coherent co i p there (λ e. absurd (cc)) p (λ e. absurd (cc)) flight base_flight' now (apart-kept passes co.apart i p p there holds refl refl)
-        (subst flight (sym (tickets-same passes i p p there refl)) co.flight)
-        (keeps.2 _ (subst base_flight (sym (fetches-same passes i p p there refl)) co.base_flight))
-    fetched-coherent (settled.Failed number) content base_flight' out out' long fails =
+    fetched-coherent (settled.NotYet late) content base' out out' alike long keeps =
+        quiet-coherent co i p there (λ e. absurd (cc)) p (λ e. absurd (cc)) store base' alike now (apart-kept passes co.apart i p p there holds refl refl)
+        (subst (g.flight store) (sym (tickets-same passes i p p there refl)) co.flight)
+        (keeps.2 _ (subst (h.flight base) (sym (fetches-same passes i p p there refl)) co.base_flight))
+    fetched-coherent (settled.Failed number) content base' out out' alike long fails =
         let p' = after_fault (fault.Base t.number) p in let piece = now.piece holds in
-        quiet-coherent co i p there (λ e. absurd (cc)) p' (λ e. absurd (cc)) flight base_flight'
+        quiet-coherent co i p there (λ e. absurd (cc)) p' (λ e. absurd (cc)) store base' alike
         (failed-stands now holds (fault.Base t.number) (ap (λ (ph : Phase). pending_of ph p.piece) fetching) ((let s = piece.some in let n = piece.no_more in omega arith), refl))
         (λ k r at ne. apart-free p' r refl)
-        (subst flight (sym (tickets-same passes i p p' there (sym fetch.2))) co.flight)
+        (subst (g.flight store) (sym (tickets-same passes i p p' there (sym fetch.2))) co.flight)
         (fails.2 _ _ (fetches-taken passes i p p' t there has refl) co.base_flight)
 
-    module _ {start : List Sector} {rest : ℕ → Sector} {disk : Disk} {last : ℕ} (fa : IsFaithful start rest shape fresh places passes history disk last) where
-      pub fetched-faithful : (answer : Settled) (content base : List Sector) → length content ≡ t.count → Gives answer t content base → Backs rest shape.limit base
-          → IsFaithful start rest shape fresh places (slice_set passes i (after_base_read answer p t shape.block content)) history disk last
-      fetched-faithful settled.Done content base long gives backs =
+    module _ {start : List Sector} {rest : ℕ → Sector} (fa : IsFaithful g start rest (requests shape fresh passes history) places store) where
+      pub fetched-faithful : (answer : Settled) (content held : List Sector) → length content ≡ t.count → Gives answer t content held → Backs rest shape.limit held
+          → IsFaithful g start rest (requests shape fresh (slice_set passes i (after_base_read answer p t shape.block content)) history) places store
+      fetched-faithful settled.Done content held long gives backs =
           let buffer = content ++ replicate (shape.block - length content) zero_sector in let p' = after_filled p buffer in
           still-faithful co i p there (λ e. absurd (cc)) p' (λ e. absurd (cc)) fa (λ u is. is)
-          (λ e. read-is-rest rest shape.limit base backs (shape.block * p.block) shape.block content (within content long) (subst (λ (n : ℕ). IsHeld n content base) is-fetch.first (gives is-fetch.kind)))
-      fetched-faithful (settled.NotYet late) content base long gives backs =
+          (λ e. read-is-rest rest shape.limit held backs (shape.block * p.block) shape.block content (within content long) (subst (λ (n : ℕ). IsHeld n content held) is-fetch.first (gives is-fetch.kind)))
+      fetched-faithful (settled.NotYet late) content held long gives backs =
           still-faithful co i p there (λ e. absurd (cc)) p (λ e. absurd (cc)) fa (λ u is. is) (fa.buffers i p there)
-      fetched-faithful (settled.Failed number) content base long gives backs =
+      fetched-faithful (settled.Failed number) content held long gives backs =
           still-faithful co i p there (λ e. absurd (cc)) (after_fault (fault.Base t.number) p) (λ e. absurd (cc)) fa (λ u is. absurd (cc)) (λ e. absurd (cc))
 
 -- The steps, as their records say them.
-module _ {shape : Shape} {fresh : List Bool} {places : ℕ → Option ℕ} {passes passes' : List Pass} {history : List Entry} {sectors depth base_sectors base_depth i : ℕ} {flight base_flight : List Ticket → Type 0}
-    (co : IsCoherent shape fresh places passes history sectors depth base_sectors base_depth flight base_flight) where
-  module _ {base_flight' : List Ticket → Type 0} (at : IsAt passes i (IsToFill fresh)) (step : Fetches shape i passes passes' base_flight base_flight') where
+module _ {shape : Shape} {fresh : List Bool} {places : ℕ → Option ℕ} {passes : List Pass} {history : List Entry} {r' : RequestState} {i : ℕ} {S B : Type 0} {g : StoreGhosts S} {h : BaseGhosts B} {store : S} {base : B}
+    (co : IsCoherent g h (requests shape fresh passes history) places store base) where
+  module _ {base' : B} (at : IsAt passes i (IsToFill fresh)) (step : Fetches h i (requests shape fresh passes history) r' base base') where
     this : at.0 ≡ step.pass
     this = some-inj (sym at.1 ∙ step.there)
 
     to_fill : IsToFill fresh step.pass
     to_fill = subst (IsToFill fresh) this at.2
 
-    pub fetches-coherent : IsCoherent shape fresh places passes' history sectors depth base_sectors base_depth flight base_flight'
-    fetches-coherent = rw step.after (fetch-coherent co i step.pass step.there to_fill step.ticket base_flight' step.kind step.first step.count step.flight)
+    pub fetches-coherent : IsCoherent g h r' places store base'
+    fetches-coherent = rw step.after (fetch-coherent co i step.pass step.there to_fill step.ticket base' (alike-base step.call.keeps) step.kind step.first step.count step.call.flight)
 
-    pub fetches-faithful : {start : List Sector} {rest : ℕ → Sector} {disk : Disk} {last : ℕ} {tells : Type 0} → (tells → IsFaithful start rest shape fresh places passes history disk last) → tells → IsFaithful start rest shape fresh places passes' history disk last
-    fetches-faithful {start} {rest} {disk} {last} {tells} fa told = rw step.after (still-faithful co i step.pass step.there (λ e. absurd (let h = to_fill.0 in cc)) (after_fetch step.pass step.ticket) (λ e. absurd (cc)) (fa told) (λ u is. is) (λ e. absurd (cc)))
+    pub fetches-faithful : {start : List Sector} {rest : ℕ → Sector} {tells : Type 0} → (tells → IsFaithful g start rest (requests shape fresh passes history) places store) → tells → IsFaithful g start rest r' places store
+    fetches-faithful {start} {rest} {tells} fa told = rw step.after (still-faithful co i step.pass step.there (λ e. absurd (let h = to_fill.0 in cc)) (after_fetch step.pass step.ticket) (λ e. absurd (cc)) (fa told) (λ u is. is) (λ e. absurd (cc)))
 
-  module _ (at : IsAt passes i (IsToFill fresh)) (step : FillsZeros shape i passes passes') where
+  module _ (at : IsAt passes i (IsToFill fresh)) (step : FillsZeros i (requests shape fresh passes history) r') where
     filled-pass : at.0 ≡ step.pass
     filled-pass = some-inj (sym at.1 ∙ step.there)
 
     filled-held : IsToFill fresh step.pass
     filled-held = subst (IsToFill fresh) filled-pass at.2
 
-    pub fills_zeros-coherent : IsCoherent shape fresh places passes' history sectors depth base_sectors base_depth flight base_flight
+    pub fills_zeros-coherent : IsCoherent g h r' places store base
     fills_zeros-coherent = rw step.after (zeros-coherent co i step.pass step.there filled-held)
 
-    pub fills_zeros-faithful : {start : List Sector} {rest : ℕ → Sector} {disk : Disk} {last : ℕ} {tells : Type 0} (base : List Sector) → (tells → Backs rest shape.limit base)
-        → (tells → IsFaithful start rest shape fresh places passes history disk last) → tells → IsFaithful start rest shape fresh places passes' history disk last
-    fills_zeros-faithful {start} {rest} {disk} {last} {tells} base backs fa told =
+    pub fills_zeros-faithful : {start : List Sector} {rest : ℕ → Sector} {tells : Type 0} (held : List Sector) → (tells → Backs rest shape.limit held)
+        → (tells → IsFaithful g start rest (requests shape fresh passes history) places store) → tells → IsFaithful g start rest r' places store
+    fills_zeros-faithful {start} {rest} {tells} held backs fa told =
         rw step.after (still-faithful co i step.pass step.there (λ e. absurd (let h = filled-held.0 in cc)) (after_filled step.pass (replicate shape.block zero_sector)) (λ e. absurd (cc)) (fa told) (λ u is. is)
-        (λ e. zeros-are-rest rest shape.limit base (backs told) (shape.block * step.pass.block) shape.block step.nothing))
+        (λ e. zeros-are-rest rest shape.limit held (backs told) (shape.block * step.pass.block) shape.block step.nothing))
 
-  module _ {base_flight' : List Ticket → Type 0} {answer : Settled} {base_tells : Type 0} {base : List Sector} (at : IsAt passes i (λ p. p.phase ≡ Fetching)) (step : FetchSettled answer shape i passes passes' base_flight base_flight' base_tells base) where
+  module _ {base' : B} {answer : Settled} (at : IsAt passes i (λ p. p.phase ≡ Fetching)) (step : FetchSettled h answer i (requests shape fresh passes history) r' base base') where
     fetching-pass : step.pass.phase ≡ Fetching
     fetching-pass = ap (λ (x : Pass). x.phase) (some-inj (sym step.there ∙ at.1)) ∙ at.2
 
-    pub fetch_settled-coherent : IsCoherent shape fresh places passes' history sectors depth base_sectors base_depth flight base_flight'
-    fetch_settled-coherent = let s = step.settles in rw step.after (fetched-coherent co i step.pass step.there fetching-pass step.ticket step.has answer step.content base_flight' s.0 s.1 step.long s.2)
+    pub fetch_settled-coherent : IsCoherent g h r' places store base'
+    fetch_settled-coherent = rw step.after (fetched-coherent co i step.pass step.there fetching-pass step.ticket step.has answer step.content base' step.front step.content (alike-base step.call.keeps) step.long step.call.settles)
 
-    pub fetch_settled-faithful : {start : List Sector} {rest : ℕ → Sector} {disk : Disk} {last : ℕ} {tells : Type 0} → (tells → base_tells) → (tells → Backs rest shape.limit base)
-        → (tells → IsFaithful start rest shape fresh places passes history disk last) → tells → IsFaithful start rest shape fresh places passes' history disk last
-    fetch_settled-faithful {start} {rest} {disk} {last} {tells} base_told backs fa told =
-        rw step.after (fetched-faithful co i step.pass step.there fetching-pass step.ticket step.has (fa told) answer step.content base step.long (step.gives (base_told told)) (backs told))
+    pub fetch_settled-faithful : {start : List Sector} {rest : ℕ → Sector} {tells : Type 0} → (tells → h.tells base') → (tells → Backs rest shape.limit (h.content base'))
+        → (tells → IsFaithful g start rest (requests shape fresh passes history) places store) → tells → IsFaithful g start rest r' places store
+    fetch_settled-faithful {start} {rest} {tells} base_told backs fa told =
+        rw step.after (fetched-faithful co i step.pass step.there fetching-pass step.ticket step.has (fa told) answer step.content (h.content base') step.long (step.call.gives (base_told told)) (backs told))

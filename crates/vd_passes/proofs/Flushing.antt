@@ -1,16 +1,19 @@
 -- A flush submits a call, settles it and ends: the passes stay coherent.
-use Rattle.std.proofs.Common.{◌≡◌, ◌≢◌, ℕ, ◌+◌, ◌<◌, ◌≤◌, ◌⊎◌, Bool, true, false, List, map, length, refl, sym, ◌∙◌, ap, subst, inl, inr, arith, Option, Some, None, slice_get, slice_set}
+use Rattle.std.proofs.Common.{◌≡◌, ◌≢◌, ℕ, ◌+◌, ◌<◌, ◌≤◌, ◌⊎◌, Bool, true, false, List, [], map, length, refl, sym, ◌∙◌, ap, subst, inl, inr, arith, Option, Some, None, slice_get, slice_set}
 use Rattle.std.proofs.lemmas.Bool.{cases_eq}
 use Rattle.vd_law.specs.declared.entry.Sector.{Sector}
-use Rattle.vd_law.specs.Entries.{Asked, Read, Write, Flush, Entry}
+use Rattle.vd_law.specs.Entries.{Asked, Read, Write, Flush}
+use Rattle.vd_device.specs.declared.store.Store as store
+use Rattle.vd_device.specs.declared.base.Base as base
 use Rattle.vd_device.specs.declared.ticket.Ticket.{Ticket}
 use Rattle.vd_device.specs.declared.ticket.Kind.TheVariants.{Write as WriteKind}
 use Rattle.vd_device.specs.declared.settled.Settled.{Settled}
 use Rattle.vd_device.specs.declared.settled.Settled.TheVariants as settled
 use Rattle.vd_device.specs.Tickets.{IsFree, HasPlace, IsInFlight, AreRangesApart as RangesApart}
 use Rattle.vd_device.specs.Calls.{Settles}
-use Rattle.vd_device.specs.Disks.{Disk}
 use Rattle.vd_passes.specs.declared.shape.Shape.{Shape}
+use Rattle.vd_device.specs.Stores.{StoreCountsStand}
+use Rattle.vd_passes.specs.Requests.{RequestState, with_pass}
 use Rattle.vd_passes.specs.declared.pass.Pass.{Pass}
 use Rattle.vd_passes.specs.declared.pass.Phase.{Phase}
 use Rattle.vd_passes.specs.declared.pass.Phase.TheVariants.{Idle, Asked as HasAsked, Issuing, Flushing, Ready}
@@ -22,6 +25,7 @@ use Rattle.vd_passes.specs.Coherent.{IsCoherent}
 use Rattle.vd_passes.specs.Steps.{IsAt, SubmitsMeta, meta_settled, MetaSettled, EndsFlush}
 use Rattle.vd_passes.proofs.Lists.{some-inj, tickets-put, tickets-taken, tickets-same, fetches-same, few-tickets, all-tickets}
 use Rattle.vd_passes.proofs.Regions.{region-of, issuing-place, request-kept}
+use Rattle.vd_passes.proofs.Growing.{alike-store}
 use Rattle.vd_passes.proofs.NotIssuing.{quiet-coherent, apart-free}
 use Rattle.vd_passes.proofs.Holding.{region-none, regions-kept}
 use Rattle.vd_passes.proofs.Settling.{in-flight}
@@ -142,96 +146,98 @@ module _ {shape : Shape} {fresh : List Bool} {places : ℕ → Option ℕ} {t : 
             buffer = stands.buffer;
           }
 
-module _ {shape : Shape} {fresh : List Bool} {places : ℕ → Option ℕ} {passes : List Pass} {history : List Entry} {sectors depth base_sectors base_depth : ℕ} {flight base_flight : List Ticket → Type 0}
-    (co : IsCoherent shape fresh places passes history sectors depth base_sectors base_depth flight base_flight) where
+module _ {S B : Type 0} {g : store.Ghosts S} {h : base.Ghosts B} {r : RequestState} {places : ℕ → Option ℕ} {s : S} {b : B} (co : IsCoherent g h r places s b) where
+  -- nothing was called
+  counts-stood : StoreCountsStand g s s
+  counts-stood = record { sectors = refl; depth = refl; faults = omega arith; late = omega arith; last = omega arith }
+
   -- A pass changes that has its flush under way before the step, and neither issues nor has a region after it.
-  module _ (i : ℕ) (p : Pass) (there : slice_get passes i ≡ Some p) (under_way : IsFlushing p) where
+  module _ (i : ℕ) (p : Pass) (there : slice_get r.passes i ≡ Some p) (under_way : IsFlushing p) where
     pub flushing-not-issuing : p.phase ≢ Issuing
     flushing-not-issuing = flushing-not p Issuing under_way (λ e. cc) (λ e. cc)
 
-    flush-coherent : (p' : Pass) (flight' : List Ticket → Type 0) → has_region p'.phase ≡ false → p'.fetch ≡ None → IsAsHistorySays shape fresh places (standing history i) p' → flight' (tickets_of (slice_set passes i p'))
-        → IsCoherent shape fresh places (slice_set passes i p') history sectors depth base_sectors base_depth flight' base_flight
-    flush-coherent p' flight' no_region no_fetch stands flight = quiet-coherent co i p there flushing-not-issuing p' (λ e. absurd (let h = ap has_region e in cc)) flight' base_flight stands
-        (λ k r at ne. apart-free p' r no_region)
+    flush-coherent : (p' : Pass) {s' : S} → StoreCountsStand g s s' → has_region p'.phase ≡ false → p'.fetch ≡ None → IsAsHistorySays r.shape r.fresh places (standing r.entries i) p' → g.flight s' (tickets_of (slice_set r.passes i p'))
+        → IsCoherent g h (with_pass i p' r) places s' b
+    flush-coherent p' {s'} counts no_region no_fetch stands flight = quiet-coherent co i p there flushing-not-issuing p' (λ e. absurd (let f = ap has_region e in cc)) s' b (alike-store counts) stands
+        (λ k q at ne. apart-free p' q no_region)
         flight
-        (subst base_flight (sym (fetches-same passes i p p' there (no_fetch ∙ sym (flush-fetch (co.each i p there) under_way)))) co.base_flight)
+        (subst (h.flight b) (sym (fetches-same r.passes i p p' there (no_fetch ∙ sym (flush-fetch (co.each i p there) under_way)))) co.base_flight)
 
   -- A call is settled.
-  module _ (i : ℕ) (p : Pass) (there : slice_get passes i ≡ Some p) (flushing : p.phase ≡ Flushing) (u : Ticket) (has : p.ticket ≡ Some u) where
-    stood : IsAsHistorySays shape fresh places (standing history i) p
+  module _ (i : ℕ) (p : Pass) (there : slice_get r.passes i ≡ Some p) (flushing : p.phase ≡ Flushing) (u : Ticket) (has : p.ticket ≡ Some u) where
+    stood : IsAsHistorySays r.shape r.fresh places (standing r.entries i) p
     stood = co.each i p there
 
-    settled-coherent : (answer : Settled) (flight' : List Ticket → Type 0) (out out' : List Sector) → Settles answer u out out' flight flight'
-        → IsCoherent shape fresh places (slice_set passes i (meta_settled answer p u)) history sectors depth base_sectors base_depth flight' base_flight
-    settled-coherent settled.Done flight' out out' takes =
+    settled-coherent : (answer : Settled) {s' : S} (out out' : List Sector) → StoreCountsStand g s s' → Settles answer u out out' (g.flight s) (g.flight s') → IsCoherent g h (with_pass i (meta_settled answer p u) r) places s' b
+    settled-coherent settled.Done {s'} out out' counts takes =
         let p' : Pass = record p { ticket = None } in
-        flush-coherent i p there (inr flushing) p' flight' (ap has_region flushing) (flush-fetch stood (inr flushing))
-        (subst (λ (ph : Phase). IsAsHistorySays shape fresh places (standing history i) (record p { phase = ph; ticket = None })) (sym flushing) (meta-stands stood (inr flushing) (stood.flush flushing) None (λ v is. absurd (cc))))
-        (takes _ _ (tickets-taken passes i p p' u there has refl) co.flight)
-    settled-coherent (settled.NotYet same) flight' out out' keeps =
-        flush-coherent i p there (inr flushing) p flight' (ap has_region flushing) (flush-fetch stood (inr flushing)) stood
-        (keeps.2 _ (subst flight (sym (tickets-same passes i p p there refl)) co.flight))
-    settled-coherent (settled.Failed number) flight' out out' fails =
+        flush-coherent i p there (inr flushing) p' counts (ap has_region flushing) (flush-fetch stood (inr flushing))
+        (subst (λ (ph : Phase). IsAsHistorySays r.shape r.fresh places (standing r.entries i) (record p { phase = ph; ticket = None })) (sym flushing) (meta-stands stood (inr flushing) (stood.flush flushing) None (λ v is. absurd (cc))))
+        (takes _ _ (tickets-taken r.passes i p p' u there has refl) co.flight)
+    settled-coherent (settled.NotYet same) {s'} out out' counts keeps =
+        flush-coherent i p there (inr flushing) p counts (ap has_region flushing) (flush-fetch stood (inr flushing)) stood
+        (keeps.2 _ (subst (g.flight s) (sym (tickets-same r.passes i p p there refl)) co.flight))
+    settled-coherent (settled.Failed number) {s'} out out' counts fails =
         let p' = after_fault (fault.Store u.number) p in
-        flush-coherent i p there (inr flushing) p' flight' refl refl
+        flush-coherent i p there (inr flushing) p' counts refl refl
         (ended-stands stood (inr flushing) (stood.flush flushing) (Some (fault.Store u.number)) None None (inr (inl (u.number, refl))) refl refl)
-        (fails.2 _ _ (tickets-taken passes i p p' u there has refl) co.flight)
+        (fails.2 _ _ (tickets-taken r.passes i p p' u there has refl) co.flight)
 
   -- The steps, as their records say them.
-  module _ {i : ℕ} {passes' : List Pass} where
-    module _ {flight' : List Ticket → Type 0} {tells tells' : Type 0} {disk disk' : Disk} {last last' : ℕ} where
-      pub submits_meta-coherent : {content : List Sector} → SubmitsMeta content shape i passes passes' flight flight' tells tells' disk disk' last last' → IsCoherent shape fresh places passes' history sectors depth base_sectors base_depth flight' base_flight
+  module _ {i : ℕ} {r' : RequestState} where
+    module _ {s' : S} where
+      pub submits_meta-coherent : {content : List Sector} → SubmitsMeta g content i r r' s s' → IsCoherent g h r' places s' b
       submits_meta-coherent {content} step =
           let p = step.pass in let p' = after_meta p step.ticket in let stands = co.each i p step.there in
-          rw step.after (flush-coherent i p step.there step.phase p' flight' refl (flush-fetch stands step.phase)
-          (meta-stands stands step.phase step.serves (Some step.ticket) (λ v is. subst (IsMeta shape) (some-inj is) step.is_meta))
-          (step.flight _ _ (tickets-put passes i p p' step.ticket step.there step.none refl) co.flight))
+          rw step.after (flush-coherent i p step.there step.phase p' step.call.counts refl (flush-fetch stands step.phase)
+          (meta-stands stands step.phase step.serves (Some step.ticket) (λ v is. subst (IsMeta r.shape) (some-inj is) step.is_meta))
+          (step.call.flight _ _ (tickets-put r.passes i p p' step.ticket step.there step.none refl) co.flight))
 
-      pub meta_settled-coherent : {answer : Settled} → MetaSettled answer i passes passes' flight flight' tells tells' disk disk' last last' → IsCoherent shape fresh places passes' history sectors depth base_sectors base_depth flight' base_flight
-      meta_settled-coherent {answer} step = let s = step.settles in rw step.after (settled-coherent i step.pass step.there step.phase step.ticket step.has answer flight' s.0 s.1 s.2)
+      pub meta_settled-coherent : {answer : Settled} → MetaSettled g answer i r r' s s' → IsCoherent g h r' places s' b
+      meta_settled-coherent {answer} step = rw step.after (settled-coherent i step.pass step.there step.phase step.ticket step.has answer [] [] step.call.counts step.call.settles)
 
-    ends-way : {why : Option Fault} (step : EndsFlush why i passes passes') → IsFlushing step.pass
+    ends-way : {why : Option Fault} (step : EndsFlush why i r r') → IsFlushing step.pass
     ends-way {why} step = elim step.cause [ inl over ↦ inr over.1 | inr worn ↦ inl worn.2 ]
 
-    ends-for : {why : Option Fault} (step : EndsFlush why i passes passes') → (why ≡ None) ⊎ ((number : ℕ) × (why ≡ Some (fault.Store number))) ⊎ ((generation : ℕ) × (why ≡ Some (fault.Worn generation)))
+    ends-for : {why : Option Fault} (step : EndsFlush why i r r') → (why ≡ None) ⊎ ((number : ℕ) × (why ≡ Some (fault.Store number))) ⊎ ((generation : ℕ) × (why ≡ Some (fault.Worn generation)))
     ends-for {why} step = elim step.cause [ inl over ↦ inl over.0 | inr worn ↦ inr (inr (worn.0, worn.1)) ]
 
-    pub ends_flush-coherent : {why : Option Fault} → EndsFlush why i passes passes' → IsCoherent shape fresh places passes' history sectors depth base_sectors base_depth flight base_flight
+    pub ends_flush-coherent : {why : Option Fault} → EndsFlush why i r r' → IsCoherent g h r' places s b
     ends_flush-coherent {why} step =
         let p = step.pass in let p' = after_flush p why in let stands = co.each i p step.there in let way = ends-way step in let fetch = flush-fetch stands way in
-        rw step.after (flush-coherent i p step.there way p' flight refl fetch
+        rw step.after (flush-coherent i p step.there way p' counts-stood refl fetch
         (ended-stands stands way step.serves why p.ticket p.fetch (ends-for step) step.none fetch)
-        (subst flight (sym (tickets-same passes i p p' step.there refl)) co.flight))
+        (subst (g.flight s) (sym (tickets-same r.passes i p p' step.there refl)) co.flight))
 
   -- There is a place for one more call of the store.
-  few-calls : length (tickets_of passes) < depth
-  few-calls = let few = co.few in let deep = co.deep in omega (arith, few-tickets passes)
+  few-calls : length (tickets_of r.passes) < g.depth s
+  few-calls = let few = co.few in let deep = co.deep in omega (arith, few-tickets r.passes)
 
-  pub store-place : HasPlace flight depth
-  store-place = (tickets_of passes, co.flight, few-calls)
+  pub store-place : HasPlace (g.flight s) (g.depth s)
+  store-place = (tickets_of r.passes, co.flight, few-calls)
 
   module _ (i : ℕ) where
     -- What a flush in flight has there.
-    pub flushing-ticket : (at : IsAt passes i (λ p. p.phase ≡ Flushing)) (u : Ticket) → at.0.ticket ≡ Some u → IsInFlight flight u × IsMeta shape u × (at.0.fetch ≡ None)
-    flushing-ticket at u has = let its = flush-ticket (co.each i at.0 at.1) at.2 in (in-flight passes co.flight i at.0 u at.1 has, its.1 u has, its.0)
+    pub flushing-ticket : (at : IsAt r.passes i (λ p. p.phase ≡ Flushing)) (u : Ticket) → at.0.ticket ≡ Some u → IsInFlight (g.flight s) u × IsMeta r.shape u × (at.0.fetch ≡ None)
+    flushing-ticket at u has = let its = flush-ticket (co.each i at.0 at.1) at.2 in (in-flight r.passes co.flight i at.0 u at.1 has, its.1 u has, its.0)
 
     -- Where no other pass flushes, no write in flight touches what lies below the storage.
-    module _ (p : Pass) (there : slice_get passes i ≡ Some p) (none : p.ticket ≡ None) (alone : (j : ℕ) (q : Pass) → slice_get passes j ≡ Some q → j ≢ i → q.phase ≢ Flushing) where
-      below-apart : (first count : ℕ) → first + count ≤ shape.storage_at → (j : ℕ) (q : Pass) (u : Ticket) → slice_get passes j ≡ Some q → q.ticket ≡ Some u → u.kind ≡ WriteKind → RangesApart u.first u.count first count
+    module _ (p : Pass) (there : slice_get r.passes i ≡ Some p) (none : p.ticket ≡ None) (alone : (j : ℕ) (q : Pass) → slice_get r.passes j ≡ Some q → j ≢ i → q.phase ≢ Flushing) where
+      below-apart : (first count : ℕ) → first + count ≤ r.shape.storage_at → (j : ℕ) (q : Pass) (u : Ticket) → slice_get r.passes j ≡ Some q → q.ticket ≡ Some u → u.kind ≡ WriteKind → RangesApart u.first u.count first count
       below-apart first count low j q u at is kind =
           let theirs = co.each j q at in
-          elim (writes-there q.phase q shape fresh u theirs.ticket is kind) [
+          elim (writes-there q.phase q r.shape r.fresh u theirs.ticket is kind) [
             | inl w ↦
-                let lies = stored-in q u shape fresh (theirs.piece (region-of _ Issuing refl w.0)) w.1 in let inside = co.placed.inside q.block q.at (issuing-place theirs w.0) in
+                let lies = stored-in q u r.shape r.fresh (theirs.piece (region-of _ Issuing refl w.0)) w.1 in let inside = co.placed.inside q.block q.at (issuing-place theirs w.0) in
                 inr (let from = lies.0 in let above = inside.0 in omega arith)
             | inr other ↦ absurd (elim (cases_eq j i) [
-              | inl own ↦ let same = ap (λ (x : Pass). x.ticket) (some-inj (sym at ∙ ap (slice_get passes) own ∙ there)) in cc
+              | inl own ↦ let same = ap (λ (x : Pass). x.ticket) (some-inj (sym at ∙ ap (slice_get r.passes) own ∙ there)) in cc
               | inr ne ↦ alone j q at ne other.0
             ])
           ]
 
-      pub below-free : (first count : ℕ) → first + count ≤ shape.storage_at → IsFree flight depth first count
-      below-free first count low = (tickets_of passes, co.flight, few-calls, all-tickets _ passes (below-apart first count low))
+      pub below-free : (first count : ℕ) → first + count ≤ r.shape.storage_at → IsFree (g.flight s) (g.depth s) first count
+      below-free first count low = (tickets_of r.passes, co.flight, few-calls, all-tickets _ r.passes (below-apart first count low))
 
 -- The regions that the passes hold stay as they are.
 kept-none : (passes : List Pass) (i : ℕ) (p p' : Pass) → slice_get passes i ≡ Some p → has_region p.phase ≡ false → has_region p'.phase ≡ false → map region_of (slice_set passes i p') ≡ map region_of passes
@@ -242,16 +248,13 @@ settled-region settled.Done p ticket is = ap has_region is
 settled-region (settled.NotYet same) p ticket is = ap has_region is
 settled-region (settled.Failed number) p ticket is = refl
 
-pub submits_meta-regions : {content : List Sector} {shape : Shape} {i : ℕ} {passes passes' : List Pass} {flight flight' : List Ticket → Type 0} {tells tells' : Type 0} {disk disk' : Disk} {last last' : ℕ}
-    → SubmitsMeta content shape i passes passes' flight flight' tells tells' disk disk' last last' → map region_of passes' ≡ map region_of passes
-submits_meta-regions {content} {shape} {i} {passes} {passes'} {flight} {flight'} {tells} {tells'} {disk} {disk'} {last} {last'} step =
-    rw step.after (kept-none passes i step.pass _ step.there (flushing-region step.pass step.phase) refl)
+module _ {i : ℕ} {r r' : RequestState} where
+  module _ {S : Type 0} {g : store.Ghosts S} {s s' : S} where
+    pub submits_meta-regions : {content : List Sector} → SubmitsMeta g content i r r' s s' → map region_of r'.passes ≡ map region_of r.passes
+    submits_meta-regions {content} step = rw step.after (kept-none r.passes i step.pass _ step.there (flushing-region step.pass step.phase) refl)
 
-pub meta_settled-regions : {answer : Settled} {i : ℕ} {passes passes' : List Pass} {flight flight' : List Ticket → Type 0} {tells tells' : Type 0} {disk disk' : Disk} {last last' : ℕ}
-    → MetaSettled answer i passes passes' flight flight' tells tells' disk disk' last last' → map region_of passes' ≡ map region_of passes
-meta_settled-regions {answer} {i} {passes} {passes'} {flight} {flight'} {tells} {tells'} {disk} {disk'} {last} {last'} step =
-    rw step.after (kept-none passes i step.pass _ step.there (ap has_region step.phase) (settled-region answer step.pass step.ticket step.phase))
+    pub meta_settled-regions : {answer : Settled} → MetaSettled g answer i r r' s s' → map region_of r'.passes ≡ map region_of r.passes
+    meta_settled-regions {answer} step = rw step.after (kept-none r.passes i step.pass _ step.there (ap has_region step.phase) (settled-region answer step.pass step.ticket step.phase))
 
-pub ends_flush-regions : {why : Option Fault} {i : ℕ} {passes passes' : List Pass} → EndsFlush why i passes passes' → map region_of passes' ≡ map region_of passes
-ends_flush-regions {why} {i} {passes} {passes'} step =
-    rw step.after (kept-none passes i step.pass _ step.there (flushing-region step.pass (elim step.cause [ inl over ↦ inr over.1 | inr worn ↦ inl worn.2 ])) refl)
+  pub ends_flush-regions : {why : Option Fault} → EndsFlush why i r r' → map region_of r'.passes ≡ map region_of r.passes
+  ends_flush-regions {why} step = rw step.after (kept-none r.passes i step.pass _ step.there (flushing-region step.pass (elim step.cause [ inl over ↦ inr over.1 | inr worn ↦ inl worn.2 ])) refl)

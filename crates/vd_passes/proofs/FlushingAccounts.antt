@@ -1,14 +1,16 @@
 -- A flush submits a call, settles it and ends: its room, what it is blamed for and what traces its faults.
-use Rattle.std.proofs.Common.{◌≡◌, ℕ, ◌≤◌, Bool, true, List, [], ◌∷◌, ◌++◌, length, refl, sym, ◌∙◌, ap, inl, inr, arith, Option, Some, None, slice_get, slice_set}
+use Rattle.std.proofs.Common.{◌≡◌, ℕ, ◌≤◌, true, List, [], ◌∷◌, ◌++◌, length, refl, sym, ◌∙◌, ap, inl, inr, arith, Option, Some, None, slice_get, slice_set}
 use Rattle.vd_law.specs.declared.entry.Sector.{Sector}
 use Rattle.vd_law.specs.declared.entry.CallId.{CallId}
 use Rattle.vd_law.specs.Entries.{Asked, Read, Write, Flush, Entry}
+use Rattle.vd_device.specs.declared.store.Store as store
+use Rattle.vd_device.specs.declared.base.Base as base
 use Rattle.vd_device.specs.declared.ticket.Ticket.{Ticket}
 use Rattle.vd_device.specs.declared.settled.Settled.{Settled}
 use Rattle.vd_device.specs.declared.settled.Settled.TheVariants as settled
-use Rattle.vd_device.specs.Disks.{Disk, Adds}
+use Rattle.vd_device.specs.Disks.{Adds}
 use Rattle.vd_device.specs.Calls.{Tells, IsCaused, settle_entries, failed_entry}
-use Rattle.vd_passes.specs.declared.shape.Shape.{Shape}
+use Rattle.vd_passes.specs.Requests.{RequestState}
 use Rattle.vd_passes.specs.declared.pass.Pass.{Pass}
 use Rattle.vd_passes.specs.declared.pass.Phase.TheVariants.{Idle, Flushing}
 use Rattle.vd_passes.specs.declared.pass.Fault.{Fault}
@@ -67,44 +69,42 @@ module _ {passes : List Pass} {history : List Entry} {last faults_at_opening fau
   settled-base blamed (settled.NotYet same) = kept-untold blamed i there p (inl refl) (inl refl) (omega arith) (omega arith)
   settled-base blamed (settled.Failed number) = kept-untold blamed i there (after_fault (fault.Store u.number) p) (inr refl) (inr refl) (omega arith) (omega arith)
 
-module _ {passes passes' : List Pass} {history : List Entry} {i : ℕ} where
-  module _ {content : List Sector} {shape : Shape} {flight flight' : List Ticket → Type 0} {tells tells' : Type 0} {disk disk' : Disk} {store_last store_last' : ℕ}
-      (step : SubmitsMeta content shape i passes passes' flight flight' tells tells' disk disk' store_last store_last') where
-    pub submits_meta-blamed : {device : Device} {last last' faults_at_opening faults faults' : ℕ} → FaultsAddUp device passes history last faults_at_opening faults → IsAt passes' i (HasNextTicket device last last') → faults ≤ faults'
-        → FaultsAddUp device passes' history last' faults_at_opening faults'
+module _ {i : ℕ} {r r' : RequestState} {S : Type 0} {g : store.Ghosts S} {s s' : S} where
+  module _ {content : List Sector} (step : SubmitsMeta g content i r r' s s') where
+    pub submits_meta-blamed : {device : Device} {last last' faults_at_opening faults faults' : ℕ} → FaultsAddUp device r.passes r.entries last faults_at_opening faults → IsAt r'.passes i (HasNextTicket device last last') → faults ≤ faults'
+        → FaultsAddUp device r'.passes r'.entries last' faults_at_opening faults'
     submits_meta-blamed {device} {last} {last'} {faults_at_opening} {faults} {faults'} blamed at rise = let p' = after_meta step.pass step.ticket in
-        rw step.after (numbered-untold blamed i step.there p' (numbered-at device passes passes' last last' i step.pass p' step.there step.after at) refl rise)
+        let next = numbered-at device r.passes r'.passes last last' i step.pass p' step.there (ap (λ (x : RequestState). x.passes) step.after) at in rw step.after (numbered-untold blamed i step.there p' next refl rise)
 
-    pub submits_meta-base_blamed : {last faults_at_opening faults : ℕ} → FaultsAddUp OfBase passes history last faults_at_opening faults → FaultsAddUp OfBase passes' history last faults_at_opening faults
+    pub submits_meta-base_blamed : {last faults_at_opening faults : ℕ} → FaultsAddUp OfBase r.passes r.entries last faults_at_opening faults → FaultsAddUp OfBase r'.passes r'.entries last faults_at_opening faults
     submits_meta-base_blamed {last} {faults_at_opening} {faults} blamed = rw step.after (kept-untold blamed i step.there (after_meta step.pass step.ticket) (inl refl) (inr refl) (omega arith) (omega arith))
 
-    pub submits_meta-of-passes : AreOfPasses passes history → AreOfPasses passes' history
-    submits_meta-of-passes = set-of-passes i (after_meta step.pass step.ticket) step.after
+    pub submits_meta-of-passes : AreOfPasses r.passes r.entries → AreOfPasses r'.passes r'.entries
+    submits_meta-of-passes are = rw step.after (set-of-passes i (after_meta step.pass step.ticket) refl are)
 
-  module _ {answer : Settled} {flight flight' : List Ticket → Type 0} {tells tells' : Type 0} {disk disk' : Disk} {store_last store_last' : ℕ}
-      (step : MetaSettled answer i passes passes' flight flight' tells tells' disk disk' store_last store_last') where
-    pub meta_settled-blamed : {faults_at_opening faults faults' : ℕ} → FaultsAddUp OfStore passes history store_last faults_at_opening faults → (late late' : ℕ) → IsCaused answer faults faults' late late' → FaultsAddUp OfStore passes' history store_last' faults_at_opening faults'
-    meta_settled-blamed {faults_at_opening} {faults} {faults'} blamed late late' cause = rw (step.after, step.number) (settled-store i step.pass step.there step.ticket step.has blamed answer faults' late late' cause)
+  module _ {answer : Settled} (step : MetaSettled g answer i r r' s s') where
+    pub meta_settled-blamed : {faults_at_opening faults faults' : ℕ} → FaultsAddUp OfStore r.passes r.entries (g.last s) faults_at_opening faults → (late late' : ℕ) → IsCaused answer faults faults' late late' → FaultsAddUp OfStore r'.passes r'.entries (g.last s') faults_at_opening faults'
+    meta_settled-blamed {faults_at_opening} {faults} {faults'} blamed late late' cause = rw (step.after, step.call.last) (settled-store i step.pass step.there step.ticket step.has blamed answer faults' late late' cause)
 
-    pub meta_settled-base_blamed : {last faults_at_opening faults : ℕ} → FaultsAddUp OfBase passes history last faults_at_opening faults → FaultsAddUp OfBase passes' history last faults_at_opening faults
+    pub meta_settled-base_blamed : {last faults_at_opening faults : ℕ} → FaultsAddUp OfBase r.passes r.entries last faults_at_opening faults → FaultsAddUp OfBase r'.passes r'.entries last faults_at_opening faults
     meta_settled-base_blamed {last} {faults_at_opening} {faults} blamed = rw step.after (settled-base i step.pass step.there step.ticket blamed answer)
 
-    pub meta_settled-of-passes : AreOfPasses passes history → AreOfPasses passes' history
-    meta_settled-of-passes = set-of-passes i (meta_settled answer step.pass step.ticket) step.after
+    pub meta_settled-of-passes : AreOfPasses r.passes r.entries → AreOfPasses r'.passes r'.entries
+    meta_settled-of-passes are = rw step.after (set-of-passes i (meta_settled answer step.pass step.ticket) refl are)
 
-module _ {why : Option Fault} {passes passes' : List Pass} {i : ℕ} (step : EndsFlush why i passes passes') where
+module _ {why : Option Fault} {r r' : RequestState} {i : ℕ} (step : EndsFlush why i r r') where
   ends-names : (device : Device) → ticket_of_fault device why ≡ None
   ends-names device = elim step.cause [
     | inl over ↦ faultless device why over.0
     | inr worn ↦ ap (ticket_of_fault device) worn.1 ∙ worn-names device worn.0
   ]
 
-  pub ends_flush-blamed : {device : Device} {history : List Entry} {last faults_at_opening faults : ℕ} → FaultsAddUp device passes history last faults_at_opening faults → FaultsAddUp device passes' history last faults_at_opening faults
-  ends_flush-blamed {device} {history} {last} {faults_at_opening} {faults} blamed = let p' = after_flush step.pass why in
+  pub ends_flush-blamed : {device : Device} {last faults_at_opening faults : ℕ} → FaultsAddUp device r.passes r.entries last faults_at_opening faults → FaultsAddUp device r'.passes r'.entries last faults_at_opening faults
+  ends_flush-blamed {device} {last} {faults_at_opening} {faults} blamed = let p' = after_flush step.pass why in
       rw step.after (kept-untold blamed i step.there p' (inl (flying-same device step.pass p' refl refl)) (inr (ends-names device)) (omega arith) (omega arith))
 
-  pub ends_flush-of-passes : {history : List Entry} → AreOfPasses passes history → AreOfPasses passes' history
-  ends_flush-of-passes {history} = set-of-passes i (after_flush step.pass why) step.after
+  pub ends_flush-of-passes : AreOfPasses r.passes r.entries → AreOfPasses r'.passes r'.entries
+  ends_flush-of-passes are = rw step.after (set-of-passes i (after_flush step.pass why) refl are)
 
 -- What traces the store faults.
 
@@ -126,22 +126,21 @@ module _ {passes : List Pass} {history : List Entry} {numbers : List ℕ} {log l
       let traced = traced-now (followed.each i p there) (λ f. cc) u.number e told (failure u.kind u) (flush-ticket-of log history numbers (call_id i p) p u.number serves) in
       set-followed grown there (fails-on (grown.each i p there) (λ f. cc) p' refl refl refl refl refl u.number refl refl traced)
 
-module _ {passes passes' : List Pass} {history : List Entry} {numbers : List ℕ} {i : ℕ} where
-  pub submits_meta-followed : {content : List Sector} {shape : Shape} {flight flight' : List Ticket → Type 0} {tells tells' : Type 0} {disk disk' : Disk} {last last' : ℕ} → IsFollowed passes history numbers disk.log
-      → (step : SubmitsMeta content shape i passes passes' flight flight' tells tells' disk disk' last last') → Adds (meta_entry step.ticket.kind step.ticket content) disk disk' → IsFollowed passes' history numbers disk'.log
-  submits_meta-followed {content} {shape} {flight} {flight'} {tells} {tells'} {disk} {disk'} {last} {last'} followed step told =
-      let p = step.pass in let grown = less-followed followed (meta_entry step.ticket.kind step.ticket content ∷ []) told.log in
-      rw step.after (set-followed grown step.there (goes-on (grown.each i p step.there) (flushing-not p Idle step.phase (λ e. cc) (λ e. cc)) (after_meta p step.ticket) refl refl refl refl refl (λ e. cc) (λ e. cc) (λ is. absurd (cc))))
-
-  pub ends_flush-followed : {why : Option Fault} {log : List Entry} → IsFollowed passes history numbers log → EndsFlush why i passes passes' → IsFollowed passes' history numbers log
+module _ {r r' : RequestState} {numbers : List ℕ} {i : ℕ} where
+  pub ends_flush-followed : {why : Option Fault} {log : List Entry} → IsFollowed r.passes r.entries numbers log → EndsFlush why i r r' → IsFollowed r'.passes r'.entries numbers log
   ends_flush-followed {why} {log} followed step =
       let p = step.pass in let way : IsFlushing p = elim step.cause [ inl over ↦ inr over.1 | inr worn ↦ inl worn.2 ] in
       rw step.after (set-followed followed step.there (goes-on (followed.each i p step.there) (flushing-not p Idle way (λ e. cc) (λ e. cc)) (after_flush p why) refl refl refl refl refl (λ e. cc) (λ e. cc)
       (λ is ticket names. elim step.cause [ inl over ↦ let none = over.0 in cc | inr worn ↦ let other = worn.1 in cc ])))
 
-  module _ {shape : Shape} {fresh : List Bool} {places : ℕ → Option ℕ} {sectors depth base_sectors base_depth : ℕ} {flight base_flight : List Ticket → Type 0}
-      (co : IsCoherent shape fresh places passes history sectors depth base_sectors base_depth flight base_flight) where
-    pub meta_settled-followed : {answer : Settled} {flight' : List Ticket → Type 0} {tells tells' : Type 0} {disk disk' : Disk} {last last' : ℕ} → IsFollowed passes history numbers disk.log
-        → (step : MetaSettled answer i passes passes' flight flight' tells tells' disk disk' last last') → Tells answer step.ticket [] disk disk' → IsFollowed passes' history numbers disk'.log
-    meta_settled-followed {answer} {flight'} {tells} {tells'} {disk} {disk'} {last} {last'} followed step told =
+  module _ {S : Type 0} {g : store.Ghosts S} {s s' : S} where
+    pub submits_meta-followed : {content : List Sector} → IsFollowed r.passes r.entries numbers (g.disk s).log
+        → (step : SubmitsMeta g content i r r' s s') → Adds (meta_entry step.ticket.kind step.ticket content) (g.disk s) (g.disk s') → IsFollowed r'.passes r'.entries numbers (g.disk s').log
+    submits_meta-followed {content} followed step told =
+        let p = step.pass in let grown = less-followed followed (meta_entry step.ticket.kind step.ticket content ∷ []) told.log in
+        rw step.after (set-followed grown step.there (goes-on (grown.each i p step.there) (flushing-not p Idle step.phase (λ e. cc) (λ e. cc)) (after_meta p step.ticket) refl refl refl refl refl (λ e. cc) (λ e. cc) (λ is. absurd (cc))))
+
+    pub meta_settled-followed : {B : Type 0} {h : base.Ghosts B} {places : ℕ → Option ℕ} {b : B} → IsCoherent g h r places s b → {answer : Settled} → IsFollowed r.passes r.entries numbers (g.disk s).log
+        → (step : MetaSettled g answer i r r' s s') → Tells answer step.ticket [] (g.disk s) (g.disk s') → IsFollowed r'.passes r'.entries numbers (g.disk s').log
+    meta_settled-followed {B} {h} {places} {b} co {answer} followed step told =
         rw step.after (settled-followed followed i step.pass step.there step.phase ((co.each i step.pass step.there).flush step.phase) step.ticket answer told.grows.log)

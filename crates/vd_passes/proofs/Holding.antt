@@ -6,21 +6,22 @@ use Rattle.std.proofs.lemmas.Option.{slice_get-map}
 use Rattle.vd_regions.specs.declared.regions.Region.{Region}
 use Rattle.vd_regions.specs.declared.regions.Mode.TheVariants.{Shared, Own}
 use Rattle.vd_regions.specs.Holding.{Hinders}
+use Rattle.vd_passes.specs.Requests.{RequestState}
 use Rattle.vd_passes.specs.declared.pass.Pass.{Pass}
 use Rattle.vd_passes.specs.declared.pass.Phase.{Phase}
 use Rattle.vd_passes.specs.declared.pass.Phase.TheVariants.{Asked as HasAsked, Ready}
 use Rattle.vd_law.specs.declared.entry.Sector.{Sector}
 use Rattle.vd_law.specs.declared.entry.Answer.{Answer}
-use Rattle.vd_law.specs.Entries.{Asked, Read, Write, Flush, Entry}
+use Rattle.vd_law.specs.Entries.{Asked, Read, Write, Flush}
+use Rattle.vd_device.specs.declared.store.Store as store
+use Rattle.vd_device.specs.declared.base.Base as base
 use Rattle.vd_device.specs.declared.ticket.Ticket.{Ticket}
 use Rattle.vd_device.specs.declared.settled.Settled.{Settled}
 use Rattle.vd_device.specs.declared.settled.Settled.TheVariants as settled
-use Rattle.vd_device.specs.Disks.{Disk}
-use Rattle.vd_passes.specs.declared.shape.Shape.{Shape}
 use Rattle.vd_passes.specs.declared.pass.Fault.{Fault}
 use Rattle.vd_passes.specs.Passes.{has_region, region_of, after_ask, after_piece, after_spending}
 use Rattle.vd_passes.specs.Coherent.{ArePassesApart}
-use Rattle.vd_passes.specs.Steps.{IsAt, Asks, AsksFull, Fetches, FillsZeros, FetchSettled, after_base_read, Issues, EndsWrite, WriteSettled, Looks, LooksAtBase, Sees, EndsRead, LookSettled, BaseLookSettled, Replies}
+use Rattle.vd_passes.specs.Steps.{IsAt, Asks, AsksFull, Fetches, FillsZeros, FetchSettled, after_base_read, Issues, after_write, WriteSettled, Looks, LooksAtBase, Sees, EndsRead, LookSettled, BaseLookSettled, Replies}
 use Rattle.vd_passes.proofs.Lists.{some-inj}
 
 -- the region that a pass wants, or holds
@@ -111,36 +112,36 @@ asked-holds p (Read first count) events sectors = refl
 asked-holds p (Write first content) events sectors = refl
 asked-holds p Flush events sectors = refl
 
-pub asks-regions : {request : Asked} {events sectors i : ℕ} {passes passes' : List Pass} {history history' : List Entry} → IsAt passes i (λ p. has_region p.phase ≡ false) → Asks request events sectors i passes passes' history history' → map region_of passes' ≡ map region_of passes
-asks-regions {request} {events} {sectors} {i} {passes} {passes'} {history} {history'} at step =
-    rw step.after (holds-none passes i step.pass _ step.there at (asked-holds step.pass request events sectors))
+pub asks-regions : {request : Asked} {events sectors i : ℕ} {r r' : RequestState} → IsAt r.passes i (λ p. has_region p.phase ≡ false) → Asks request events sectors i r r' → map region_of r'.passes ≡ map region_of r.passes
+asks-regions {request} {events} {sectors} {i} {r} {r'} at step =
+    rw step.after (holds-none r.passes i step.pass _ step.there at (asked-holds step.pass request events sectors))
 
-pub asks_full-regions : {request : Asked} {needed free i : ℕ} {passes passes' : List Pass} {history history' : List Entry} → IsAt passes i (λ p. has_region p.phase ≡ false) → AsksFull request needed free i passes passes' history history' → map region_of passes' ≡ map region_of passes
-asks_full-regions {request} {needed} {free} {i} {passes} {passes'} {history} {history'} at step =
-    rw step.after (holds-none passes i step.pass _ step.there at (this-holds false passes i step.pass step.there at))
+pub asks_full-regions : {request : Asked} {needed free i : ℕ} {r r' : RequestState} → IsAt r.passes i (λ p. has_region p.phase ≡ false) → AsksFull request needed free i r r' → map region_of r'.passes ≡ map region_of r.passes
+asks_full-regions {request} {needed} {free} {i} {r} {r'} at step =
+    rw step.after (holds-none r.passes i step.pass _ step.there at (this-holds false r.passes i step.pass step.there at))
 
-pub replies-regions : {answer : Answer} {i : ℕ} {passes passes' : List Pass} {history history' : List Entry} → IsAt passes i (λ p. has_region p.phase ≡ false) → Replies answer i passes passes' history history' → map region_of passes' ≡ map region_of passes
-replies-regions {answer} {i} {passes} {passes'} {history} {history'} at step = rw step.after (holds-none passes i step.pass _ step.there at refl)
+pub replies-regions : {answer : Answer} {i : ℕ} {r r' : RequestState} → IsAt r.passes i (λ p. has_region p.phase ≡ false) → Replies answer i r r' → map region_of r'.passes ≡ map region_of r.passes
+replies-regions {answer} {i} {r} {r'} at step = rw step.after (holds-none r.passes i step.pass _ step.there at refl)
 
-pub fetches-regions : {shape : Shape} {i : ℕ} {passes passes' : List Pass} {base_flight base_flight' : List Ticket → Type 0} → IsAt passes i (λ p. has_region p.phase ≡ true) → Fetches shape i passes passes' base_flight base_flight' → map region_of passes' ≡ map region_of passes
-fetches-regions {shape} {i} {passes} {passes'} {base_flight} {base_flight'} at step = rw step.after (keeps passes i step.pass _ step.there at refl refl refl)
+pub fills_zeros-regions : {i : ℕ} {r r' : RequestState} → IsAt r.passes i (λ p. has_region p.phase ≡ true) → FillsZeros i r r' → map region_of r'.passes ≡ map region_of r.passes
+fills_zeros-regions {i} {r} {r'} at step = rw step.after (keeps r.passes i step.pass _ step.there at refl refl refl)
 
-pub fills_zeros-regions : {shape : Shape} {i : ℕ} {passes passes' : List Pass} → IsAt passes i (λ p. has_region p.phase ≡ true) → FillsZeros shape i passes passes' → map region_of passes' ≡ map region_of passes
-fills_zeros-regions {shape} {i} {passes} {passes'} at step = rw step.after (keeps passes i step.pass _ step.there at refl refl refl)
+pub sees-regions : {content : List Sector} {i : ℕ} {r r' : RequestState} {out out' : List Sector} → Sees content i r r' out out' → map region_of r'.passes ≡ slice_set (map region_of r.passes) i None
+sees-regions {content} {i} {r} {r'} {out} {out'} step = rw step.after (regions-freed r.passes i (after_spending 1 step.pass.piece (after_piece step.pass)) (piece-frees step.pass))
 
-pub issues-regions : {shape : Shape} {fresh : List Bool} {content : List Sector} {i : ℕ} {passes passes' : List Pass} {history history' : List Entry} {flight flight' : List Ticket → Type 0} {tells tells' : Type 0} {disk disk' : Disk} {last last' : ℕ}
-    → IsAt passes i (λ p. has_region p.phase ≡ true) → Issues shape fresh content i passes passes' history history' flight flight' tells tells' disk disk' last last' → map region_of passes' ≡ map region_of passes
-issues-regions {shape} {fresh} {content} {i} {passes} {passes'} {history} {history'} {flight} {flight'} {tells} {tells'} {disk} {disk'} {last} {last'} at step = rw step.after (keeps passes i step.pass _ step.there at refl refl refl)
+module _ {S : Type 0} {g : store.Ghosts S} {i : ℕ} {r r' : RequestState} {s s' : S} where
+  pub issues-regions : {content : List Sector} → IsAt r.passes i (λ p. has_region p.phase ≡ true) → Issues g content i r r' s s' → map region_of r'.passes ≡ map region_of r.passes
+  issues-regions {content} at step = rw step.after (keeps r.passes i step.pass _ step.there at refl refl refl)
 
-pub looks-regions : {shape : Shape} {i : ℕ} {passes passes' : List Pass} {flight flight' : List Ticket → Type 0} {tells tells' : Type 0} {disk disk' : Disk} {last last' : ℕ}
-    → IsAt passes i (λ p. has_region p.phase ≡ true) → Looks shape i passes passes' flight flight' tells tells' disk disk' last last' → map region_of passes' ≡ map region_of passes
-looks-regions {shape} {i} {passes} {passes'} {flight} {flight'} {tells} {tells'} {disk} {disk'} {last} {last'} at step = rw step.after (keeps passes i step.pass _ step.there at refl refl refl)
+  pub looks-regions : IsAt r.passes i (λ p. has_region p.phase ≡ true) → Looks g i r r' s s' → map region_of r'.passes ≡ map region_of r.passes
+  looks-regions at step = rw step.after (keeps r.passes i step.pass _ step.there at refl refl refl)
 
-pub looks_at_base-regions : {shape : Shape} {i : ℕ} {passes passes' : List Pass} {base_flight base_flight' : List Ticket → Type 0} → IsAt passes i (λ p. has_region p.phase ≡ true) → LooksAtBase shape i passes passes' base_flight base_flight' → map region_of passes' ≡ map region_of passes
-looks_at_base-regions {shape} {i} {passes} {passes'} {base_flight} {base_flight'} at step = rw step.after (keeps passes i step.pass _ step.there at refl refl refl)
+module _ {B : Type 0} {h : base.Ghosts B} {i : ℕ} {r r' : RequestState} {b b' : B} where
+  pub fetches-regions : IsAt r.passes i (λ p. has_region p.phase ≡ true) → Fetches h i r r' b b' → map region_of r'.passes ≡ map region_of r.passes
+  fetches-regions at step = rw step.after (keeps r.passes i step.pass _ step.there at refl refl refl)
 
-pub sees-regions : {content : List Sector} {i : ℕ} {passes passes' : List Pass} {history history' : List Entry} {out out' : List Sector} → Sees content i passes passes' history history' out out' → map region_of passes' ≡ slice_set (map region_of passes) i None
-sees-regions {content} {i} {passes} {passes'} {history} {history'} {out} {out'} step = rw step.after (regions-freed passes i (after_spending 1 step.pass.piece (after_piece step.pass)) (piece-frees step.pass))
+  pub looks_at_base-regions : IsAt r.passes i (λ p. has_region p.phase ≡ true) → LooksAtBase h i r r' b b' → map region_of r'.passes ≡ map region_of r.passes
+  looks_at_base-regions at step = rw step.after (keeps r.passes i step.pass _ step.there at refl refl refl)
 
 -- The regions after a settle: of a base read for a block, and of the write or the read of a piece.
 abbrev pub regions_fetched : Settled → ℕ → List (Option Region) → List (Option Region)
@@ -159,33 +160,27 @@ fetched-regions settled.Done block i passes p ticket content there at = keeps pa
 fetched-regions (settled.NotYet same) block i passes p ticket content there at = keeps passes i p p there at (this-holds true passes i p there at) refl refl
 fetched-regions (settled.Failed number) block i passes p ticket content there at = regions-freed passes i _ refl
 
-pub fetch_settled-regions : {answer : Settled} {shape : Shape} {i : ℕ} {passes passes' : List Pass} {base_flight base_flight' : List Ticket → Type 0} {base_tells : Type 0} {base : List Sector}
-    → IsAt passes i (λ p. has_region p.phase ≡ true) → FetchSettled answer shape i passes passes' base_flight base_flight' base_tells base → map region_of passes' ≡ regions_fetched answer i (map region_of passes)
-fetch_settled-regions {answer} {shape} {i} {passes} {passes'} {base_flight} {base_flight'} {base_tells} {base} at step = rw step.after (fetched-regions answer shape.block i passes step.pass step.ticket step.content step.there at)
+written-regions : (answer : Settled) (pass : Pass) (ticket : Ticket) (i : ℕ) (r r' : RequestState) → r' ≡ after_write answer pass ticket i r → map region_of r'.passes ≡ regions_ended answer i (map region_of r.passes)
+written-regions settled.Done pass ticket i r r' after = rw after (regions-freed r.passes i (after_spending 1 0 (after_piece pass)) (piece-frees pass))
+written-regions (settled.NotYet same) pass ticket i r r' after = rw after refl
+written-regions (settled.Failed number) pass ticket i r r' after = rw after (regions-freed r.passes i _ refl)
 
-written-regions : (answer : Settled) (pass : Pass) (ticket : Ticket) (i : ℕ) (fresh fresh' : List Bool) (passes passes' : List Pass) (history history' : List Entry) → EndsWrite answer pass ticket i fresh fresh' passes passes' history history'
-    → map region_of passes' ≡ regions_ended answer i (map region_of passes)
-written-regions settled.Done pass ticket i fresh fresh' passes passes' history history' effect = rw effect.1 (regions-freed passes i (after_spending 1 0 (after_piece pass)) (piece-frees pass))
-written-regions (settled.NotYet same) pass ticket i fresh fresh' passes passes' history history' effect = ap (map region_of) effect.1
-written-regions (settled.Failed number) pass ticket i fresh fresh' passes passes' history history' effect = rw effect.1 (regions-freed passes i _ refl)
+read-regions : (answer : Settled) (why : Fault) (content : List Sector) (i : ℕ) (r r' : RequestState) (out out' : List Sector) → EndsRead answer content why i r r' out out' → map region_of r'.passes ≡ regions_ended answer i (map region_of r.passes)
+read-regions settled.Done why content i r r' out out' ends = sees-regions ends
+read-regions (settled.NotYet same) why content i r r' out out' ends = rw ends.0 refl
+read-regions (settled.Failed number) why content i r r' out out' ends = rw ends.0.after (regions-freed r.passes i _ refl)
 
-pub write_settled-regions : {answer : Settled} {i : ℕ} {fresh fresh' : List Bool} {passes passes' : List Pass} {history history' : List Entry} {flight flight' : List Ticket → Type 0} {tells tells' : Type 0} {disk disk' : Disk} {last last' : ℕ}
-    → WriteSettled answer i fresh fresh' passes passes' history history' flight flight' tells tells' disk disk' last last' → map region_of passes' ≡ regions_ended answer i (map region_of passes)
-write_settled-regions {answer} {i} {fresh} {fresh'} {passes} {passes'} {history} {history'} {flight} {flight'} {tells} {tells'} {disk} {disk'} {last} {last'} step =
-    written-regions answer step.pass step.ticket i fresh fresh' passes passes' history history' step.effect
+module _ {answer : Settled} {i : ℕ} {r r' : RequestState} where
+  module _ {S : Type 0} {g : store.Ghosts S} {s s' : S} where
+    pub write_settled-regions : WriteSettled g answer i r r' s s' → map region_of r'.passes ≡ regions_ended answer i (map region_of r.passes)
+    write_settled-regions step = written-regions answer step.pass step.ticket i r r' step.after
 
-read-regions : (answer : Settled) (pass : Pass) (why : Fault) (content : List Sector) (i : ℕ) (passes passes' : List Pass) (history history' : List Entry) (out out' : List Sector) → EndsRead answer pass why content i passes passes' history history' out out'
-    → map region_of passes' ≡ regions_ended answer i (map region_of passes)
-read-regions settled.Done pass why content i passes passes' history history' out out' effect = sees-regions effect
-read-regions (settled.NotYet same) pass why content i passes passes' history history' out out' effect = ap (map region_of) effect.0
-read-regions (settled.Failed number) pass why content i passes passes' history history' out out' effect = rw effect.0 (regions-freed passes i _ refl)
+    pub look_settled-regions : {out out' : List Sector} → LookSettled g answer i r r' s s' out out' → map region_of r'.passes ≡ regions_ended answer i (map region_of r.passes)
+    look_settled-regions {out} {out'} step = read-regions answer _ step.content i r r' out out' step.effect
 
-pub look_settled-regions : {answer : Settled} {i : ℕ} {passes passes' : List Pass} {history history' : List Entry} {flight flight' : List Ticket → Type 0} {tells tells' : Type 0} {disk disk' : Disk} {last last' : ℕ} {out out' : List Sector}
-    → LookSettled answer i passes passes' history history' flight flight' tells tells' disk disk' last last' out out' → map region_of passes' ≡ regions_ended answer i (map region_of passes)
-look_settled-regions {answer} {i} {passes} {passes'} {history} {history'} {flight} {flight'} {tells} {tells'} {disk} {disk'} {last} {last'} {out} {out'} step =
-    read-regions answer step.pass _ step.content i passes passes' history history' out out' step.effect
+  module _ {B : Type 0} {h : base.Ghosts B} {b b' : B} where
+    pub fetch_settled-regions : IsAt r.passes i (λ p. has_region p.phase ≡ true) → FetchSettled h answer i r r' b b' → map region_of r'.passes ≡ regions_fetched answer i (map region_of r.passes)
+    fetch_settled-regions at step = rw step.after (fetched-regions answer r.shape.block i r.passes step.pass step.ticket step.content step.there at)
 
-pub base_look_settled-regions : {answer : Settled} {shape : Shape} {i : ℕ} {passes passes' : List Pass} {history history' : List Entry} {base_flight base_flight' : List Ticket → Type 0} {base_tells : Type 0} {base out out' : List Sector}
-    → BaseLookSettled answer shape i passes passes' history history' base_flight base_flight' base_tells base out out' → map region_of passes' ≡ regions_ended answer i (map region_of passes)
-base_look_settled-regions {answer} {shape} {i} {passes} {passes'} {history} {history'} {base_flight} {base_flight'} {base_tells} {base} {out} {out'} step =
-    read-regions answer step.pass _ _ i passes passes' history history' out out' step.effect
+    pub base_look_settled-regions : {out out' : List Sector} → BaseLookSettled h answer i r r' b b' out out' → map region_of r'.passes ≡ regions_ended answer i (map region_of r.passes)
+    base_look_settled-regions {out} {out'} step = read-regions answer _ _ i r r' out out' step.effect

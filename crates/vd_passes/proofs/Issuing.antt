@@ -1,9 +1,9 @@
 -- A pass issues a piece of its write.
-use Rattle.std.proofs.Common.{◌≡◌, ◌≢◌, ℕ, ◌+◌, ◌-◌, ◌*◌, ◌<◌, ◌≤◌, ◌⊎◌, Bool, true, false, List, [], ◌∷◌, ◌++◌, length, take, drop, refl, sym, ◌∙◌, ap, subst, inl, inr, arith, Option, Some, None, slice_get, slice_set, length-drop}
+use Rattle.std.proofs.Common.{◌≡◌, ◌≢◌, ℕ, ◌+◌, ◌-◌, ◌*◌, ◌<◌, ◌≤◌, ◌⊎◌, Bool, true, false, List, [], ◌∷◌, ◌++◌, length, refl, sym, ◌∙◌, ap, subst, inl, inr, arith, Option, Some, None, slice_get, slice_set}
 use Rattle.std.specs.Prelude.{slice_range}
 use Rattle.std.specs.List.{Contains}
-use Rattle.std.proofs.lemmas.List.{length-take-le}
 use Rattle.std.proofs.lemmas.List.Elements.{Contains-append_left, Contains-push, Contains-push_cases}
+use Rattle.vd_lists.proofs.Lists.{length_part}
 use Rattle.vd_law.specs.declared.entry.Sector.{Sector}
 use Rattle.vd_law.specs.declared.entry.CallId.{CallId}
 use Rattle.vd_law.specs.Entries.{Write, Entry, Issue}
@@ -12,11 +12,11 @@ use Rattle.vd_law.specs.Rules.{IsRegular}
 use Rattle.vd_device.specs.declared.ticket.Ticket.{Ticket}
 use Rattle.vd_device.specs.declared.ticket.Kind.TheVariants.{Write as WriteKind}
 use Rattle.vd_device.specs.Tickets.{ticket_id, Puts}
-use Rattle.vd_device.specs.Disks.{Disk, Adds}
+use Rattle.vd_device.specs.Disks.{Adds}
 use Rattle.vd_passes.specs.declared.shape.Shape.{Shape}
 use Rattle.vd_passes.specs.declared.pass.Pass.{Pass}
 use Rattle.vd_passes.specs.declared.pass.Phase.TheVariants.{Idle, Held, Filled, Issuing, Ready}
-use Rattle.vd_passes.specs.Laying.{Lays}
+use Rattle.vd_passes.specs.Laying.{Lays, extent}
 use Rattle.vd_passes.specs.Tracks.{Track, track, writes, follow}
 use Rattle.vd_passes.specs.Standings.{standing}
 use Rattle.vd_passes.specs.Places.{IsIn}
@@ -30,9 +30,13 @@ use Rattle.vd_passes.proofs.Places.{block-after, same-block, in-piece, same-plac
 use Rattle.vd_passes.proofs.Regions.{alone, only-writer, only-filler, stored-place, sector-at, unwritten-set, written-set, unfilled-set, filled-set, request-kept, apart-set, each-set, region-of, filled-ticket}
 use Rattle.vd_passes.proofs.Laying.{given-buffer, given-stored, given-lays}
 use Rattle.vd_passes.proofs.Ready.{IsHolding, holding-region, holding-not, holding-none, holding-busy, holding-unready, request-is, asked-long}
+use Rattle.vd_device.specs.declared.store.Store.{Ghosts as StoreGhosts}
+use Rattle.vd_device.specs.declared.base.Base.{Ghosts as BaseGhosts}
+use Rattle.vd_passes.specs.Requests.{RequestState, requests}
+use Rattle.vd_passes.proofs.Growing.{AreAlike, alike-store, agrees-so}
 
-module _ {shape : Shape} {fresh : List Bool} {places : ℕ → Option ℕ} {passes : List Pass} {history : List Entry} {sectors depth base_sectors base_depth : ℕ} {flight base_flight : List Ticket → Type 0}
-    (co : IsCoherent shape fresh places passes history sectors depth base_sectors base_depth flight base_flight) (i : ℕ) (p : Pass) (there : slice_get passes i ≡ Some p)
+module _ {shape : Shape} {fresh : List Bool} {places : ℕ → Option ℕ} {passes : List Pass} {history : List Entry} {S B : Type 0} {g : StoreGhosts S} {h : BaseGhosts B} {store : S} {base : B}
+    (co : IsCoherent g h (requests shape fresh passes history) places store base) (i : ℕ) (p : Pass) (there : slice_get passes i ≡ Some p)
     (holding : IsHolding p) (write : p.write ≡ true) (part : List Sector) (long : length part ≡ p.piece) (t : Ticket)
     (kind : t.kind ≡ WriteKind) (stored : IsStored shape.block fresh p t) (buffer : List Sector) (room : length buffer ≡ shape.block) where
   abbrev issued : Pass
@@ -152,32 +156,32 @@ module _ {shape : Shape} {fresh : List Bool} {places : ℕ → Option ℕ} {pass
         (part_of ∙ ap (λ n. slice_range asked n (n + length part)) (sym done))
         (λ s from to. free s (in-piece shape p s piece from (omega arith))))
 
-    pub coherent : (flight' : List Ticket → Type 0) → Puts t flight flight' → IsCoherent shape fresh places (slice_set passes i issued) (history ++ event ∷ []) sectors depth base_sectors base_depth flight' base_flight
-    coherent flight' puts = record {
-      shaped = co.shaped;
+    pub coherent : (store' : S) → AreAlike g h store store' base base → Puts t (g.flight store) (g.flight store') → IsCoherent g h (requests shape fresh (slice_set passes i issued) (history ++ event ∷ [])) places store' base
+    coherent store' alike puts = record {
+      shaped = rw alike.sectors co.shaped;
       size = co.size;
-      placed = co.placed;
+      placed = rw alike.sectors co.placed;
       fresh_placed = co.fresh_placed;
       regular = regular;
       few = rw (length-set' passes i issued) co.few;
-      deep = co.deep;
+      deep = rw alike.depth co.deep;
       base_deep = co.base_deep;
       each = each-set shape fresh places passes history event i p issued there refl (λ j q at ne. co.each j q at) next;
       apart = apart-set passes i p issued there co.apart (λ k r at ne has_p has_r. co.apart i k p r there at ne region has_r);
       flight = puts (tickets_of passes) (tickets_of (slice_set passes i issued)) (tickets-put passes i p issued t there none.ticket refl) co.flight;
-      base_flight = subst base_flight (sym (fetches-same passes i p issued there refl)) co.base_flight;
+      base_flight = subst (h.flight base) (sym (fetches-same passes i p issued there refl)) co.base_flight;
       guest = guest;
     }
 
   -- Where the devices tell: the store was given the piece, laid out as its block asks.
-  module _ {start : List Sector} {rest : ℕ → Sector} {disk disk' : Disk} {last : ℕ} (fa : IsFaithful start rest shape fresh places passes history disk last) (stored_content : List Sector)
-      (lays : Lays rest shape.block p.block p.at (p.first + p.done) part t.first stored_content (slice_get fresh p.block ≡ Some false)) (wide : length stored_content ≡ t.count)
-      (adds : Adds (Issue (ticket_id t) t.first stored_content) disk disk') (new_number : last < t.number) where
+  module _ {start : List Sector} {rest : ℕ → Sector} {store' : S} (fa : IsFaithful g start rest (requests shape fresh passes history) places store) (stored_content : List Sector)
+      (lays : Lays rest shape.block p.block p.at (extent (p.first + p.done) part) (extent t.first stored_content) (slice_get fresh p.block ≡ Some false)) (wide : length stored_content ≡ t.count)
+      (adds : Adds (Issue (ticket_id t) t.first stored_content) (g.disk store) (g.disk store')) (new_number : g.last store < t.number) (now_last : g.last store' ≡ t.number) where
     abbrev guest-of : ℕ → Track
     guest-of s = track start history s
 
     abbrev store-of : ℕ → Track
-    store-of a = track disk.start disk.log a
+    store-of a = track (g.disk store).start (g.disk store).log a
 
     abbrev guest-next : ℕ → Track
     guest-next s = follow s (guest-of s) event
@@ -230,7 +234,7 @@ module _ {shape : Shape} {fresh : List Bool} {places : ℕ → Option ℕ} {pass
           | inr fill ↦ absurd (let known = sym is ∙ ap (slice_get fresh) same ∙ fill.2 in cc)
         ]
 
-    stands-next : (s : ℕ) → s < length start → AgreesInSector shape.block fresh places rest s (guest-next s) store-next
+    stands-next : (s : ℕ) → s < length start → AgreesInSector (requests shape fresh passes history) places rest s (guest-next s) store-next
     stands-next s inside = let old = fa.stands s inside in record {
       local = λ b x in_b is at_b v among.
           let a : ℕ = x + (s - shape.block * b) in
@@ -292,14 +296,14 @@ module _ {shape : Shape} {fresh : List Bool} {places : ℕ → Option ℕ} {pass
     earlier : (j : ℕ) (q : Pass) (u : Ticket) → slice_get passes j ≡ Some q → q.ticket ≡ Some u → u.number ≢ t.number
     earlier j q u at_j has e = let n = fa.numbers j q u at_j has in absurd (omega arith)
 
-    pub faithful : IsFaithful start rest shape fresh places (slice_set passes i issued) (history ++ event ∷ []) disk' t.number
+    pub faithful : IsFaithful g start rest (requests shape fresh (slice_set passes i issued) (history ++ event ∷ [])) places store'
     faithful = record {
       size = fa.size;
       shown = shown-push start history event fa.shown tt;
-      numbers = λ j q u at_j has. elim (at-set passes i j issued p q there at_j) [
+      numbers = λ j q u at_j has. rw now_last (elim (at-set passes i j issued p q there at_j) [
         | inl a ↦ let e = some-inj (sym has ∙ ap (λ (x : Pass). x.ticket) a.1) in let n = ap (λ (x : Ticket). x.number) e in omega arith
         | inr a ↦ let n = fa.numbers j q u a.1 has in omega arith
-      ];
+      ]);
       distinct = λ j k q r u v at_j at_k ne has_u has_v. elim (at-set passes i j issued p q there at_j) [
         | inl a ↦ elim (at-set passes i k issued p r there at_k) [
           | inl b ↦ absurd (ne (a.0 ∙ sym b.0))
@@ -310,7 +314,7 @@ module _ {shape : Shape} {fresh : List Bool} {places : ℕ → Option ℕ} {pass
           | inr b ↦ fa.distinct j k q r u v a.1 b.1 ne has_u has_v
         ]
       ];
-      stands = λ s inside. subst (λ g. AgreesInSector shape.block fresh places rest s g (track disk'.start disk'.log)) (sym (track-more start history event s)) (stands-told s (stands-next s inside));
+      stands = λ s inside. agrees-so (subst (λ (x : Track). AgreesInSector (requests shape fresh passes history) places rest s x (track (g.disk store').start (g.disk store').log)) (sym (track-more start history event s)) (stands-told s (stands-next s inside)));
       filling = λ a low. filling-told a (filling-next a low);
       buffers = λ j q at_j filled. elim (at-set passes i j issued p q there at_j) [
         | inl a ↦ absurd (let e = ap (λ (x : Pass). x.phase) a.1 in cc)
@@ -318,14 +322,14 @@ module _ {shape : Shape} {fresh : List Bool} {places : ℕ → Option ℕ} {pass
       ];
     }
       where
-        stands-told : (s : ℕ) → AgreesInSector shape.block fresh places rest s (guest-next s) store-next → AgreesInSector shape.block fresh places rest s (guest-next s) (track disk'.start disk'.log)
+        stands-told : (s : ℕ) → AgreesInSector (requests shape fresh passes history) places rest s (guest-next s) store-next → AgreesInSector (requests shape fresh passes history) places rest s (guest-next s) (track (g.disk store').start (g.disk store').log)
         stands-told s next = record {
           local = λ b x in_b is at_b v among. next.local b x in_b is at_b v (subst (λ (d : Track). Contains d.contents v) (disk-track (x + (s - shape.block * b)) adds) among);
           other = next.other;
         }
 
         filling-told : (a : ℕ) → IsUnfilled (slice_set passes i issued) a (store-next a) ⊎ IsFilled shape.block (slice_set passes i issued) a guest-next (store-next a)
-            → IsUnfilled (slice_set passes i issued) a (track disk'.start disk'.log a) ⊎ IsFilled shape.block (slice_set passes i issued) a (track start (history ++ event ∷ [])) (track disk'.start disk'.log a)
+            → IsUnfilled (slice_set passes i issued) a (track (g.disk store').start (g.disk store').log a) ⊎ IsFilled shape.block (slice_set passes i issued) a (track start (history ++ event ∷ [])) (track (g.disk store').start (g.disk store').log a)
         filling-told a (inl unfilled) = inl (record { nobody = unfilled.nobody; none = ap (λ (x : Track). x.writes) (disk-track a adds) ∙ unfilled.none })
         filling-told a (inr w) = inr (record {
           by = w.by;
@@ -342,18 +346,11 @@ module _ {shape : Shape} {fresh : List Bool} {places : ℕ → Option ℕ} {pass
           source = subst (λ (g : Track). (g.writes ≡ (call_id w.by w.pass, w.content) ∷ []) ⊎ ((g.writes ≡ []) × Contains g.contents w.content)) (sym (track-more start history event w.sector)) w.source;
         })
 
--- a part has the length that was asked of it, where there is so much
-part-long : (content : List Sector) (done piece : ℕ) → done + piece ≤ length content → length (slice_range content done (done + piece)) ≡ piece
-part-long content done piece fits =
-    let dropped : length (drop done content) ≡ length content - done = length-drop done content in
-    let taken : length (take (done + piece - done) (drop done content)) ≡ done + piece - done = length-take-le (done + piece - done) (drop done content) (omega arith) in
-    omega arith
-
 -- Issuing keeps a core coherent, and true to its devices.
-module _ {shape : Shape} {fresh : List Bool} {places : ℕ → Option ℕ} {passes passes' : List Pass} {history history' : List Entry} {sectors depth base_sectors base_depth i last last' : ℕ} {flight flight' base_flight : List Ticket → Type 0}
-    {tells tells' : Type 0} {disk disk' : Disk} (content : List Sector) (co : IsCoherent shape fresh places passes history sectors depth base_sectors base_depth flight base_flight)
+module _ {shape : Shape} {fresh : List Bool} {places : ℕ → Option ℕ} {passes : List Pass} {history : List Entry} {i : ℕ} {S B : Type 0} {g : StoreGhosts S} {h : BaseGhosts B} {store store' : S} {base : B} {r' : RequestState}
+    (content : List Sector) (co : IsCoherent g h (requests shape fresh passes history) places store base)
     (at : IsAt passes i (λ p. ((p.phase ≡ Held) ⊎ (p.phase ≡ Filled)) × (p.write ≡ true))) (asked : HasAskedWrite history i content)
-    (step : Issues shape fresh content i passes passes' history history' flight flight' tells tells' disk disk' last last') where
+    (step : Issues g content i (requests shape fresh passes history) r' store store') where
   this : at.0 ≡ step.pass
   this = some-inj (sym at.1 ∙ step.there)
 
@@ -373,7 +370,7 @@ module _ {shape : Shape} {fresh : List Bool} {places : ℕ → Option ℕ} {pass
   step-piece = step-stands.piece (holding-region step.pass was-holding)
 
   step-long : length step-part ≡ step.pass.piece
-  step-long = let count = asked-long co i content asked step.pass step.there was-holding in let no_more = step-piece.no_more in part-long content step.pass.done step.pass.piece (omega arith)
+  step-long = let count = asked-long co i content asked step.pass step.there was-holding in let no_more = step-piece.no_more in length_part content step.pass.done step.pass.piece (omega arith)
 
   not-fresh : step.pass.phase ≡ Filled → slice_get fresh step.pass.block ≡ Some false
   not-fresh is = (filled-ticket step-stands is).1
@@ -384,14 +381,13 @@ module _ {shape : Shape} {fresh : List Bool} {places : ℕ → Option ℕ} {pass
   step-room : length step.buffer ≡ shape.block
   step-room = given-buffer step.given step-piece step-long step-stands.buffer
 
-  pub issues-coherent : IsCoherent shape fresh places passes' history' sectors depth base_sectors base_depth flight' base_flight
-  issues-coherent = rw (step.after, step.event) (coherent co i step.pass step.there was-holding writes-now step-part step-long step.ticket step.kind step-stored step.buffer step-room
-      asked.0 content asked.1 (ap (λ n. slice_range content step.pass.done (step.pass.done + n)) (sym step-long)) flight' step.flight)
+  pub issues-coherent : IsCoherent g h r' places store' base
+  issues-coherent = rw step.after (coherent co i step.pass step.there was-holding writes-now step-part step-long step.ticket step.kind step-stored step.buffer step-room
+      asked.0 content asked.1 (ap (λ n. slice_range content step.pass.done (step.pass.done + n)) (sym step-long)) store' (alike-store step.call.counts) step.call.flight)
 
-  pub issues-faithful : {start : List Sector} {rest : ℕ → Sector} → (tells → IsFaithful start rest shape fresh places passes history disk last) → tells' → IsFaithful start rest shape fresh places passes' history' disk' last'
+  pub issues-faithful : {start : List Sector} {rest : ℕ → Sector} → (g.tells store → IsFaithful g start rest (requests shape fresh passes history) places store) → g.tells store' → IsFaithful g start rest r' places store'
   issues-faithful {start} {rest} faithful_before told =
-      let t = step.told told in
-      let fa = faithful_before (step.told_before told) in
+      let fa = faithful_before (step.call.takes.keeps.told_before told) in
       let lays = given-lays step.given step-piece step-long step-stands.buffer not-fresh rest (fa.buffers i step.pass step.there) in
-      rw (step.after, step.event, step.number) (faithful co i step.pass step.there was-holding writes-now step-part step-long step.ticket step.kind step-stored step.buffer step-room
-      fa step.stored lays (sym step.given.count) t.0 t.1)
+      rw step.after (faithful co i step.pass step.there was-holding writes-now step-part step-long step.ticket step.kind step-stored step.buffer step-room
+      fa step.stored lays (sym step.given.count) (step.call.takes.told told) (step.call.rises told) step.call.next.last)

@@ -1,59 +1,25 @@
 -- What the store is given for a piece, sector by sector.
-use Rattle.std.proofs.Common.{◌≡◌, ℕ, zero, suc, ◌+◌, ◌-◌, ◌*◌, ◌<◌, ◌≤◌, ◌⊎◌, Bool, false, List, [], ◌∷◌, ◌++◌, length, take, drop, ◌∙◌, ap, inl, inr, arith, Some, None, slice_get, length-drop, length-append}
+use Rattle.std.proofs.Common.{◌≡◌, ℕ, ◌+◌, ◌-◌, ◌*◌, ◌<◌, ◌≤◌, ◌⊎◌, Bool, false, List, [], ◌∷◌, ◌++◌, length, take, drop, ◌∙◌, ap, inl, inr, arith, Some, None, slice_get, length-drop, length-append}
 use Rattle.std.proofs.lemmas.List.{length-take-le}
+use Rattle.vd_lists.proofs.Lists.{length_behind}
+use Rattle.vd_lists.proofs.Places.{slice_get_either, slice_get_longer, slice_get_behind, slice_get_taken, slice_get_dropped}
 use Rattle.vd_law.specs.declared.entry.Sector.{Sector}
 use Rattle.vd_law.specs.Contents.{sector_in}
 use Rattle.vd_device.specs.declared.ticket.Ticket.{Ticket}
+use Rattle.vd_law.specs.Entries.{Entry}
 use Rattle.vd_passes.specs.declared.shape.Shape.{Shape}
 use Rattle.vd_passes.specs.declared.pass.Pass.{Pass}
 use Rattle.vd_passes.specs.declared.pass.Phase.TheVariants.{Filled}
-use Rattle.vd_passes.specs.Laying.{content_with_part, IsRest, Lays}
+use Rattle.vd_passes.specs.Laying.{content_with_part, extent, IsRest, Lays}
 use Rattle.vd_passes.specs.Passes.{IsPiece, IsStored}
+use Rattle.vd_passes.specs.Requests.{requests}
 use Rattle.vd_passes.specs.Steps.{IsGiven}
 use Rattle.vd_passes.proofs.Tracks.{at-range, at-some, some-at, none-before, none-past}
-
-get-append : {X : Type 0} (xs ys : List X) (k : ℕ) (c : X) → slice_get (xs ++ ys) k ≡ Some c → ((k < length xs) × (slice_get xs k ≡ Some c)) ⊎ ((length xs ≤ k) × (slice_get ys (k - length xs) ≡ Some c))
-get-append [] ys k c h = inr (omega arith, (let e : k - 0 ≡ k = omega arith in rw e h))
-get-append (x ∷ xs) ys zero c h = inl (omega arith, h)
-get-append (x ∷ xs) ys (suc k) c h = elim (get-append xs ys k c h) [
-  | inl a ↦ inl ((let b = a.0 in omega arith), a.1)
-  | inr a ↦ inr ((let b = a.0 in omega arith), (let e : suc k - suc (length xs) ≡ k - length xs = omega arith in rw e a.1))
-]
-
-get-front : {X : Type 0} (xs ys : List X) (k : ℕ) (c : X) → slice_get xs k ≡ Some c → slice_get (xs ++ ys) k ≡ Some c
-get-front [] ys k c h = cc
-get-front (x ∷ xs) ys zero c h = h
-get-front (x ∷ xs) ys (suc k) c h = get-front xs ys k c h
-
-get-back : {X : Type 0} (xs ys : List X) (m k : ℕ) (c : X) → m ≡ length xs + k → slice_get ys k ≡ Some c → slice_get (xs ++ ys) m ≡ Some c
-get-back [] ys m k c e h = let f : m ≡ k = omega arith in rw f h
-get-back (x ∷ xs) ys zero k c e h = absurd (omega arith)
-get-back (x ∷ xs) ys (suc m) k c e h = get-back xs ys m k c (omega arith) h
-
-get-take : {X : Type 0} (xs : List X) (n k : ℕ) (c : X) → slice_get (take n xs) k ≡ Some c → slice_get xs k ≡ Some c
-get-take [] zero k c h = h
-get-take [] (suc n) k c h = h
-get-take (x ∷ xs) zero k c h = cc
-get-take (x ∷ xs) (suc n) zero c h = h
-get-take (x ∷ xs) (suc n) (suc k) c h = get-take xs n k c h
-
-get-drop : {X : Type 0} (xs : List X) (n k m : ℕ) (c : X) → m ≡ n + k → slice_get (drop n xs) k ≡ Some c → slice_get xs m ≡ Some c
-get-drop [] zero k m c e h = cc
-get-drop [] (suc n) k m c e h = cc
-get-drop (x ∷ xs) zero k m c e h = let f : m ≡ k = omega arith in rw f h
-get-drop (x ∷ xs) (suc n) k zero c e h = absurd (omega arith)
-get-drop (x ∷ xs) (suc n) k (suc m) c e h = get-drop xs n k m c (omega arith) h
-
-length-front : (k : ℕ) (part content : List Sector) → k ≤ length content → length (take k content ++ part) ≡ k + length part
-length-front k part content fits =
-    let a : length (take k content) ≡ k = length-take-le k content fits in
-    let b : length (take k content ++ part) ≡ length (take k content) + length part = length-append (take k content) part in
-    omega arith
 
 -- a content of which a part is another is as long as it was
 pub length-laid : (k : ℕ) (part content : List Sector) → k + length part ≤ length content → length (content_with_part k part content) ≡ length content
 length-laid k part content fits =
-    let a = length-front k part content (omega arith) in
+    let a = length_behind k part content (omega arith) in
     let b : length (drop (k + length part) content) ≡ length content - (k + length part) = length-drop (k + length part) content in
     let c : length (content_with_part k part content) ≡ length (take k content ++ part) + length (drop (k + length part) content) = length-append (take k content ++ part) (drop (k + length part) content) in
     omega arith
@@ -63,15 +29,15 @@ laid-source : (first k : ℕ) (part content : List Sector) (s : ℕ) (c : Sector
     → (sector_in (first + k) part s ≡ Some c) ⊎ ((sector_in (first + k) part s ≡ None) × (sector_in first content s ≡ Some c))
 laid-source first k part content s c fits from h =
     let t : length (take k content) ≡ k = length-take-le k content (omega arith) in
-    let u = length-front k part content (omega arith) in
-    elim (get-append (take k content ++ part) (drop (k + length part) content) (s - first) c h) [
-      | inl a ↦ elim (get-append (take k content) part (s - first) c a.1) [
-        | inl d ↦ inr (none-before (first + k) part s (let x = d.0 in omega arith), some-at first content s c from (get-take content k (s - first) c d.1))
+    let u = length_behind k part content (omega arith) in
+    elim (slice_get_either (take k content ++ part) (drop (k + length part) content) (s - first) c h) [
+      | inl a ↦ elim (slice_get_either (take k content) part (s - first) c a.1) [
+        | inl d ↦ inr (none-before (first + k) part s (let x = d.0 in omega arith), some-at first content s c from (slice_get_taken content k (s - first) c d.1))
         | inr d ↦ inl (some-at (first + k) part s c (let x = d.0 in omega arith) (let e : s - (first + k) ≡ s - first - length (take k content) = omega arith in rw e d.1))
       ]
       | inr a ↦ inr (
         none-past (first + k) part s (let x = a.0 in omega arith),
-        some-at first content s c from (get-drop content (k + length part) (s - first - length (take k content ++ part)) (s - first) c (let x = a.0 in omega arith) a.1),
+        some-at first content s c from (slice_get_dropped content (k + length part) (s - first - length (take k content ++ part)) (s - first) c (let x = a.0 in omega arith) a.1),
       )
     ]
 
@@ -79,11 +45,11 @@ laid-part : (first k : ℕ) (part content : List Sector) (s : ℕ) (c : Sector) 
 laid-part first k part content s c fits h =
     let r = at-range (first + k) part s c h in let from = r.0 in
     let t : length (take k content) ≡ k = length-take-le k content (omega arith) in
-    get-front (take k content ++ part) (drop (k + length part) content) (s - first) c
-    (get-back (take k content) part (s - first) (s - (first + k)) c (omega arith) (at-some (first + k) part s c h))
+    slice_get_longer (take k content ++ part) (drop (k + length part) content) (s - first) c
+    (slice_get_behind (take k content) part (s - first) (s - (first + k)) (omega arith) ∙ at-some (first + k) part s c h)
 
 -- the piece itself is stored in its place
-pub lays-piece : (rest : ℕ → Sector) (block b at first : ℕ) (part : List Sector) (stored_first : ℕ) (is_rest : Type 0) → stored_first + block * b ≡ at + first → Lays rest block b at first part stored_first part is_rest
+pub lays-piece : (rest : ℕ → Sector) (block b at first : ℕ) (part : List Sector) (stored_first : ℕ) (is_rest : Type 0) → stored_first + block * b ≡ at + first → Lays rest block b at (extent first part) (extent stored_first part) is_rest
 lays-piece rest block b at first part stored_first is_rest place = record {
   source = λ a s c here h. let r = at-range stored_first part a c h in let from = r.0 in
       inl (some-at first part s c (omega arith) (let e : s - first ≡ a - stored_first = omega arith in rw e (at-some stored_first part a c h)));
@@ -93,7 +59,7 @@ lays-piece rest block b at first part stored_first is_rest place = record {
 
 -- The block is stored, and the piece laid into the rest of it.
 pub lays-block : (rest : ℕ → Sector) (block b at first k : ℕ) (part content : List Sector) (is_rest : Type 0) → first ≡ block * b + k → k + length part ≤ length content → IsRest rest (block * b) content → is_rest
-    → Lays rest block b at first part at (content_with_part k part content) is_rest
+    → Lays rest block b at (extent first part) (extent at (content_with_part k part content)) is_rest
 lays-block rest block b at first k part content is_rest place fits is_all holds = record {
   source = λ a s c here h.
       let r = at-range at (content_with_part k part content) a c h in let from = r.0 in
@@ -110,8 +76,8 @@ lays-block rest block b at first k part content is_rest place fits is_all holds 
       some-at at (content_with_part k part content) a c (omega arith) (rw e (laid-part (block * b) k part content s c fits g));
 }
 
-module _ {shape : Shape} {fresh : List Bool} {pass : Pass} {part : List Sector} {ticket : Ticket} {stored buffer : List Sector}
-    (given : IsGiven shape fresh pass part ticket stored buffer) (piece : IsPiece shape pass) (long : length part ≡ pass.piece) (room : length pass.buffer ≡ shape.block) where
+module _ {shape : Shape} {fresh : List Bool} {passes : List Pass} {history : List Entry} {pass : Pass} {part : List Sector} {ticket : Ticket} {stored buffer : List Sector}
+    (given : IsGiven (requests shape fresh passes history) pass part ticket stored buffer) (piece : IsPiece shape pass) (long : length part ≡ pass.piece) (room : length pass.buffer ≡ shape.block) where
   fits : pass.first + pass.done - shape.block * pass.block + length part ≤ length pass.buffer
   fits = let from = piece.from in let to = piece.to in omega arith
 
@@ -132,7 +98,7 @@ module _ {shape : Shape} {fresh : List Bool} {pass : Pass} {part : List Sector} 
 
     -- it is the piece, and where the block was filled the rest round it
     pub given-lays : (rest : ℕ → Sector) → (pass.phase ≡ Filled → IsRest rest (shape.block * pass.block) pass.buffer)
-        → Lays rest shape.block pass.block pass.at (pass.first + pass.done) part ticket.first stored (slice_get fresh pass.block ≡ Some false)
+        → Lays rest shape.block pass.block pass.at (extent (pass.first + pass.done) part) (extent ticket.first stored) (slice_get fresh pass.block ≡ Some false)
     given-lays rest filled_rest = elim given.way [
       | inl held ↦ rw held.0 (lays-piece rest shape.block pass.block pass.at (pass.first + pass.done) part ticket.first (slice_get fresh pass.block ≡ Some false) held.4)
       | inr filled ↦ rw (filled.0, filled.1, filled.3) (lays-block rest shape.block pass.block pass.at (pass.first + pass.done) (pass.first + pass.done - shape.block * pass.block) part pass.buffer (slice_get fresh pass.block ≡ Some false)

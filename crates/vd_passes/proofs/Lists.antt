@@ -1,33 +1,12 @@
 -- Lists with one member changed, and the tickets of a list of passes.
-use Rattle.std.proofs.Common.{◌≡◌, ◌≢◌, ℕ, zero, suc, ◌≤◌, ◌⊎◌, List, [], ◌∷◌, ◌++◌, length, refl, sym, ◌∙◌, ap, inl, inr, append_assoc, arith, Option, Some, None, slice_get, slice_set}
+use Rattle.std.proofs.Common.{◌≡◌, ℕ, zero, suc, ◌≤◌, List, [], ◌∷◌, ◌++◌, length, refl, sym, ◌∙◌, ap, append_assoc, arith, Option, Some, None, slice_get, slice_set}
 use Rattle.std.specs.List.{AllByRecursion}
-use Rattle.std.proofs.lemmas.Bool.{cases_eq}
+pub use Rattle.vd_lists.proofs.Options.{some_injective as some-inj}
+pub use Rattle.vd_lists.proofs.Changes.{slice_set_here as get-set-same, slice_set_other as get-set-other, slice_set_either as at-set}
 use Rattle.vd_device.specs.declared.ticket.Ticket.{Ticket}
 use Rattle.vd_device.specs.Tickets.{HasAmong}
 use Rattle.vd_passes.specs.declared.pass.Pass.{Pass}
 use Rattle.vd_passes.specs.Passes.{ticket_of, tickets_of, fetches_of}
-
-pub some-inj : {X : Type 0} {x y : X} → Some x ≡ Some y → x ≡ y
-some-inj h = cc
-
-pub get-set-same : {X : Type 0} (xs : List X) (i : ℕ) (x y : X) → slice_get xs i ≡ Some y → slice_get (slice_set xs i x) i ≡ Some x
-get-set-same [] i x y h = cc
-get-set-same (z ∷ xs) zero x y h = refl
-get-set-same (z ∷ xs) (suc i) x y h = get-set-same xs i x y h
-
-pub get-set-other : {X : Type 0} (xs : List X) (i j : ℕ) (x : X) → j ≢ i → slice_get (slice_set xs i x) j ≡ slice_get xs j
-get-set-other [] i j x ne = refl
-get-set-other (z ∷ xs) zero zero x ne = absurd (ne refl)
-get-set-other (z ∷ xs) zero (suc j) x ne = refl
-get-set-other (z ∷ xs) (suc i) zero x ne = refl
-get-set-other (z ∷ xs) (suc i) (suc j) x ne = get-set-other xs i j x (λ e. ne (ap suc e))
-
--- a member of the changed list is the new one or an old one
-pub at-set : {X : Type 0} (xs : List X) (i j : ℕ) (x old y : X) → slice_get xs i ≡ Some old → slice_get (slice_set xs i x) j ≡ Some y → ((j ≡ i) × (y ≡ x)) ⊎ ((j ≢ i) × (slice_get xs j ≡ Some y))
-at-set xs i j x old y there h = elim (cases_eq j i) [
-  | inl e ↦ inl (e, some-inj (sym h ∙ ap (slice_get (slice_set xs i x)) e ∙ get-set-same xs i x old there))
-  | inr ne ↦ inr (ne, sym (get-set-other xs i j x ne) ∙ h)
-]
 
 pub length-set' : {X : Type 0} (xs : List X) (i : ℕ) (x : X) → length (slice_set xs i x) ≡ length xs
 length-set' [] i x = refl

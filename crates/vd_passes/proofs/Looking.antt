@@ -29,6 +29,10 @@ use Rattle.vd_passes.proofs.Tracks.{track-more, track-writes, track-contents, wr
 use Rattle.vd_passes.proofs.Regions.{region-of, issuing-write, both-read, no-writer, no-filler, request-kept}
 use Rattle.vd_passes.proofs.NotIssuing.{not-issuing-coherent, not-issuing-faithful, apart-free}
 use Rattle.vd_passes.proofs.Onward.{not-idle, not-ready}
+use Rattle.vd_device.specs.declared.store.Store.{Ghosts as StoreGhosts}
+use Rattle.vd_device.specs.declared.base.Base.{Ghosts as BaseGhosts}
+use Rattle.vd_passes.specs.Requests.{requests}
+use Rattle.vd_passes.proofs.Growing.{AreAlike}
 
 -- What an honest store reads where no write is open could stand there before.
 pub read-could : {disk disk' : Disk} {id : CallId} {first : ℕ} {out : List Sector} → Adds (Seen id first out) disk disk' → IsHeld first out disk'.held
@@ -73,8 +77,8 @@ unfolding ended
 ended-filled true e = cc
 ended-filled false e = cc
 
-module _ {shape : Shape} {fresh : List Bool} {places : ℕ → Option ℕ} {passes : List Pass} {history : List Entry} {sectors depth base_sectors base_depth : ℕ} {flight base_flight : List Ticket → Type 0}
-    (co : IsCoherent shape fresh places passes history sectors depth base_sectors base_depth flight base_flight) (i : ℕ) (p : Pass) (there : slice_get passes i ≡ Some p)
+module _ {shape : Shape} {fresh : List Bool} {places : ℕ → Option ℕ} {passes : List Pass} {history : List Entry} {S B : Type 0} {g : StoreGhosts S} {h : BaseGhosts B} {store : S} {base : B}
+    (co : IsCoherent g h (requests shape fresh passes history) places store base) (i : ℕ) (p : Pass) (there : slice_get passes i ≡ Some p)
     (region : has_region p.phase ≡ true) (calm : p.phase ≢ Issuing) (reads : p.write ≡ false) (content : List Sector) (long : length content ≡ p.piece) where
   stands : IsAsHistorySays shape fresh places (standing history i) p
   stands = co.each i p there
@@ -190,15 +194,15 @@ module _ {shape : Shape} {fresh : List Bool} {places : ℕ → Option ℕ} {pass
   quiet : (s : ℕ) → writes (history ++ event ∷ []) s ≡ writes history s
   quiet s = writes-more history event s (track [] history s) (track-writes [] history s) ∙ seen-writes s (track [] history s) (call_id i p) (p.first + p.done) content ∙ track-writes [] history s
 
-  pub seen-coherent : (flight' base_flight' : List Ticket → Type 0) → flight' (tickets_of (slice_set passes i next)) → base_flight' (fetches_of (slice_set passes i next))
-      → IsCoherent shape fresh places (slice_set passes i next) (history ++ event ∷ []) sectors depth base_sectors base_depth flight' base_flight'
-  seen-coherent flight' base_flight' flight base_flight = not-issuing-coherent co i p there calm next next-not-issuing (history ++ event ∷ []) quiet flight' base_flight' regular
+  pub seen-coherent : (store' : S) (base' : B) → AreAlike g h store store' base base' → g.flight store' (tickets_of (slice_set passes i next)) → h.flight base' (fetches_of (slice_set passes i next))
+      → IsCoherent g h (requests shape fresh (slice_set passes i next) (history ++ event ∷ [])) places store' base'
+  seen-coherent store' base' alike flight base_flight = not-issuing-coherent co i p there calm next next-not-issuing (history ++ event ∷ []) quiet store' base' alike regular
       (λ j ne. standing-other history event j (λ e. ne (sym e)))
       (subst (λ h. IsAsHistorySays shape fresh places h next) (sym (standing-own history event i (ap at-call (sym stands.call)) tt)) (goes-on more_left refl))
       (λ k r at ne. apart-free next r next-free)
       flight base_flight
 
-  module _ {start : List Sector} {rest : ℕ → Sector} {disk : Disk} {last : ℕ} (fa : IsFaithful start rest shape fresh places passes history disk last) where
+  module _ {start : List Sector} {rest : ℕ → Sector} (fa : IsFaithful g start rest (requests shape fresh passes history) places store) where
     abbrev guest-of : ℕ → Track
     guest-of s = track start history s
 
@@ -216,7 +220,7 @@ module _ {shape : Shape} {fresh : List Bool} {places : ℕ → Option ℕ} {pass
     on-now s v on = ap (λ (x : Track). x.contents) (track-more start history event s)
         ∙ seen-at s (guest-of s) (call_id i p) (p.first + p.done) content v on (track-writes start history s ∙ free s (in-block s v on))
 
-    more : (a : ℕ) (w : IsFilled shape.block passes a (track start history) (track disk.start disk.log a)) → (v : Sector) → Contains (guest-of w.sector).contents v → Contains (seen-of w.sector).contents v
+    more : (a : ℕ) (w : IsFilled shape.block passes a (track start history) (track (g.disk store).start (g.disk store).log a)) → (v : Sector) → Contains (guest-of w.sector).contents v → Contains (seen-of w.sector).contents v
     more a w v among = elim (cases-at (p.first + p.done) content w.sector) [
       | inl off ↦ subst (λ (x : Track). Contains x.contents v) (sym (off-same w.sector off)) among
       | inr on ↦ absurd (nobody w.by w.pass w.there w.filling.phase (same-block shape.block w.pass.block p.block w.sector w.in_block (in-block w.sector on.0 on.1)))
@@ -226,14 +230,14 @@ module _ {shape : Shape} {fresh : List Bool} {places : ℕ → Option ℕ} {pass
     shown-is each s v on = subst (λ (cs : List Sector). Contains cs v) (track-contents start history s) (each s v on)
 
     -- The pass saw the rest of a block that isn't fresh.
-    pub rest-faithful : slice_get fresh p.block ≡ Some false → IsRest rest (p.first + p.done) content → IsFaithful start rest shape fresh places (slice_set passes i next) (history ++ event ∷ []) disk last
-    rest-faithful absent is_rest = not-issuing-faithful co i p there calm next next-not-issuing (history ++ event ∷ []) quiet fa disk last (omega arith)
+    pub rest-faithful : slice_get fresh p.block ≡ Some false → IsRest rest (p.first + p.done) content → IsFaithful g start rest (requests shape fresh (slice_set passes i next) (history ++ event ∷ [])) places store
+    rest-faithful absent is_rest = not-issuing-faithful co i p there calm next next-not-issuing (history ++ event ∷ []) quiet fa store (omega arith)
         (shown-push start history event fa.shown (shown-is (λ s v on.
         let in_p = in-block s v on in
         subst (λ (x : Sector). Contains (guest-of s).contents x) (sym (is_rest s v on)) ((fa.stands s (in-start s in_p)).other p.block in_p absent))))
         (λ t is. absurd (cc)) (λ a low. refl)
         (λ s inside. elim (cases-at (p.first + p.done) content s) [
-          | inl off ↦ subst (λ (g : Track). AgreesInSector shape.block fresh places rest s g (track disk.start disk.log)) (sym (off-same s off)) (fa.stands s inside)
+          | inl off ↦ subst (λ (x : Track). AgreesInSector (requests shape fresh passes history) places rest s x (track (g.disk store).start (g.disk store).log)) (sym (off-same s off)) (fa.stands s inside)
           | inr on ↦
               let in_p = in-block s on.0 on.1 in
               record {
@@ -277,7 +281,7 @@ module _ {shape : Shape} {fresh : List Bool} {places : ℕ → Option ℕ} {pass
       ]
 
       abbrev store-of : ℕ → Track
-      store-of a = track disk.start disk.log a
+      store-of a = track (g.disk store).start (g.disk store).log a
 
       store-free : (a : ℕ) (v : Sector) → sector_in t.first content a ≡ Some v → (store-of a).writes ≡ []
       store-free a v on = let range = in-place a v on in elim (fa.filling a (let low = (co.placed.inside p.block p.at placed).0 in let from = range.0 in omega arith)) [
@@ -285,9 +289,9 @@ module _ {shape : Shape} {fresh : List Bool} {places : ℕ → Option ℕ} {pass
         | inr w ↦ absurd (no-filler co i p there region reads a (track start history) (store-of a) placed range.0 range.1 w)
       ]
 
-      module _ {disk' : Disk} (adds : Adds (Seen (ticket_id t) t.first content) disk disk') where
+      module _ {store' : S} (adds : Adds (Seen (ticket_id t) t.first content) (g.disk store) (g.disk store')) where
         abbrev after-of : ℕ → Track
-        after-of a = track disk'.start disk'.log a
+        after-of a = track (g.disk store').start (g.disk store').log a
 
         store-off : (a : ℕ) → sector_in t.first content a ≡ None → after-of a ≡ store-of a
         store-off a off = disk-track a adds ∙ seen-off a (store-of a) (ticket_id t) t.first content off
@@ -295,14 +299,14 @@ module _ {shape : Shape} {fresh : List Bool} {places : ℕ → Option ℕ} {pass
         store-on : (a : ℕ) (v : Sector) → sector_in t.first content a ≡ Some v → (after-of a).contents ≡ v ∷ []
         store-on a v on = ap (λ (x : Track). x.contents) (disk-track a adds) ∙ seen-at a (store-of a) (ticket_id t) t.first content v on (store-free a v on)
 
-        off-stands : (s : ℕ) → s < length start → sector_in (p.first + p.done) content s ≡ None → AgreesInSector shape.block fresh places rest s (seen-of s) after-of
+        off-stands : (s : ℕ) → s < length start → sector_in (p.first + p.done) content s ≡ None → AgreesInSector (requests shape fresh passes history) places rest s (seen-of s) after-of
         off-stands s inside off = let old = fa.stands s inside in record {
           local = λ b x in_b is at v among. subst (λ (g : Track). Contains g.contents v) (sym (off-same s off))
               (old.local b x in_b is at v (subst (λ (d : Track). Contains d.contents v) (store-off (x + (s - shape.block * b)) (off-too s b x in_b at off)) among));
           other = λ b in_b not. subst (λ (g : Track). Contains g.contents (rest s)) (sym (off-same s off)) (old.other b in_b not);
         }
 
-        on-stands : (s : ℕ) (c : Sector) → sector_in (p.first + p.done) content s ≡ Some c → AgreesInSector shape.block fresh places rest s (seen-of s) after-of
+        on-stands : (s : ℕ) (c : Sector) → sector_in (p.first + p.done) content s ≡ Some c → AgreesInSector (requests shape fresh passes history) places rest s (seen-of s) after-of
         on-stands s c on = let in_p = in-block s c on in record {
           local = λ b x in_b is at v among.
               let e : b ≡ p.block = same-block shape.block b p.block s in_b in_p in
@@ -314,8 +318,8 @@ module _ {shape : Shape} {fresh : List Bool} {places : ℕ → Option ℕ} {pass
           other = λ b in_b not. absurd (let e = ap (slice_get fresh) (same-block shape.block b p.block s in_b in_p) in cc);
         }
 
-        pub seen-faithful : IsHeld t.first content disk'.held → IsFaithful start rest shape fresh places (slice_set passes i next) (history ++ event ∷ []) disk' last
-        seen-faithful held = not-issuing-faithful co i p there calm next next-not-issuing (history ++ event ∷ []) quiet fa disk' last (omega arith)
+        pub seen-faithful : g.last store' ≡ g.last store → IsHeld t.first content (g.disk store').held → IsFaithful g start rest (requests shape fresh (slice_set passes i next) (history ++ event ∷ [])) places store'
+        seen-faithful still held = not-issuing-faithful co i p there calm next next-not-issuing (history ++ event ∷ []) quiet fa store' (omega (arith, still))
             (shown-push start history event fa.shown (shown-is (λ s v on.
             let in_p = in-block s v on in let low = in_p.0 in
             let a = p.at + (s - shape.block * p.block) in

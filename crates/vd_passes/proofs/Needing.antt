@@ -2,10 +2,10 @@
 use Rattle.std.proofs.Common.{◌≡◌, ℕ, zero, suc, ◌+◌, ◌-◌, ◌*◌, ◌/◌, ◌%◌, ◌<◌, ◌≤◌, Bool, true, false, List, [], ◌∷◌, length, refl, sym, ◌∙◌, ap, subst, inl, inr, arith, Some}
 use Rattle.std.specs.Prelude.{nat_lt, if◌then◌else◌, slice_get, slice_set}
 use Rattle.std.specs.List.{sum_by}
-use Rattle.std.proofs.lemmas.List.Sums.{sum_by-cons}
 use Rattle.std.proofs.Math.Nat.{mul-suc, mul_comm, add-div_right}
 use Rattle.std.proofs.lemmas.Nat.{div-mul-add, mod-mul-add, le-div}
 use Rattle.std.proofs.lemmas.Bool.{cases_lt, lt-ltb, le-ltb}
+pub use Rattle.vd_lists.proofs.Counting.{sum_at_place as sum-part, sum_of_changed as sum-set}
 use Rattle.vd_law.specs.declared.entry.Sector.{Sector}
 use Rattle.vd_law.specs.Entries.{Asked, Read, Write, Flush}
 use Rattle.vd_law.specs.Logs.{asked_content}
@@ -16,7 +16,7 @@ use Rattle.vd_passes.specs.declared.pass.Pass.{Pass}
 use Rattle.vd_passes.specs.declared.pass.Phase.{Phase}
 use Rattle.vd_passes.specs.declared.pass.Phase.TheVariants.{Idle, Asked as HasAsked, Held, Fetching, Filled, Issuing, Looking, Flushing, Ready}
 use Rattle.vd_passes.specs.declared.pass.Fault.{Fault}
-use Rattle.vd_passes.proofs.Lists.{some-inj, at-set}
+use Rattle.vd_passes.proofs.Lists.{at-set}
 use Rattle.vd_passes.specs.Needs.{sectors_left, pieces_left, events_needed, sectors_needed, HasRoom}
 use Rattle.vd_passes.specs.Passes.{IsPiece, after_spending, after_ask, after_enter, after_fetch, after_filled, after_issue, after_look, after_base_look, after_piece, after_fault, after_reply}
 
@@ -261,19 +261,7 @@ module _ {shape : Shape} {p : Pass} (piece : IsPiece shape p) (room : HasRoom sh
       let f = once p.write (pieces_left shape.block p) read in let g = once p.write 1 read in let n = piece.no_more in
       (ended 1 p.piece (omega arith) (omega arith), record { events_used = omega arith; sectors_used = omega arith })
 
--- What the passes of a list have left together, where one of them changes.
-
-pub sum-part : (f : Pass → ℕ) (passes : List Pass) (i : ℕ) (p : Pass) → slice_get passes i ≡ Some p → f p ≤ sum_by f passes
-sum-part f [] i p there = cc
-sum-part f (q ∷ qs) zero p there = let e : f q ≡ f p = ap f (some-inj there) in let s = sum_by-cons f q qs in omega arith
-sum-part f (q ∷ qs) (suc i) p there = let h = sum-part f qs i p there in let s = sum_by-cons f q qs in omega arith
-
-pub sum-set : (f : Pass → ℕ) (passes : List Pass) (i : ℕ) (p p' : Pass) → slice_get passes i ≡ Some p → sum_by f (slice_set passes i p') + f p ≡ sum_by f passes + f p'
-sum-set f [] i p p' there = cc
-sum-set f (q ∷ qs) zero p p' there = let e : f q ≡ f p = ap f (some-inj there) in let s = sum_by-cons f q qs in let t = sum_by-cons f p' qs in omega arith
-sum-set f (q ∷ qs) (suc i) p p' there = let h = sum-set f qs i p p' there in let s = sum_by-cons f q qs in let t = sum_by-cons f q (slice_set qs i p') in omega arith
-
--- and what each of them has left suffices
+-- What each pass of a list has left suffices, where one of them changes.
 pub rooms-set : (block : ℕ) (passes : List Pass) (i : ℕ) (p p' : Pass) → slice_get passes i ≡ Some p → ((j : ℕ) (q : Pass) → slice_get passes j ≡ Some q → HasRoom block q) → HasRoom block p'
     → (j : ℕ) (q : Pass) → slice_get (slice_set passes i p') j ≡ Some q → HasRoom block q
 rooms-set block passes i p p' there each room j q at = elim (at-set passes i j p' p q there at) [

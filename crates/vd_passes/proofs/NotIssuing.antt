@@ -5,7 +5,6 @@ use Rattle.vd_law.specs.declared.entry.Sector.{Sector}
 use Rattle.vd_law.specs.Entries.{Entry, past}
 use Rattle.vd_law.specs.Rules.{Each, IsRegular, IsShown}
 use Rattle.vd_device.specs.declared.ticket.Ticket.{Ticket}
-use Rattle.vd_device.specs.Disks.{Disk}
 use Rattle.vd_passes.specs.declared.shape.Shape.{Shape}
 use Rattle.vd_passes.specs.declared.pass.Pass.{Pass}
 use Rattle.vd_passes.specs.declared.pass.Phase.TheVariants.{Filled, Issuing}
@@ -14,12 +13,16 @@ use Rattle.vd_passes.specs.Tracks.{Track, track, writes}
 use Rattle.vd_passes.specs.Standings.{standing}
 use Rattle.vd_passes.specs.Passes.{has_region, tickets_of, fetches_of, IsAsHistorySays}
 use Rattle.vd_passes.specs.Coherent.{IsCoherent, IsFaithful, AgreesInSector, ArePassesApart, IsUnwritten, IsWritten, IsFilled}
+use Rattle.vd_passes.proofs.Growing.{AreAlike, agrees-so}
 use Rattle.vd_passes.proofs.Lists.{some-inj, at-set, length-set'}
 use Rattle.vd_passes.proofs.Tracks.{track-writes}
 use Rattle.vd_passes.proofs.Regions.{unwritten-set, written-set, unfilled-set, filled-set, apart-set, each-step}
+use Rattle.vd_device.specs.declared.store.Store.{Ghosts as StoreGhosts}
+use Rattle.vd_device.specs.declared.base.Base.{Ghosts as BaseGhosts}
+use Rattle.vd_passes.specs.Requests.{requests}
 
-module _ {shape : Shape} {fresh : List Bool} {places : ℕ → Option ℕ} {passes : List Pass} {history : List Entry} {sectors depth base_sectors base_depth : ℕ} {flight base_flight : List Ticket → Type 0}
-    (co : IsCoherent shape fresh places passes history sectors depth base_sectors base_depth flight base_flight) (i : ℕ) (p : Pass) (there : slice_get passes i ≡ Some p)
+module _ {shape : Shape} {fresh : List Bool} {places : ℕ → Option ℕ} {passes : List Pass} {history : List Entry} {S B : Type 0} {g : StoreGhosts S} {h : BaseGhosts B} {store : S} {base : B}
+    (co : IsCoherent g h (requests shape fresh passes history) places store base) (i : ℕ) (p : Pass) (there : slice_get passes i ≡ Some p)
     (before : p.phase ≢ Issuing) (p' : Pass) (after : p'.phase ≢ Issuing) (history' : List Entry)
     (quiet : (s : ℕ) → writes history' s ≡ writes history s) where
   not-this : (q : Pass) (j : ℕ) → slice_get passes j ≡ Some q → q.phase ≡ Issuing → j ≡ i → ⊥
@@ -31,19 +34,19 @@ module _ {shape : Shape} {fresh : List Bool} {places : ℕ → Option ℕ} {pass
     | inr w ↦ inr (written-set passes i p p' there s (writes history s) (writes history' s) w (not-this w.pass w.by w.there w.writing.phase) (quiet s))
   ]
 
-  pub not-issuing-coherent : (flight' base_flight' : List Ticket → Type 0) → IsRegular (shape.block * shape.blocks) history' → ((j : ℕ) → j ≢ i → standing history' j ≡ standing history j)
+  pub not-issuing-coherent : (store' : S) (base' : B) → AreAlike g h store store' base base' → IsRegular (shape.block * shape.blocks) history' → ((j : ℕ) → j ≢ i → standing history' j ≡ standing history j)
       → IsAsHistorySays shape fresh places (standing history' i) p' → ((k : ℕ) (r : Pass) → slice_get passes k ≡ Some r → i ≢ k → ArePassesApart p' r)
-      → flight' (tickets_of (slice_set passes i p')) → base_flight' (fetches_of (slice_set passes i p'))
-      → IsCoherent shape fresh places (slice_set passes i p') history' sectors depth base_sectors base_depth flight' base_flight'
-  not-issuing-coherent flight' base_flight' regular others next apart flight base_flight = record {
-    shaped = co.shaped;
+      → g.flight store' (tickets_of (slice_set passes i p')) → h.flight base' (fetches_of (slice_set passes i p'))
+      → IsCoherent g h (requests shape fresh (slice_set passes i p') history') places store' base'
+  not-issuing-coherent store' base' alike regular others next apart flight base_flight = record {
+    shaped = rw (alike.sectors, alike.base_sectors) co.shaped;
     size = co.size;
-    placed = co.placed;
+    placed = rw alike.sectors co.placed;
     fresh_placed = co.fresh_placed;
     regular = regular;
     few = rw (length-set' passes i p') co.few;
-    deep = co.deep;
-    base_deep = co.base_deep;
+    deep = rw alike.depth co.deep;
+    base_deep = rw alike.base_depth co.base_deep;
     each = each-step shape fresh places passes history history' i p p' there others (λ j q at ne. co.each j q at) next;
     apart = apart-set passes i p p' there co.apart apart;
     flight = flight;
@@ -51,19 +54,19 @@ module _ {shape : Shape} {fresh : List Bool} {places : ℕ → Option ℕ} {pass
     guest = guest;
   }
 
-  module _ {start : List Sector} {rest : ℕ → Sector} {disk : Disk} {last : ℕ} (fa : IsFaithful start rest shape fresh places passes history disk last) where
+  module _ {start : List Sector} {rest : ℕ → Sector} (fa : IsFaithful g start rest (requests shape fresh passes history) places store) where
     -- a ticket that it has is a new one, or the one that it had
     abbrev pub HasNumber : ℕ → Ticket → Type 0
     HasNumber last' t = (t.number ≤ last') × ((j : ℕ) (q : Pass) (u : Ticket) → slice_get passes j ≡ Some q → j ≢ i → q.ticket ≡ Some u → u.number ≢ t.number)
 
-    pub not-issuing-faithful : (disk' : Disk) (last' : ℕ) → last ≤ last' → Each (IsShown start) (past history')
-        → ((t : Ticket) → p'.ticket ≡ Some t → HasNumber last' t)
-        → ((a : ℕ) → shape.storage_at ≤ a → (track disk'.start disk'.log a).writes ≡ (track disk.start disk.log a).writes)
-        → ((s : ℕ) → s < length start → AgreesInSector shape.block fresh places rest s (track start history' s) (track disk'.start disk'.log))
-        → ((a : ℕ) (w : IsFilled shape.block passes a (track start history) (track disk.start disk.log a)) → (v : Sector) → Contains (track start history w.sector).contents v → Contains (track start history' w.sector).contents v)
+    pub not-issuing-faithful : (store' : S) → g.last store ≤ g.last store' → Each (IsShown start) (past history')
+        → ((t : Ticket) → p'.ticket ≡ Some t → HasNumber (g.last store') t)
+        → ((a : ℕ) → shape.storage_at ≤ a → (track (g.disk store').start (g.disk store').log a).writes ≡ (track (g.disk store).start (g.disk store).log a).writes)
+        → ((s : ℕ) → s < length start → AgreesInSector (requests shape fresh passes history) places rest s (track start history' s) (track (g.disk store').start (g.disk store').log))
+        → ((a : ℕ) (w : IsFilled shape.block passes a (track start history) (track (g.disk store).start (g.disk store).log a)) → (v : Sector) → Contains (track start history w.sector).contents v → Contains (track start history' w.sector).contents v)
         → (p'.phase ≡ Filled → IsRest rest (shape.block * p'.block) p'.buffer)
-        → IsFaithful start rest shape fresh places (slice_set passes i p') history' disk' last'
-    not-issuing-faithful disk' last' later shown ticket same stands more buffer = record {
+        → IsFaithful g start rest (requests shape fresh (slice_set passes i p') history') places store'
+    not-issuing-faithful store' later shown ticket same stands more buffer = record {
       size = fa.size;
       shown = shown;
       numbers = λ j q u at is. elim (at-set passes i j p' p q there at) [
@@ -80,10 +83,10 @@ module _ {shape : Shape} {fresh : List Bool} {places : ℕ → Option ℕ} {pass
           | inr b ↦ fa.distinct j k q r u v a.1 b.1 ne has_u has_v
         ]
       ];
-      stands = stands;
+      stands = λ s inside. agrees-so (stands s inside);
       filling = λ a low. elim (fa.filling a low) [
-        | inl none ↦ inl (unfilled-set passes i p p' there a (track disk.start disk.log a) (track disk'.start disk'.log a) none (λ w. after w.phase) (same a low ∙ none.none))
-        | inr w ↦ inr (filled-set passes i p p' there shape.block a (track start history) (track start history') (track disk.start disk.log a) (track disk'.start disk'.log a) w
+        | inl none ↦ inl (unfilled-set passes i p p' there a (track (g.disk store).start (g.disk store).log a) (track (g.disk store').start (g.disk store').log a) none (λ w. after w.phase) (same a low ∙ none.none))
+        | inr w ↦ inr (filled-set passes i p p' there shape.block a (track start history) (track start history') (track (g.disk store).start (g.disk store).log a) (track (g.disk store').start (g.disk store').log a) w
             (not-this w.pass w.by w.there w.filling.phase) (same a low) (track-writes start history' w.sector ∙ quiet w.sector ∙ sym (track-writes start history w.sector)) (more a w))
       ];
       buffers = λ j q at is. elim (at-set passes i j p' p q there at) [
@@ -93,24 +96,24 @@ module _ {shape : Shape} {fresh : List Bool} {places : ℕ → Option ℕ} {pass
     }
 
 -- Such a step with no entry: the history stays.
-module _ {shape : Shape} {fresh : List Bool} {places : ℕ → Option ℕ} {passes : List Pass} {history : List Entry} {sectors depth base_sectors base_depth : ℕ} {flight base_flight : List Ticket → Type 0}
-    (co : IsCoherent shape fresh places passes history sectors depth base_sectors base_depth flight base_flight) (i : ℕ) (p : Pass) (there : slice_get passes i ≡ Some p)
+module _ {shape : Shape} {fresh : List Bool} {places : ℕ → Option ℕ} {passes : List Pass} {history : List Entry} {S B : Type 0} {g : StoreGhosts S} {h : BaseGhosts B} {store : S} {base : B}
+    (co : IsCoherent g h (requests shape fresh passes history) places store base) (i : ℕ) (p : Pass) (there : slice_get passes i ≡ Some p)
     (before : p.phase ≢ Issuing) (p' : Pass) (after : p'.phase ≢ Issuing) where
-  pub quiet-coherent : (flight' base_flight' : List Ticket → Type 0) → IsAsHistorySays shape fresh places (standing history i) p' → ((k : ℕ) (r : Pass) → slice_get passes k ≡ Some r → i ≢ k → ArePassesApart p' r)
-      → flight' (tickets_of (slice_set passes i p')) → base_flight' (fetches_of (slice_set passes i p'))
-      → IsCoherent shape fresh places (slice_set passes i p') history sectors depth base_sectors base_depth flight' base_flight'
-  quiet-coherent flight' base_flight' next apart flight base_flight =
-      not-issuing-coherent co i p there before p' after history (λ s. refl) flight' base_flight' co.regular (λ j ne. refl) next apart flight base_flight
+  pub quiet-coherent : (store' : S) (base' : B) → AreAlike g h store store' base base' → IsAsHistorySays shape fresh places (standing history i) p' → ((k : ℕ) (r : Pass) → slice_get passes k ≡ Some r → i ≢ k → ArePassesApart p' r)
+      → g.flight store' (tickets_of (slice_set passes i p')) → h.flight base' (fetches_of (slice_set passes i p'))
+      → IsCoherent g h (requests shape fresh (slice_set passes i p') history) places store' base'
+  quiet-coherent store' base' alike next apart flight base_flight =
+      not-issuing-coherent co i p there before p' after history (λ s. refl) store' base' alike co.regular (λ j ne. refl) next apart flight base_flight
 
-  module _ {start : List Sector} {rest : ℕ → Sector} {disk : Disk} {last : ℕ} (fa : IsFaithful start rest shape fresh places passes history disk last) where
+  module _ {start : List Sector} {rest : ℕ → Sector} (fa : IsFaithful g start rest (requests shape fresh passes history) places store) where
     -- each sector of the store from the storage on may hold what it might
-    pub quiet-faithful : (disk' : Disk) (last' : ℕ) → last ≤ last'
-        → ((t : Ticket) → p'.ticket ≡ Some t → (t.number ≤ last') × ((j : ℕ) (q : Pass) (u : Ticket) → slice_get passes j ≡ Some q → j ≢ i → q.ticket ≡ Some u → u.number ≢ t.number))
-        → ((a : ℕ) → shape.storage_at ≤ a → track disk'.start disk'.log a ≡ track disk.start disk.log a)
+    pub quiet-faithful : (store' : S) → g.last store ≤ g.last store'
+        → ((t : Ticket) → p'.ticket ≡ Some t → (t.number ≤ g.last store') × ((j : ℕ) (q : Pass) (u : Ticket) → slice_get passes j ≡ Some q → j ≢ i → q.ticket ≡ Some u → u.number ≢ t.number))
+        → ((a : ℕ) → shape.storage_at ≤ a → track (g.disk store').start (g.disk store').log a ≡ track (g.disk store).start (g.disk store).log a)
         → (p'.phase ≡ Filled → IsRest rest (shape.block * p'.block) p'.buffer)
-        → IsFaithful start rest shape fresh places (slice_set passes i p') history disk' last'
-    quiet-faithful disk' last' later ticket same buffer =
-        not-issuing-faithful co i p there before p' after history (λ s. refl) fa disk' last' later fa.shown ticket (λ a low. ap (λ (x : Track). x.writes) (same a low))
+        → IsFaithful g start rest (requests shape fresh (slice_set passes i p') history) places store'
+    quiet-faithful store' later ticket same buffer =
+        not-issuing-faithful co i p there before p' after history (λ s. refl) fa store' later fa.shown ticket (λ a low. ap (λ (x : Track). x.writes) (same a low))
         (λ s inside. let old = fa.stands s inside in record {
           local = λ b x in_b is at v among. old.local b x in_b is at v (subst (λ (d : Track). Contains d.contents v) (same (x + (s - shape.block * b)) (let low = (co.placed.inside b x at).0 in omega arith)) among);
           other = old.other;
@@ -118,8 +121,8 @@ module _ {shape : Shape} {fresh : List Bool} {places : ℕ → Option ℕ} {pass
         (λ a w v among. among) buffer
 
     -- and nothing happened at the store
-    pub still-faithful : ((t : Ticket) → p'.ticket ≡ Some t → p.ticket ≡ Some t) → (p'.phase ≡ Filled → IsRest rest (shape.block * p'.block) p'.buffer) → IsFaithful start rest shape fresh places (slice_set passes i p') history disk last
-    still-faithful kept buffer = quiet-faithful disk last (omega arith)
+    pub still-faithful : ((t : Ticket) → p'.ticket ≡ Some t → p.ticket ≡ Some t) → (p'.phase ≡ Filled → IsRest rest (shape.block * p'.block) p'.buffer) → IsFaithful g start rest (requests shape fresh (slice_set passes i p') history) places store
+    still-faithful kept buffer = quiet-faithful store (omega arith)
         (λ t is. (fa.numbers i p t there (kept t is), λ j q u at ne has. fa.distinct j i q p u t at there ne has (kept t is))) (λ a low. refl) buffer
 
 -- A pass that holds the region that it held keeps apart from the others as it did.

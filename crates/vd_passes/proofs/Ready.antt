@@ -16,6 +16,9 @@ use Rattle.vd_passes.specs.Coherent.{IsCoherent}
 use Rattle.vd_passes.specs.Steps.{IsAt, HasAskedWrite, CanWrite, CanRead}
 use Rattle.vd_passes.proofs.Lists.{some-inj, few-tickets, all-tickets}
 use Rattle.vd_passes.proofs.Regions.{region-of, issuing-write, issuing-place, both-read}
+use Rattle.vd_device.specs.declared.store.Store.{Ghosts as StoreGhosts}
+use Rattle.vd_device.specs.declared.base.Base.{Ghosts as BaseGhosts}
+use Rattle.vd_passes.specs.Requests.{requests}
 
 -- a read of a piece is no write
 look-reads : (q : Pass) (shape : Shape) (fresh : List Bool) (t u : Ticket) → IsStoreLook shape fresh q t ⊎ IsBaseLook shape fresh q t → q.ticket ≡ Some u → u.kind ≡ WriteKind → ⊥
@@ -72,8 +75,8 @@ module _ {shape : Shape} {fresh : List Bool} {places : ℕ → Option ℕ} {t : 
   pub holding-unready : p.phase ≢ Ready
   holding-unready = holding-not p Ready holding (λ e. absurd (cc)) (λ e. absurd (cc))
 
-module _ {shape : Shape} {fresh : List Bool} {places : ℕ → Option ℕ} {passes : List Pass} {history : List Entry} {sectors depth base_sectors base_depth : ℕ} {flight base_flight : List Ticket → Type 0}
-    (co : IsCoherent shape fresh places passes history sectors depth base_sectors base_depth flight base_flight) (i : ℕ) where
+module _ {shape : Shape} {fresh : List Bool} {places : ℕ → Option ℕ} {passes : List Pass} {history : List Entry} {S B : Type 0} {g : StoreGhosts S} {h : BaseGhosts B} {store : S} {base : B}
+    (co : IsCoherent g h (requests shape fresh passes history) places store base) (i : ℕ) where
   -- The content that was asked is as long as the request.
   pub request-is : (p : Pass) → slice_get passes i ≡ Some p → IsHolding p → (first : ℕ) (content : List Sector) → (standing history i).progress.asked ≡ Some (Write first content) → IsRequestOf p (Write first content)
   request-is p there holding first content asked = let b = (co.each i p there).busy (holding-busy (co.each i p there) holding) in subst (IsRequestOf p) (some-inj (sym b.1 ∙ asked)) b.2
@@ -110,26 +113,13 @@ module _ {shape : Shape} {fresh : List Bool} {places : ℕ → Option ℕ} {pass
           | inr low ↦ inl (let inside = (co.placed.inside p.block p.at placed).0 in let below = low.1 in omega arith)
         ]
 
-    free : (first count : ℕ) → p.at ≤ first → first + count ≤ p.at + shape.block → IsFree flight depth first count
+    free : (first count : ℕ) → p.at ≤ first → first + count ≤ p.at + shape.block → IsFree (g.flight store) (g.depth store) first count
     free first count from to = (tickets_of passes, co.flight, (let few = co.few in let deep = co.deep in omega (arith, few-tickets passes)), all-tickets _ passes (apart first count from to))
 
     within : p.first + p.count ≤ 2 ^ 26
     within = let range = (stands.range (holding-busy stands holding)).0 in let size = co.shaped.size in omega arith
 
-    pub ready-write : CanWrite shape sectors depth flight p
-    ready-write =
-        record {
-          piece = stands.piece region;
-          none = holding-none stands holding;
-          room = (co.placed.inside p.block p.at placed).1;
-          small = co.shaped.small;
-          bounded = co.shaped.bounded;
-          end = within;
-          buffer = stands.buffer;
-          free = free;
-        }
-
-    pub ready-read : CanRead shape sectors depth flight p
+    pub ready-read : CanRead g shape store p
     ready-read =
         record {
           piece = stands.piece region;
@@ -141,13 +131,16 @@ module _ {shape : Shape} {fresh : List Bool} {places : ℕ → Option ℕ} {pass
           free = free;
         }
 
-  pub can-read : IsAt passes i (λ p. (p.phase ≡ Held) × (slice_get fresh p.block ≡ Some true)) → IsAt passes i (CanRead shape sectors depth flight)
+    pub ready-write : CanWrite g shape store p
+    ready-write = record { read = ready-read; buffer = stands.buffer }
+
+  pub can-read : IsAt passes i (λ p. (p.phase ≡ Held) × (slice_get fresh p.block ≡ Some true)) → IsAt passes i (CanRead g shape store)
   can-read at = (at.0, at.1, ready-read at.0 at.1 (inl at.2.0) (inr at.2.1))
 
-  pub can-write : IsAt passes i (λ p. ((p.phase ≡ Held) ⊎ (p.phase ≡ Filled)) × (p.write ≡ true)) → IsAt passes i (CanWrite shape sectors depth flight)
+  pub can-write : IsAt passes i (λ p. ((p.phase ≡ Held) ⊎ (p.phase ≡ Filled)) × (p.write ≡ true)) → IsAt passes i (CanWrite g shape store)
   can-write at = (at.0, at.1, ready-write at.0 at.1 at.2.0 (inl at.2.1))
 
   -- and the content that was asked has the piece
   pub can-write-asked : (content : List Sector) → HasAskedWrite history i content → IsAt passes i (λ p. ((p.phase ≡ Held) ⊎ (p.phase ≡ Filled)) × (p.write ≡ true))
-      → IsAt passes i (λ p. CanWrite shape sectors depth flight p × (length content ≡ p.count))
+      → IsAt passes i (λ p. CanWrite g shape store p × (length content ≡ p.count))
   can-write-asked content asked at = (at.0, at.1, (ready-write at.0 at.1 at.2.0 (inl at.2.1), asked-long content asked at.0 at.1 at.2.0))

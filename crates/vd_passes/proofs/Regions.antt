@@ -18,6 +18,9 @@ use Rattle.vd_passes.specs.Coherent.{IsCoherent, ArePassesApart, IsUnwritten, Is
 use Rattle.vd_passes.proofs.Lists.{some-inj, get-set-same, get-set-other, at-set, length-set'}
 use Rattle.vd_passes.proofs.Places.{same-block, in-piece, same-place}
 use Rattle.vd_passes.proofs.Standing.{standing-other}
+use Rattle.vd_device.specs.declared.store.Store.{Ghosts as StoreGhosts}
+use Rattle.vd_device.specs.declared.base.Base.{Ghosts as BaseGhosts}
+use Rattle.vd_passes.specs.Requests.{requests}
 
 pub region-of : (phase as_known : Phase) → has_region as_known ≡ true → phase ≡ as_known → has_region phase ≡ true
 region-of phase as_known has is = ap has_region is ∙ has
@@ -73,8 +76,8 @@ module _ {shape : Shape} {fresh : List Bool} {places : ℕ → Option ℕ} {t : 
   filling-place {a} f = let range = filling-range f in sector-at shape.block p.block p.at a range.0 range.1
 
 -- What follows of one pass that holds the region of its block.
-module _ {shape : Shape} {fresh : List Bool} {places : ℕ → Option ℕ} {passes : List Pass} {history : List Entry} {sectors depth base_sectors base_depth : ℕ} {flight base_flight : List Ticket → Type 0}
-    (co : IsCoherent shape fresh places passes history sectors depth base_sectors base_depth flight base_flight) (i : ℕ) (p : Pass) (there : slice_get passes i ≡ Some p)
+module _ {shape : Shape} {fresh : List Bool} {places : ℕ → Option ℕ} {passes : List Pass} {history : List Entry} {S B : Type 0} {g : StoreGhosts S} {h : BaseGhosts B} {store : S} {base : B}
+    (co : IsCoherent g h (requests shape fresh passes history) places store base) (i : ℕ) (p : Pass) (there : slice_get passes i ≡ Some p)
     (holds : has_region p.phase ≡ true) where
   -- where another holds a region there too, both read
   pub both-read : (j : ℕ) (q : Pass) → slice_get passes j ≡ Some q → has_region q.phase ≡ true → q.block ≡ p.block → j ≢ i → (p.write ≡ false) × (q.write ≡ false)
@@ -101,8 +104,8 @@ module _ {shape : Shape} {fresh : List Bool} {places : ℕ → Option ℕ} {pass
   no-filler reads a guest store placed from to w = region-unwritten reads w.by w.pass w.there w.filling.phase (filler-block a guest store placed from to w)
 
 -- What follows of one that holds it to write.
-module _ {shape : Shape} {fresh : List Bool} {places : ℕ → Option ℕ} {passes : List Pass} {history : List Entry} {sectors depth base_sectors base_depth : ℕ} {flight base_flight : List Ticket → Type 0}
-    (co : IsCoherent shape fresh places passes history sectors depth base_sectors base_depth flight base_flight) (i : ℕ) (p : Pass) (there : slice_get passes i ≡ Some p)
+module _ {shape : Shape} {fresh : List Bool} {places : ℕ → Option ℕ} {passes : List Pass} {history : List Entry} {S B : Type 0} {g : StoreGhosts S} {h : BaseGhosts B} {store : S} {base : B}
+    (co : IsCoherent g h (requests shape fresh passes history) places store base) (i : ℕ) (p : Pass) (there : slice_get passes i ≡ Some p)
     (holds : has_region p.phase ≡ true) (write : p.write ≡ true) where
   -- no other pass holds a region of its block
   pub alone : (j : ℕ) (q : Pass) → slice_get passes j ≡ Some q → has_region q.phase ≡ true → q.block ≡ p.block → j ≡ i

@@ -13,8 +13,8 @@ use Rattle.vd_device.specs.declared.ticket.Kind.TheVariants.{Write as WriteKind}
 use Rattle.vd_device.specs.declared.settled.Settled.{Settled}
 use Rattle.vd_device.specs.declared.settled.Settled.TheVariants as settled
 use Rattle.vd_device.specs.Tickets.{ticket_id, Takes, KeepsFlight, IsInFlight}
-use Rattle.vd_device.specs.Disks.{Disk, Adds, GrowsBy}
-use Rattle.vd_device.specs.Calls.{done_entry, failed_entry}
+use Rattle.vd_device.specs.Disks.{Adds, GrowsBy}
+use Rattle.vd_device.specs.Calls.{done_entry, failed_entry, settle_entries}
 use Rattle.vd_passes.specs.declared.shape.Shape.{Shape}
 use Rattle.vd_passes.specs.declared.pass.Pass.{Pass}
 use Rattle.vd_passes.specs.declared.pass.Phase.TheVariants.{Idle, Asked as HasAsked, Issuing, Ready}
@@ -24,19 +24,24 @@ use Rattle.vd_passes.specs.Standings.{Standing, standing}
 use Rattle.vd_passes.specs.Passes.{has_region, call_id, tickets_of, IsPiece, IsAsHistorySays, HasOutcome, pending_of, after_piece, after_fault, after_spending}
 use Rattle.vd_passes.specs.Coherent.{IsCoherent, IsFaithful, IsUnfilled, IsFilled}
 use Rattle.vd_passes.specs.Steps.{IsAt, IsWaiting, WriteSettled}
+use Rattle.vd_passes.specs.Requests.{RequestState}
+use Rattle.vd_passes.proofs.Growing.{AreAlike, alike-store}
 use Rattle.vd_passes.proofs.Lists.{some-inj, tickets-taken}
 use Rattle.vd_passes.proofs.Standing.{last_of, IsServing, standing-own, regular-done, regular-broke}
 use Rattle.vd_passes.proofs.Tracks.{writes-more, disk-same, done-none, done-other, broke-contents}
 use Rattle.vd_passes.proofs.Regions.{region-of, write-ticket, alone, request-kept, stands-freshens}
 use Rattle.vd_passes.proofs.Closing.{Closes, done-closes, broke-closes, writer, is-write, other-call, close-coherent, close-faithful}
 use Rattle.vd_passes.proofs.Written.{next-freshens, done-stands, broke-stands}
+use Rattle.vd_device.specs.declared.store.Store.{Ghosts as StoreGhosts}
+use Rattle.vd_device.specs.declared.base.Base.{Ghosts as BaseGhosts}
+use Rattle.vd_passes.specs.Requests.{requests}
 
 abbrev id-of : ℕ → ℕ → CallId
 id-of i call = record { pass = i; call = call }
 
 -- The two ways in which a write ends.
-module _ {shape : Shape} {fresh : List Bool} {places : ℕ → Option ℕ} {passes : List Pass} {history : List Entry} {sectors depth base_sectors base_depth : ℕ} {flying base_flying : List Ticket → Type 0}
-    (co : IsCoherent shape fresh places passes history sectors depth base_sectors base_depth flying base_flying) (i : ℕ) (p : Pass) (there : slice_get passes i ≡ Some p)
+module _ {shape : Shape} {fresh : List Bool} {places : ℕ → Option ℕ} {passes : List Pass} {history : List Entry} {S B : Type 0} {g : StoreGhosts S} {h : BaseGhosts B} {store : S} {base : B}
+    (co : IsCoherent g h (requests shape fresh passes history) places store base) (i : ℕ) (p : Pass) (there : slice_get passes i ≡ Some p)
     (issuing : p.phase ≡ Issuing) where
   abbrev now : IsAsHistorySays shape fresh places (standing history i) p
   now = co.each i p there
@@ -161,11 +166,11 @@ module _ {shape : Shape} {fresh : List Bool} {places : ℕ → Option ℕ} {pass
   last-write s = record { contents = []; writes = writes history s }
 
   module _ (t : Ticket) (has : p.ticket ≡ Some t) where
-    pub done-coherent : (flying' : List Ticket → Type 0) → Takes t flying flying' → IsCoherent shape (slice_set fresh p.block true) places (slice_set passes i (after_spending 1 0 (after_piece p))) (history ++ Done (call_id i p) ∷ []) sectors depth base_sectors base_depth flying' base_flying
-    done-coherent flying' takes =
+    pub done-coherent : (store' : S) → AreAlike g h store store' base base → Takes t (g.flight store) (g.flight store') → IsCoherent g h (requests shape (slice_set fresh p.block true) (slice_set passes i (after_spending 1 0 (after_piece p))) (history ++ Done (call_id i p) ∷ [])) places store' base
+    done-coherent store' alike takes =
         let more = next-freshens co i p there issuing t has in
         let freed = no-region more-left in
-        close-coherent co i p there issuing t has (piece-next more-left) freed (Done (call_id i p)) (slice_set fresh p.block true) flying' refl
+        close-coherent co i p there issuing t has (piece-next more-left) freed (Done (call_id i p)) (slice_set fresh p.block true) store' alike refl
         (subst (λ id. IsRegular (shape.block * shape.blocks) (history ++ Done id ∷ [])) (sym last-is) (regular-done i _ co.regular serves some-open))
         (λ s. subst (λ ws. Closes (call_id i p) (writes history s) ws) (sym (writes-more history (Done (call_id i p)) s (last-write s) refl)) (done-closes s (last-write s) (call_id i p)))
         more.size more.others
@@ -173,9 +178,9 @@ module _ {shape : Shape} {fresh : List Bool} {places : ℕ → Option ℕ} {pass
         (stands-freshens more (λ held. absurd (cc)) (subst (λ h. IsAsHistorySays shape fresh places h (piece-next more-left)) (sym (standing-own history (Done (call_id i p)) i last-is tt)) (goes-on more-left refl)))
         refl refl takes
 
-    pub broke-coherent : (number : ℕ) (flying' : List Ticket → Type 0) → Takes t flying flying' → IsCoherent shape fresh places (slice_set passes i (after_spending 1 0 (after_fault (fault.Store number) p))) (history ++ Broke (call_id i p) ∷ []) sectors depth base_sectors base_depth flying' base_flying
-    broke-coherent number flying' takes =
-        close-coherent co i p there issuing t has (broken-next number) refl (Broke (call_id i p)) fresh flying' refl
+    pub broke-coherent : (number : ℕ) (store' : S) → AreAlike g h store store' base base → Takes t (g.flight store) (g.flight store') → IsCoherent g h (requests shape fresh (slice_set passes i (after_spending 1 0 (after_fault (fault.Store number) p))) (history ++ Broke (call_id i p) ∷ [])) places store' base
+    broke-coherent number store' alike takes =
+        close-coherent co i p there issuing t has (broken-next number) refl (Broke (call_id i p)) fresh store' alike refl
         (subst (λ id. IsRegular (shape.block * shape.blocks) (history ++ Broke id ∷ [])) (sym last-is) (regular-broke i _ co.regular serves some-open))
         (λ s. subst (λ ws. Closes (call_id i p) (writes history s) ws) (sym (writes-more history (Broke (call_id i p)) s (last-write s) refl)) (broke-closes s (last-write s) (call_id i p)))
         refl (λ b ne. refl)
@@ -183,9 +188,9 @@ module _ {shape : Shape} {fresh : List Bool} {places : ℕ → Option ℕ} {pass
         (subst (λ h. IsAsHistorySays shape fresh places h (broken-next number)) (sym (standing-own history (Broke (call_id i p)) i last-is tt)) (failed number))
         refl refl takes
 
-    module _ {start : List Sector} {rest : ℕ → Sector} {disk disk' : Disk} {last : ℕ} (fa : IsFaithful start rest shape fresh places passes history disk last) where
-      pub done-faithful : Adds (Done (ticket_id t)) disk disk' → IsFaithful start rest shape (slice_set fresh p.block true) places (slice_set passes i (after_spending 1 0 (after_piece p))) (history ++ Done (call_id i p) ∷ []) disk' last
-      done-faithful adds = close-faithful co i p there issuing t has fa (piece-next more-left) (no-region more-left) (Done (call_id i p)) (Done (ticket_id t)) (slice_set fresh p.block true) refl tt adds
+    module _ {start : List Sector} {rest : ℕ → Sector} {store' : S} (fa : IsFaithful g start rest (requests shape fresh passes history) places store) where
+      pub done-faithful : g.last store' ≡ g.last store → Adds (Done (ticket_id t)) (g.disk store) (g.disk store') → IsFaithful g start rest (requests shape (slice_set fresh p.block true) (slice_set passes i (after_spending 1 0 (after_piece p))) (history ++ Done (call_id i p) ∷ [])) places store'
+      done-faithful same adds = close-faithful co i p there issuing t has fa (piece-next more-left) (no-region more-left) same (Done (call_id i p)) (Done (ticket_id t)) (slice_set fresh p.block true) refl tt adds
           (λ s. done-closes s _ _) (λ a. done-closes a _ _)
           (done-stands co i p there issuing t has fa)
           (λ a w ne v among. elim w.source [
@@ -193,37 +198,38 @@ module _ {shape : Shape} {fresh : List Bool} {places : ℕ → Option ℕ} {pass
             | inr fill ↦ subst (λ cs. Contains cs v) (sym (done-none w.sector _ (call_id i p) fill.0).0) among
           ])
 
-      pub broke-faithful : (number : ℕ) → Adds (Broke (ticket_id t)) disk disk' → IsFaithful start rest shape fresh places (slice_set passes i (after_spending 1 0 (after_fault (fault.Store number) p))) (history ++ Broke (call_id i p) ∷ []) disk' last
-      broke-faithful number adds = close-faithful co i p there issuing t has fa (broken-next number) refl (Broke (call_id i p)) (Broke (ticket_id t)) fresh refl tt adds
+      pub broke-faithful : (number : ℕ) → g.last store' ≡ g.last store → Adds (Broke (ticket_id t)) (g.disk store) (g.disk store') → IsFaithful g start rest (requests shape fresh (slice_set passes i (after_spending 1 0 (after_fault (fault.Store number) p))) (history ++ Broke (call_id i p) ∷ [])) places store'
+      broke-faithful number same adds = close-faithful co i p there issuing t has fa (broken-next number) refl same (Broke (call_id i p)) (Broke (ticket_id t)) fresh refl tt adds
           (λ s. broke-closes s _ _) (λ a. broke-closes a _ _)
           (broke-stands co i p there issuing t has fa)
           (λ a w ne v among. subst (λ cs. Contains cs v) (sym (broke-contents w.sector _ (call_id i p))) among)
 
--- A write that is late leaves all as it was.
-pub late-coherent : {shape : Shape} {fresh : List Bool} {places : ℕ → Option ℕ} {passes : List Pass} {history : List Entry} {sectors depth base_sectors base_depth : ℕ} {flying flying' base_flying : List Ticket → Type 0}
-    → IsCoherent shape fresh places passes history sectors depth base_sectors base_depth flying base_flying → KeepsFlight flying flying' → IsCoherent shape fresh places passes history sectors depth base_sectors base_depth flying' base_flying
-late-coherent {shape} {fresh} {places} {passes} {history} {sectors} {depth} {base_sectors} {base_depth} {flying} {flying'} {base_flying} co keeps = record {
-  shaped = co.shaped;
+-- A call that is late leaves all as it was.
+pub late-coherent : {shape : Shape} {fresh : List Bool} {places : ℕ → Option ℕ} {passes : List Pass} {history : List Entry} {S B : Type 0} {g : StoreGhosts S} {h : BaseGhosts B} {store store' : S} {base base' : B}
+    → IsCoherent g h (requests shape fresh passes history) places store base → AreAlike g h store store' base base' → KeepsFlight (g.flight store) (g.flight store') → KeepsFlight (h.flight base) (h.flight base')
+    → IsCoherent g h (requests shape fresh passes history) places store' base'
+late-coherent co alike keeps base_keeps = record {
+  shaped = rw (alike.sectors, alike.base_sectors) co.shaped;
   size = co.size;
-  placed = co.placed;
+  placed = rw alike.sectors co.placed;
   fresh_placed = co.fresh_placed;
   regular = co.regular;
   few = co.few;
-  deep = co.deep;
-  base_deep = co.base_deep;
+  deep = rw alike.depth co.deep;
+  base_deep = rw alike.base_depth co.base_deep;
   each = co.each;
   apart = co.apart;
   flight = keeps _ co.flight;
-  base_flight = co.base_flight;
+  base_flight = base_keeps _ co.base_flight;
   guest = co.guest;
 }
 
-pub late-faithful : {start : List Sector} {rest : ℕ → Sector} {shape : Shape} {fresh : List Bool} {places : ℕ → Option ℕ} {passes : List Pass} {history : List Entry} {disk disk' : Disk} {last : ℕ}
-    → IsFaithful start rest shape fresh places passes history disk last → GrowsBy [] disk disk' → IsFaithful start rest shape fresh places passes history disk' last
-late-faithful {start} {rest} {shape} {fresh} {places} {passes} {history} {disk} {disk'} {last} fa grows = record {
+pub late-faithful : {start : List Sector} {rest : ℕ → Sector} {shape : Shape} {fresh : List Bool} {places : ℕ → Option ℕ} {passes : List Pass} {history : List Entry} {S : Type 0} {g : StoreGhosts S} {store store' : S}
+    → IsFaithful g start rest (requests shape fresh passes history) places store → g.last store' ≡ g.last store → GrowsBy [] (g.disk store) (g.disk store') → IsFaithful g start rest (requests shape fresh passes history) places store'
+late-faithful {start} {rest} {shape} {fresh} {places} {passes} {history} fa same grows = record {
   size = fa.size;
   shown = fa.shown;
-  numbers = fa.numbers;
+  numbers = λ i p t there has. rw same (fa.numbers i p t there has);
   distinct = fa.distinct;
   stands = λ s inside. record {
     local = λ b x in_b is at v among. (fa.stands s inside).local b x in_b is at v (subst (λ (d : Track). Contains d.contents v) (disk-same (x + (s - shape.block * b)) grows) among);
@@ -237,9 +243,9 @@ late-faithful {start} {rest} {shape} {fresh} {places} {passes} {history} {disk} 
 pub in-flight : (passes : List Pass) {flying : List Ticket → Type 0} → flying (tickets_of passes) → (i : ℕ) (p : Pass) (t : Ticket) → slice_get passes i ≡ Some p → p.ticket ≡ Some t → IsInFlight flying t
 in-flight passes {flying} flight i p t there has = (tickets_of (slice_set passes i (record p { ticket = None })), tickets_of passes, tickets-taken passes i p (record p { ticket = None }) t there has refl, flight)
 
-pub waiting-write : {shape : Shape} {fresh : List Bool} {places : ℕ → Option ℕ} {passes : List Pass} {history : List Entry} {sectors depth base_sectors base_depth : ℕ} {flying base_flying : List Ticket → Type 0}
-    → IsCoherent shape fresh places passes history sectors depth base_sectors base_depth flying base_flying → (i : ℕ) → IsAt passes i (λ p. p.phase ≡ Issuing) → IsAt passes i (IsWaiting WriteKind shape flying)
-waiting-write {shape} {fresh} {places} {passes} {history} {sectors} {depth} {base_sectors} {base_depth} {flying} {base_flying} co i at =
+pub waiting-write : {shape : Shape} {fresh : List Bool} {places : ℕ → Option ℕ} {passes : List Pass} {history : List Entry} {S B : Type 0} {g : StoreGhosts S} {h : BaseGhosts B} {store : S} {base : B}
+    → IsCoherent g h (requests shape fresh passes history) places store base → (i : ℕ) → IsAt passes i (λ p. p.phase ≡ Issuing) → IsAt passes i (IsWaiting g WriteKind shape store)
+waiting-write {passes = passes} co i at =
     let stands = co.each i at.0 at.1 in
     let has = write-ticket stands at.2 in (
       at.0,
@@ -255,31 +261,29 @@ waiting-write {shape} {fresh} {places} {passes} {history} {sectors} {depth} {bas
       },
     )
 
-module _ {shape : Shape} {fresh fresh' : List Bool} {places : ℕ → Option ℕ} {passes passes' : List Pass} {history history' : List Entry} {sectors depth base_sectors base_depth i last last' : ℕ} {flying flying' base_flying : List Ticket → Type 0}
-    {tells tells' : Type 0} {disk disk' : Disk} (co : IsCoherent shape fresh places passes history sectors depth base_sectors base_depth flying base_flying) (at : IsAt passes i (λ p. p.phase ≡ Issuing)) where
-  issues : {answer : Settled} → (step : WriteSettled answer i fresh fresh' passes passes' history history' flying flying' tells tells' disk disk' last last') → step.pass.phase ≡ Issuing
+module _ {shape : Shape} {fresh : List Bool} {places : ℕ → Option ℕ} {passes : List Pass} {history : List Entry} {i : ℕ} {S B : Type 0} {g : StoreGhosts S} {h : BaseGhosts B} {store store' : S} {base : B} {r' : RequestState}
+    (co : IsCoherent g h (requests shape fresh passes history) places store base) (at : IsAt passes i (λ p. p.phase ≡ Issuing)) where
+  issues : {answer : Settled} → (step : WriteSettled g answer i (requests shape fresh passes history) r' store store') → step.pass.phase ≡ Issuing
   issues {answer} step = ap (λ (x : Pass). x.phase) (some-inj (sym step.there ∙ at.1)) ∙ at.2
 
-  settled-coherent : (answer : Settled) → WriteSettled answer i fresh fresh' passes passes' history history' flying flying' tells tells' disk disk' last last' → IsCoherent shape fresh' places passes' history' sectors depth base_sectors base_depth flying' base_flying
-  settled-coherent settled.Done step = let e = step.effect in rw (e.0, e.1, e.2) (done-coherent co i step.pass step.there (issues step) step.ticket step.has flying' step.settles.2)
-  settled-coherent (settled.NotYet same) step = let e = step.effect in rw (e.0, e.1, e.2) (late-coherent co step.settles.2.2)
-  settled-coherent (settled.Failed number) step = let e = step.effect in rw (e.0, e.1, e.2) (broke-coherent co i step.pass step.there (issues step) step.ticket step.has step.ticket.number flying' step.settles.2.2)
+  settled-coherent : (answer : Settled) → WriteSettled g answer i (requests shape fresh passes history) r' store store' → IsCoherent g h r' places store' base
+  settled-coherent settled.Done step = rw step.after (done-coherent co i step.pass step.there (issues step) step.ticket step.has store' (alike-store step.call.counts) step.call.settles)
+  settled-coherent (settled.NotYet same) step = rw step.after (late-coherent co (alike-store step.call.counts) step.call.settles.2 (λ ts f. f))
+  settled-coherent (settled.Failed number) step =
+      rw step.after (broke-coherent co i step.pass step.there (issues step) step.ticket step.has step.ticket.number store' (alike-store step.call.counts) step.call.settles.2)
 
-  settled-faithful : {start : List Sector} {rest : ℕ → Sector} (answer : Settled) → WriteSettled answer i fresh fresh' passes passes' history history' flying flying' tells tells' disk disk' last last'
-      → (tells → IsFaithful start rest shape fresh places passes history disk last) → tells' → IsFaithful start rest shape fresh' places passes' history' disk' last'
-  settled-faithful {start} {rest} settled.Done step fa told =
-      let e = step.effect in let kind = is-write co i step.pass step.there (issues step) step.ticket step.has in
-      rw (e.0, e.1, e.2, step.number) (done-faithful co i step.pass step.there (issues step) step.ticket step.has (fa (step.told_before told))
-      (subst (λ k. Adds (done_entry k step.ticket []) disk disk') kind (step.told told).grows))
-  settled-faithful {start} {rest} (settled.NotYet same) step fa told = let e = step.effect in rw (e.0, e.1, e.2, step.number) (late-faithful (fa (step.told_before told)) (step.told told).grows)
-  settled-faithful {start} {rest} (settled.Failed number) step fa told =
-      let e = step.effect in let kind = is-write co i step.pass step.there (issues step) step.ticket step.has in
-      rw (e.0, e.1, e.2, step.number) (broke-faithful co i step.pass step.there (issues step) step.ticket step.has (fa (step.told_before told)) step.ticket.number
-      (subst (λ k. Adds (failed_entry k step.ticket) disk disk') kind (step.told told).grows))
+  module _ {start : List Sector} {rest : ℕ → Sector} where
+    settled-faithful : (answer : Settled) (step : WriteSettled g answer i (requests shape fresh passes history) r' store store') → IsFaithful g start rest (requests shape fresh passes history) places store
+        → GrowsBy (settle_entries answer step.ticket []) (g.disk store) (g.disk store') → IsFaithful g start rest r' places store'
+    settled-faithful settled.Done step fa grows = rw step.after (done-faithful co i step.pass step.there (issues step) step.ticket step.has fa step.call.last
+        (subst (λ k. Adds (done_entry k step.ticket []) (g.disk store) (g.disk store')) (is-write co i step.pass step.there (issues step) step.ticket step.has) grows))
+    settled-faithful (settled.NotYet same) step fa grows = rw step.after (late-faithful fa step.call.last grows)
+    settled-faithful (settled.Failed number) step fa grows = rw step.after (broke-faithful co i step.pass step.there (issues step) step.ticket step.has fa step.ticket.number step.call.last
+        (subst (λ k. Adds (failed_entry k step.ticket) (g.disk store) (g.disk store')) (is-write co i step.pass step.there (issues step) step.ticket step.has) grows))
 
-  pub write_settled-coherent : {answer : Settled} → WriteSettled answer i fresh fresh' passes passes' history history' flying flying' tells tells' disk disk' last last' → IsCoherent shape fresh' places passes' history' sectors depth base_sectors base_depth flying' base_flying
+    pub write_settled-faithful : {answer : Settled} → WriteSettled g answer i (requests shape fresh passes history) r' store store' → (g.tells store → IsFaithful g start rest (requests shape fresh passes history) places store)
+        → g.tells store' → IsFaithful g start rest r' places store'
+    write_settled-faithful {answer} step fa told = settled-faithful answer step (fa (step.call.takes.keeps.told_before told)) (step.call.takes.told told)
+
+  pub write_settled-coherent : {answer : Settled} → WriteSettled g answer i (requests shape fresh passes history) r' store store' → IsCoherent g h r' places store' base
   write_settled-coherent {answer} step = settled-coherent answer step
-
-  pub write_settled-faithful : {start : List Sector} {rest : ℕ → Sector} {answer : Settled} → WriteSettled answer i fresh fresh' passes passes' history history' flying flying' tells tells' disk disk' last last'
-      → (tells → IsFaithful start rest shape fresh places passes history disk last) → tells' → IsFaithful start rest shape fresh' places passes' history' disk' last'
-  write_settled-faithful {start} {rest} {answer} step fa told = settled-faithful answer step fa told

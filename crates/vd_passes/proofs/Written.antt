@@ -7,7 +7,6 @@ use Rattle.vd_law.specs.declared.entry.Sector.{Sector}
 use Rattle.vd_law.specs.Entries.{Entry, Done, Broke}
 use Rattle.vd_device.specs.declared.ticket.Ticket.{Ticket}
 use Rattle.vd_device.specs.Tickets.{ticket_id}
-use Rattle.vd_device.specs.Disks.{Disk}
 use Rattle.vd_passes.specs.declared.shape.Shape.{Shape}
 use Rattle.vd_passes.specs.declared.pass.Pass.{Pass}
 use Rattle.vd_passes.specs.declared.pass.Phase.TheVariants.{Issuing}
@@ -20,14 +19,17 @@ use Rattle.vd_passes.proofs.Places.{same-block, same-place}
 use Rattle.vd_passes.proofs.Tracks.{track-writes, done-none, done-own, done-other, broke-contents, only-one, is-one}
 use Rattle.vd_passes.proofs.Regions.{filling-range, writing-block, only-filler, Freshens, freshens-set}
 use Rattle.vd_passes.proofs.Closing.{stands, region, piece, writer, placed, stored, is-this, other-call, fills, fills-too, other-ticket, own-write}
+use Rattle.vd_device.specs.declared.store.Store.{Ghosts as StoreGhosts}
+use Rattle.vd_device.specs.declared.base.Base.{Ghosts as BaseGhosts}
+use Rattle.vd_passes.specs.Requests.{requests}
 
 -- the place of a sector in the place of its block
 in-place : (block b x s : ℕ) → IsIn block b s → (x ≤ x + (s - block * b)) × (x + (s - block * b) < x + block)
 in-place block b x s in_b = let f = in_b.0 in let g = in_b.1 in (omega arith, omega arith)
 
 -- A write is done: what this pass wrote is all that may stand there, and its block is fresh.
-module _ {shape : Shape} {fresh : List Bool} {places : ℕ → Option ℕ} {passes : List Pass} {history : List Entry} {sectors depth base_sectors base_depth : ℕ} {flight base_flight : List Ticket → Type 0}
-    (co : IsCoherent shape fresh places passes history sectors depth base_sectors base_depth flight base_flight) (i : ℕ) (p : Pass) (there : slice_get passes i ≡ Some p)
+module _ {shape : Shape} {fresh : List Bool} {places : ℕ → Option ℕ} {passes : List Pass} {history : List Entry} {S B : Type 0} {g : StoreGhosts S} {h : BaseGhosts B} {store : S} {base : B}
+    (co : IsCoherent g h (requests shape fresh passes history) places store base) (i : ℕ) (p : Pass) (there : slice_get passes i ≡ Some p)
     (issuing : p.phase ≡ Issuing) (t : Ticket) (has : p.ticket ≡ Some t) where
   abbrev fresh-next : List Bool
   fresh-next = slice_set fresh p.block true
@@ -60,12 +62,12 @@ module _ {shape : Shape} {fresh : List Bool} {places : ℕ → Option ℕ} {pass
     | inr whole ↦ absurd (not (let e = whole.0 in let c = whole.1 in fills co i p there issuing t has a (omega arith) (omega arith)))
   ]
 
-  module _ {start : List Sector} {rest : ℕ → Sector} {disk : Disk} {last : ℕ} (fa : IsFaithful start rest shape fresh places passes history disk last) where
+  module _ {start : List Sector} {rest : ℕ → Sector} (fa : IsFaithful g start rest (requests shape fresh passes history) places store) where
     abbrev guest-of : ℕ → Track
     guest-of s = track start history s
 
     abbrev store-of : ℕ → Track
-    store-of a = track disk.start disk.log a
+    store-of a = track (g.disk store).start (g.disk store).log a
 
     abbrev done-guest : ℕ → Track
     done-guest s = follow s (guest-of s) (Done (call_id i p))
@@ -139,7 +141,7 @@ module _ {shape : Shape} {fresh : List Bool} {places : ℕ → Option ℕ} {pass
         let not : IsFilling p a → ⊥ = λ f. let own = filling-range (stands co i p there issuing t has) f in ne (same-place co.placed b p.block x p.at a at (placed co i p there issuing t has) range.0 range.1 own.0 own.1) in
         subst (λ cs. Contains cs v) (sym (other-guest s b in_b ne)) ((fa.stands s inside).local b x in_b is at v (subst (λ cs. Contains cs v) (store-same a low not) among))
 
-    pub done-stands : (s : ℕ) → s < length start → AgreesInSector shape.block fresh-next places rest s (follow s (track start history s) (Done (call_id i p))) (λ a. follow a (track disk.start disk.log a) (Done (ticket_id t)))
+    pub done-stands : (s : ℕ) → s < length start → AgreesInSector (requests shape fresh-next passes history) places rest s (follow s (track start history s) (Done (call_id i p))) (λ a. follow a (track (g.disk store).start (g.disk store).log a) (Done (ticket_id t)))
     done-stands s inside = record {
       local = λ b x in_b is at v among. elim (cases_eq b p.block) [
         | inl e ↦
@@ -151,7 +153,7 @@ module _ {shape : Shape} {fresh : List Bool} {places : ℕ → Option ℕ} {pass
     }
 
     -- a failed write: what may stand there is as before
-    pub broke-stands : (s : ℕ) → s < length start → AgreesInSector shape.block fresh places rest s (follow s (track start history s) (Broke (call_id i p))) (λ a. follow a (track disk.start disk.log a) (Broke (ticket_id t)))
+    pub broke-stands : (s : ℕ) → s < length start → AgreesInSector (requests shape fresh passes history) places rest s (follow s (track start history s) (Broke (call_id i p))) (λ a. follow a (track (g.disk store).start (g.disk store).log a) (Broke (ticket_id t)))
     broke-stands s inside = let old = fa.stands s inside in record {
       local = λ b x in_b is at v among. subst (λ cs. Contains cs v) (sym (broke-contents s (guest-of s) (call_id i p)))
           (old.local b x in_b is at v (subst (λ cs. Contains cs v) (broke-contents (x + (s - shape.block * b)) (store-of (x + (s - shape.block * b))) (ticket_id t)) among));

@@ -5,6 +5,7 @@ pub mod Standings
 pub mod Places
 pub mod Needs
 pub mod Passes
+pub mod Requests
 pub mod Coherent
 pub mod Steps
 pub mod Causes

@@ -15,7 +15,7 @@ use Rattle.vd_keeper.specs.Keeping.{KeeperState}
 use Rattle.vd_keeper.specs.Moves.{difference_of, after_adopt}
 use Rattle.vd_keeper.proofs.Rows.{get_or-either, get_or-without}
 use Rattle.vd_passes.specs.declared.pass.Pass.{Pass}
-use Rattle.vd_safety.specs.Mirrors.{bit_of, IsStageOf, Mirrors, HasSafeMirror}
+use Rattle.vd_safety.specs.Mirrors.{core_state, bit_of, IsStageOf, Mirrors, HasSafeMirror}
 use Rattle.vd_safety.proofs.Stepping.{keeps-at}
 
 owed-local : (o : Opening) (s : State) → KeepsCrashSafety o s → (b : ℕ) → s.memory.owed b ≡ true → s.memory.fresh b ≡ true
@@ -23,7 +23,7 @@ unfolding KeepsCrashSafety
 owed-local o s keeps = keeps.core.holds.blocks.owed_local
 
 module _ {o : Opening} {table : TableState} {fresh : List Bool} {k : KeeperState} {flusher : Option ℕ} {passes : List Pass} {history : HistoryState} {log : List Entry} where
-  pub adopt-secured : flusher ≡ None → HasSafeMirror o table fresh k flusher passes history log → HasSafeMirror o table fresh (after_adopt fresh k) flusher passes history log
+  pub adopt-secured : flusher ≡ None → HasSafeMirror o (core_state table fresh k flusher passes history) log → HasSafeMirror o (core_state table fresh (after_adopt fresh k) flusher passes history) log
   adopt-secured idle was =
       let s : State = was.state in
       let mirrors = was.mirrors in
@@ -38,7 +38,7 @@ module _ {o : Opening} {table : TableState} {fresh : List Bool} {k : KeeperState
       ] in
       let after = primitive_keeps o (state s.log s.history s.memory s.marked s.flights Resting) (state s.log s.history (with_blocks s.memory s.memory.fresh s.memory.born owed s.memory.pending) s.marked s.flights Resting)
       (Adopts s.log s.history s.memory s.marked s.flights owed more local) (keeps-at o s Resting resting was.keeps) in
-      let mine : Mirrors o table fresh k' flusher passes history log (state s.log s.history (with_blocks s.memory s.memory.fresh s.memory.born owed s.memory.pending) s.marked s.flights Resting) = record {
+      let mine : Mirrors o (core_state table fresh k' flusher passes history) log (state s.log s.history (with_blocks s.memory s.memory.fresh s.memory.born owed s.memory.pending) s.marked s.flights Resting) = record {
         log_is = mirrors.log_is;
         history_is = mirrors.history_is;
         many = mirrors.many;

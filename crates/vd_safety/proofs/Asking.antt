@@ -20,8 +20,9 @@ use Rattle.vd_passes.specs.declared.shape.Shape.{Shape}
 use Rattle.vd_passes.specs.declared.pass.Pass.{Pass}
 use Rattle.vd_passes.specs.declared.pass.Phase.TheVariants.{Idle, Issuing, Flushing}
 use Rattle.vd_passes.specs.Passes.{call_id, after_ask}
+use Rattle.vd_passes.specs.Requests.{RequestState, requests}
 use Rattle.vd_passes.specs.Steps.{IsAt, Asks, AsksFull}
-use Rattle.vd_safety.specs.Mirrors.{storage_given, storage_of, IsFlightOf, Mirrors, HasSafeMirror}
+use Rattle.vd_safety.specs.Mirrors.{core_state, storage_given, storage_of, IsFlightOf, Mirrors, HasSafeMirror}
 use Rattle.vd_safety.proofs.Updates.{updated-same}
 use Rattle.vd_safety.proofs.Surroundings.{Surroundings}
 use Rattle.vd_safety.proofs.Flying.{is_bare, flight-bare}
@@ -50,11 +51,11 @@ asked-flight (Write first content) p events sectors i = refl
 asked-flight Flush p events sectors i = refl
 
 module _ {h : Header} {o : Opening} {shape : Shape} {table : TableState} {fresh : List Bool} {k : KeeperState} {flusher : Option ℕ} {passes : List Pass} {history : HistoryState} {base : List Sector} {last : ℕ} {log : List Entry}
-    (around : Surroundings h o shape table fresh k flusher passes history.log.entries base last) (secured : HasSafeMirror o table fresh k flusher passes history log) where
+    (around : Surroundings h o shape (core_state table fresh k flusher passes history) base last) (secured : HasSafeMirror o (core_state table fresh k flusher passes history) log) where
   abbrev s : State
   s = secured.state
 
-  mirrors : Mirrors o table fresh k flusher passes history log s
+  mirrors : Mirrors o (core_state table fresh k flusher passes history) log s
   mirrors = secured.mirrors
 
   grows : (table' : TableState) → TakesStorage table table' → Grows s.memory.index.table (storage_of table')
@@ -79,25 +80,27 @@ module _ {h : Header} {o : Opening} {shape : Shape} {table : TableState} {fresh 
   not-flushing p idle is = absurd (cc)
 
   -- A request is asked.
-  pub ask-secured : {request : Request} {events sectors i : ℕ} {passes' : List Pass} {table' : TableState} (history' : HistoryState) → IsAt passes i (λ p. p.phase ≡ Idle) → TakesStorage table table'
-      → Asks request events sectors i passes passes' history.log.entries history'.log.entries → history'.numbers ≡ history.numbers ++ length log ∷ [] → HasSafeMirror o table' fresh k flusher passes' history' log
-  ask-secured {request} {events} {sectors} {i} {passes'} {table'} history' at takes step numbers =
+  pub ask-secured : {request : Request} {events sectors i : ℕ} {shape' : Shape} {fresh' : List Bool} {passes' : List Pass} {table' : TableState} (history' : HistoryState) → IsAt passes i (λ p. p.phase ≡ Idle) → TakesStorage table table'
+      → Asks request events sectors i (requests shape fresh passes history.log.entries) (requests shape' fresh' passes' history'.log.entries) → history'.numbers ≡ history.numbers ++ length log ∷ []
+      → HasSafeMirror o (core_state table' fresh' k flusher passes' history') log
+  ask-secured {request} {events} {sectors} {i} {table' = table'} history' at takes step numbers =
       let p = step.pass in
       let p' = after_ask p request events sectors in
       let idle : p.phase ≡ Idle = at-this passes i (λ p. p.phase ≡ Idle) p step.there at in
       let e = Ask (call_id i p') request in
       let was = bare-before around secured i p p' step.there (not-issuing p idle) (not-flushing p idle) (ap is_bare idle) in
-      subst (λ (ps : List Pass). HasSafeMirror o table' fresh k flusher ps history' log) (sym step.after)
+      subst (λ (r : RequestState). HasSafeMirror o (core_state table' r.fresh k flusher r.passes history') log) (sym step.after)
       (moved around secured i p p' step.there (not-issuing p idle) (not-flushing p idle) table' history' log s.log (s.history ++ entry_now s.log e ∷ []) (storage_of table') s.flights NoFlight mirrors.log_is
-      (history-more history history' s.history s.log log e (was-history o table fresh k flusher passes history log s mirrors) mirrors.log_is step.event numbers) (λ c. refl) (updated-same s.flights i NoFlight was) (asked-flight request p events sectors i)
+      (history-more history history' s.history s.log log e (was-history o table fresh k flusher passes history log s mirrors) mirrors.log_is (ap (λ (r : RequestState). r.entries) step.after) numbers) (λ c. refl) (updated-same s.flights i NoFlight was) (asked-flight request p events sectors i)
       (notes o (state s.log s.history (with_table s.memory (storage_of table')) s.marked s.flights s.stage) e tt (λ id a n asked is. absurd (cc))
       (primitive_keeps o s (state s.log s.history (with_table s.memory (storage_of table')) s.marked s.flights s.stage)
       (Takes s.log s.history s.memory s.marked s.flights s.stage (storage_of table') (grows table' takes) (is-table table' takes)) secured.keeps)))
 
   -- A request is asked, and answered Full.
-  pub ask_full-secured : {request : Request} {needed free i : ℕ} {passes' : List Pass} (history' : HistoryState) → IsAt passes i (λ p. p.phase ≡ Idle)
-      → AsksFull request needed free i passes passes' history.log.entries history'.log.entries → history'.numbers ≡ history.numbers ++ length log ∷ length log ∷ [] → HasSafeMirror o table fresh k flusher passes' history' log
-  ask_full-secured {request} {needed} {free} {i} {passes'} history' at step numbers =
+  pub ask_full-secured : {request : Request} {needed free i : ℕ} {shape' : Shape} {fresh' : List Bool} {passes' : List Pass} (history' : HistoryState) → IsAt passes i (λ p. p.phase ≡ Idle)
+      → AsksFull request needed free i (requests shape fresh passes history.log.entries) (requests shape' fresh' passes' history'.log.entries) → history'.numbers ≡ history.numbers ++ length log ∷ length log ∷ []
+      → HasSafeMirror o (core_state table fresh' k flusher passes' history') log
+  ask_full-secured {request} {needed} {free} {i} history' at step numbers =
       let p = step.pass in
       let p' : Pass = record p { call = p.call + 1 } in
       let idle : p.phase ≡ Idle = at-this passes i (λ p. p.phase ≡ Idle) p step.there at in
@@ -107,8 +110,8 @@ module _ {h : Header} {o : Opening} {shape : Shape} {table : TableState} {fresh 
       let middle : HistoryState = record { log = record { entries = history.log.entries ++ d ∷ []; left = history.log.left; room = history.log.room }; numbers = history.numbers ++ length log ∷ []; opened = history.opened } in
       let asked = history-more history middle s.history s.log log d (was-history o table fresh k flusher passes history log s mirrors) mirrors.log_is refl refl in
       let replied = history-more middle history' (s.history ++ entry_now s.log d ∷ []) s.log log e asked mirrors.log_is
-      (step.event ∙ sym (append_assoc history.log.entries (d ∷ []) (e ∷ []))) (numbers ∙ sym (append_assoc history.numbers (length log ∷ []) (length log ∷ []))) in
-      subst (λ (ps : List Pass). HasSafeMirror o table fresh k flusher ps history' log) (sym step.after)
+      (ap (λ (r : RequestState). r.entries) step.after ∙ sym (append_assoc history.log.entries (d ∷ []) (e ∷ []))) (numbers ∙ sym (append_assoc history.numbers (length log ∷ []) (length log ∷ []))) in
+      subst (λ (r : RequestState). HasSafeMirror o (core_state table r.fresh k flusher r.passes history') log) (sym step.after)
       (moved-bare around secured i p p' step.there (not-issuing p idle) (not-flushing p idle) (bare-before around secured i p p' step.there (not-issuing p idle) (not-flushing p idle) (ap is_bare idle))
       (flight-bare p'.phase p'.fault i p' NoFlight (ap is_bare idle) refl) history' log s.log ((s.history ++ entry_now s.log d ∷ []) ++ entry_now s.log e ∷ []) mirrors.log_is replied
       (notes o (state s.log (s.history ++ entry_now s.log d ∷ []) s.memory s.marked s.flights s.stage) e tt (λ c a n stands is. absurd (cc)) (notes o s d tt (λ c a n stands is. absurd (cc)) secured.keeps)))

@@ -18,7 +18,7 @@ use Rattle.vd_passes.specs.declared.shape.Shape.{Shape}
 use Rattle.vd_passes.specs.declared.pass.Pass.{Pass}
 use Rattle.vd_passes.specs.Laying.{IsRest}
 use Rattle.vd_passes.specs.Places.{IsIn}
-use Rattle.vd_safety.specs.Mirrors.{bit_of, Mirrors}
+use Rattle.vd_safety.specs.Mirrors.{core_state, bit_of, Mirrors}
 use Rattle.vd_safety.proofs.Places.{of-block, in-disk}
 use Rattle.vd_safety.proofs.Surroundings.{Surroundings, block-same}
 use Rattle.vd_format.specs.Background.{background, background_of, zero_sector}
@@ -31,7 +31,7 @@ sector-at first n content v h = elim (leb_tells first (first + n)) [
 ]
 
 module _ {h : Header} {o : Opening} {shape : Shape} {table : TableState} {fresh : List Bool} {k : KeeperState} {flusher : Option ℕ} {passes : List Pass} {history : HistoryState} {log : List Entry} {base : List Sector} {last : ℕ} {s : State}
-    (around : Surroundings h o shape table fresh k flusher passes history.log.entries base last) (is : Mirrors o table fresh k flusher passes history log s) where
+    (around : Surroundings h o shape (core_state table fresh k flusher passes history) base last) (is : Mirrors o (core_state table fresh k flusher passes history) log s) where
   same-background : (t : ℕ) → background_of base shape.tracked t ≡ background o.base o.zeros s.memory.index.tracked t
   same-background t =
       ap (λ (n : ℕ). background_of base n t) (around.attended.tracked ∙ sym is.tracked)

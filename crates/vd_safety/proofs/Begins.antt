@@ -37,13 +37,14 @@ use Rattle.vd_passes.specs.declared.pass.Pass.{Pass}
 use Rattle.vd_passes.specs.declared.pass.Phase.TheVariants.{Asked}
 use Rattle.vd_passes.specs.declared.pass.Fault.TheVariants.{Worn}
 use Rattle.vd_passes.specs.Passes.{call_id, after_meta, after_flush}
+use Rattle.vd_passes.specs.Requests.{RequestState, requests, with_pass}
 use Rattle.vd_passes.specs.Steps.{meta_entry}
-use Rattle.vd_safety.specs.Mirrors.{bit_of, IsStageOf, IsBegunOf, IsOfHeader, HasSafeMirror}
+use Rattle.vd_safety.specs.Mirrors.{core_state, bit_of, IsStageOf, IsBegunOf, IsOfHeader, HasSafeMirror}
 use Rattle.vd_safety.proofs.Records.{by-header}
 use Rattle.vd_safety.proofs.Marked.{chunk-among, chunk-inside, page-among, still-marked}
 use Rattle.vd_safety.proofs.Updates.{updated-same}
 use Rattle.vd_safety.proofs.Flying.{is_bare, flights-set, idle-flight}
-use Rattle.vd_safety.proofs.Stepping.{IsFlushing, keeps-at, stage-by, moved, flights-after, secured-as}
+use Rattle.vd_safety.proofs.Stepping.{IsFlushing, keeps-at, stage-by, moved, flights-after, secured-on}
 use Rattle.vd_machine.specs.Flushing.{meta_state, BeginsFlush, IsWornOut}
 
 -- ---- the way of a flush
@@ -140,10 +141,10 @@ or-is x y true e more = absurd cc
 
 -- ---- it begins
 
-module _ {h : Header} {o : Opening} {shape : Shape} {table : TableState} {fresh : List Bool} {k k' : KeeperState} {flusher : Option ℕ} {passes passes' : List Pass} {history : HistoryState} {i : ℕ} {S : Type 0} {g : store.Ghosts S} {from to : S} {asked : route.Route} where
-  pub begin-secured : IsFlushing h o shape table fresh k flusher passes (g.last from) → BeginsFlush g asked shape i (meta_state k passes) (meta_state k' passes') from to → flusher ≡ None
+module _ {h : Header} {o : Opening} {shape : Shape} {table : TableState} {fresh : List Bool} {k k' : KeeperState} {flusher : Option ℕ} {passes : List Pass} {history : HistoryState} {r' : RequestState} {i : ℕ} {S : Type 0} {g : store.Ghosts S} {from to : S} {asked : route.Route} where
+  pub begin-secured : IsFlushing h o shape (core_state table fresh k flusher passes history) (g.last from) → BeginsFlush g asked i (meta_state k (requests shape fresh passes history.log.entries)) (meta_state k' r') from to → flusher ≡ None
       → ((t : ℕ) → asked ≡ routes.Recycle t → t ≡ k.header.tracked) → ((p : Pass) → slice_get passes i ≡ Some p → p.phase ≡ Asked → p.flush ≡ true → (a : ℕ) × At history.log.entries a (Ask (call_id i p) Flush)) → g.tells to
-      → HasSafeMirror o table fresh k flusher passes history (g.disk from).log → HasSafeMirror o table fresh k' (Some i) passes' history (g.disk to).log
+      → HasSafeMirror o (core_state table fresh k flusher passes history) (g.disk from).log → HasSafeMirror o (core_state table r'.fresh k' (Some i) r'.passes history) (g.disk to).log
   begin-secured around step idle same ask told was =
       let s : State = was.state in
       let mirrors = was.mirrors in
@@ -185,13 +186,13 @@ module _ {h : Header} {o : Opening} {shape : Shape} {table : TableState} {fresh 
         },
         refl,
       )) in
-      let tale = (step.sends.told told).0 in
-      secured-as o table fresh k' new (Some i) passes' (slice_set passes i p') history (g.disk to).log ((g.disk from).log ++ Ask (ticket_id t) Flush ∷ []) step.after step.sends.after
-      (tale.log ∙ ap (λ (kind : Kind). (g.disk from).log ++ meta_entry kind t [] ∷ []) step.kind) (record { state = _; keeps = after; mirrors = mine })
+      secured-on k' new r' (with_pass i p' (requests shape fresh passes history.log.entries)) (g.disk to).log ((g.disk from).log ++ Ask (ticket_id t) Flush ∷ []) step.after step.sends.after
+      ((step.sends.call.takes.told told).log ∙ ap (λ (kind : Kind). (g.disk from).log ++ meta_entry kind t [] ∷ []) step.kind) (record { state = _; keeps = after; mirrors = mine })
 
 -- or not, at the last generation
-module _ {o : Opening} {table : TableState} {fresh : List Bool} {k : KeeperState} {flusher : Option ℕ} {passes passes' : List Pass} {history : HistoryState} {log : List Entry} {i : ℕ} {asked : route.Route} where
-  pub worn-secured : IsWornOut asked i k passes passes' → flusher ≡ None → HasSafeMirror o table fresh k flusher passes history log → HasSafeMirror o table fresh k flusher passes' history log
+module _ {o : Opening} {shape : Shape} {table : TableState} {fresh : List Bool} {k : KeeperState} {flusher : Option ℕ} {passes : List Pass} {history : HistoryState} {r' : RequestState} {log : List Entry} {i : ℕ} {asked : route.Route} where
+  pub worn-secured : IsWornOut asked i k (requests shape fresh passes history.log.entries) r' → flusher ≡ None → HasSafeMirror o (core_state table fresh k flusher passes history) log
+      → HasSafeMirror o (core_state table r'.fresh k flusher r'.passes history) log
   worn-secured step idle was =
       let s : State = was.state in
       let mirrors = was.mirrors in
@@ -205,4 +206,4 @@ module _ {o : Opening} {table : TableState} {fresh : List Bool} {k : KeeperState
       let stage : IsStageOf flusher o k (slice_set passes i p') s.stage = subst (λ (f : Option ℕ). IsStageOf f o k (slice_set passes i p') s.stage) (sym idle) resting in
       let mine = moved o table fresh k flusher passes history log s mirrors i p p' there k flusher log s.log s.memory.index.sure s.memory.index.cursor s.marked s.stage bare
       mirrors.log_is (record { header = refl; stale = refl; owed = refl }) mirrors.sure mirrors.cursor mirrors.same_tracked mirrors.marked flights stage in
-      secured-as o table fresh k k flusher passes' (slice_set passes i p') history log log refl step.ends.after refl (record { state = s; keeps = was.keeps; mirrors = mine })
+      secured-on k k r' (with_pass i p' (requests shape fresh passes history.log.entries)) log log refl step.ends.after refl (record { state = s; keeps = was.keeps; mirrors = mine })

@@ -32,7 +32,7 @@ use Rattle.vd_keeper.proofs.Begun.{after-put-in-stage}
 use Rattle.vd_passes.specs.declared.pass.Pass.{Pass}
 use Rattle.vd_passes.specs.declared.pass.Phase.TheVariants.{Flushing}
 use Rattle.vd_passes.specs.Passes.{call_id}
-use Rattle.vd_safety.specs.Mirrors.{bit_of, IsOfHeader, IsBegunOf, IsProgressOf, Nowhere, InRecordOf, InPageOf, IsStageBy, IsStageOf, Mirrors, HasSafeMirror}
+use Rattle.vd_safety.specs.Mirrors.{core_state, bit_of, IsOfHeader, IsBegunOf, IsProgressOf, Nowhere, InRecordOf, InPageOf, IsStageBy, IsStageOf, Mirrors, HasSafeMirror}
 use Rattle.vd_safety.proofs.Putting.{same-chunks, puts-data, puts-seals}
 use Rattle.vd_safety.proofs.Stepping.{keeps-at, stage-at, stage-by}
 use Rattle.vd_safety.proofs.Settling.{neither-stage, put-all, puts-again, head-syncs, syncs-data, syncs-seals, syncs-puts, begun-after, ended}
@@ -64,7 +64,7 @@ records-is (ways.Recycle t) e = absurd cc
 
 -- A core where a put of its flush has succeeded.
 module _ (h : Header) (o : Opening) (table : TableState) (fresh : List Bool) (k : KeeperState) (passes : List Pass) (history : HistoryState) (log : List Entry) (s : State) (i : ℕ) (p : Pass) (t : Ticket)
-    (of : IsOfHeader h o k) (was : KeepsCrashSafety o s) (mirrors : Mirrors o table fresh k (Some i) passes history log s)
+    (of : IsOfHeader h o k) (was : KeepsCrashSafety o s) (mirrors : Mirrors o (core_state table fresh k (Some i) passes history) log s)
     (there : slice_get passes i ≡ Some p) (flushes : p.phase ≡ Flushing) (has : p.ticket ≡ Some t) (puts : k.stage ≡ Puts) where
   abbrev p' : Pass
   p' = record p { ticket = None }
@@ -167,7 +167,7 @@ module _ (h : Header) (o : Opening) (table : TableState) (fresh : List Bool) (k 
       | inr e ↦ stage-by Syncs false None i p p' o k' passes stage there e plain refl (begun now.0) (now.1.0, now.1.1, now.1.2, after, so_far, refl)
     ]
 
-    put-done : HasSafeMirror o table fresh k' (Some i) (slice_set passes i p') history (log ++ entry ∷ [])
+    put-done : HasSafeMirror o (core_state table fresh k' (Some i) (slice_set passes i p') history) (log ++ entry ∷ [])
     put-done =
         let putting : core.Stage = Putting (call_id i p) now.1.0 now.1.1 now.1.2 pr sector now.1.5 v (ticket_id t) in
         let done = primitive_keeps o (state s.log s.history s.memory s.marked s.flights putting) (state (s.log ++ entry ∷ []) s.history s.memory s.marked s.flights stage)
@@ -176,7 +176,7 @@ module _ (h : Header) (o : Opening) (table : TableState) (fresh : List Bool) (k 
 
   -- ---- the header
 
-  head-done : k.head ≡ true → HasSafeMirror o table fresh k' (Some i) (slice_set passes i p') history (log ++ entry ∷ [])
+  head-done : k.head ≡ true → HasSafeMirror o (core_state table fresh k' (Some i) (slice_set passes i p') history) (log ++ entry ∷ [])
   head-done head =
       let now = stage-at Puts true (Some t) i p o k (Some i) passes s.stage refl there puts head has mirrors.stage in
       let w = now.1 in
@@ -198,5 +198,5 @@ module _ (h : Header) (o : Opening) (table : TableState) (fresh : List Bool) (k 
       ended o table fresh k passes history log s i p mirrors there flushes k' entry s.marked stage done (record { header = refl; stale = refl; owed = refl }) refl refl refl mirrors.marked
       (stage-by Syncs true None i p p' o k' passes stage there syncs head refl (begun now.0) (w.0, w.1, w.2, length s.log + 1, w.3, w.5, so_far, refl))
 
-  pub any-done : HasSafeMirror o table fresh k' (Some i) (slice_set passes i (record p { ticket = None })) history (log ++ entries.Done (ticket_id t) ∷ [])
+  pub any-done : HasSafeMirror o (core_state table fresh k' (Some i) (slice_set passes i (record p { ticket = None })) history) (log ++ entries.Done (ticket_id t) ∷ [])
   any-done = elim (cases_Bool k.head) [ inl head ↦ head-done head | inr plain ↦ put-done plain ]

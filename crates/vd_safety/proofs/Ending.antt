@@ -6,6 +6,7 @@ use Rattle.vd_law.specs.declared.entry.Sector.{Sector}
 use Rattle.vd_law.specs.declared.entry.CallId.{CallId}
 use Rattle.vd_law.specs.Entries.{Entry, Done, Broke}
 use Rattle.vd_law.specs.Histories.{HistoryState}
+use Rattle.vd_device.specs.declared.store.Store as store
 use Rattle.vd_device.specs.declared.ticket.Ticket.{Ticket}
 use Rattle.vd_device.specs.declared.ticket.Kind.{Kind}
 use Rattle.vd_device.specs.declared.ticket.Kind.TheVariants.{Write as WriteKind}
@@ -13,7 +14,6 @@ use Rattle.vd_device.specs.declared.settled.Settled.{Settled}
 use Rattle.vd_device.specs.declared.settled.Settled.TheVariants as settled
 use Rattle.vd_device.specs.Calls.{done_entry, failed_entry}
 use Rattle.vd_device.specs.Tickets.{ticket_id}
-use Rattle.vd_device.specs.Disks.{Disk}
 use Rattle.vd_format.specs.declared.header.Header.{Header}
 use Rattle.vd_table.specs.Tables.{TableState}
 use Rattle.vd_crash.specs.facts.Safe.{Opening, NumberedEntry}
@@ -35,8 +35,9 @@ use Rattle.vd_passes.specs.declared.pass.Fault.TheVariants as fault
 use Rattle.vd_passes.specs.Standings.{standing}
 use Rattle.vd_passes.specs.Places.{place_of}
 use Rattle.vd_passes.specs.Passes.{has_region, call_id, IsAsHistorySays, HasInFlight, after_piece, after_fault, after_spending}
+use Rattle.vd_passes.specs.Requests.{RequestState, requests}
 use Rattle.vd_passes.specs.Steps.{IsAt, WriteSettled}
-use Rattle.vd_safety.specs.Mirrors.{bit_of, IsFlightOf, IsPendingOf, IsStageOf, Mirrors, HasSafeMirror}
+use Rattle.vd_safety.specs.Mirrors.{core_state, bit_of, IsFlightOf, IsPendingOf, IsStageOf, Mirrors, HasSafeMirror}
 use Rattle.vd_safety.proofs.Updates.{some-inj, append-nil, bit-set-same, bit-set-other, updated, is-updated, updated-same}
 use Rattle.vd_safety.proofs.Surroundings.{Surroundings, owed-size, not-flusher}
 use Rattle.vd_safety.proofs.Flying.{flight-ready, flight-of, flights-set, pending-other, pending-none, pending-put}
@@ -69,13 +70,13 @@ piece-flight false fault i q none = flight-ready fault i q none
 -- A core that has the same parts is the same.
 pub same-secured : {o : Opening} {table : TableState} {fresh fresh' : List Bool} {k k' : KeeperState} {flusher : Option ℕ} {passes passes' : List Pass} {history history' : HistoryState} {log log' : List Entry}
     → fresh' ≡ fresh → k' ≡ k → passes' ≡ passes → history'.log.entries ≡ history.log.entries → history'.numbers ≡ history.numbers → log' ≡ log
-    → HasSafeMirror o table fresh k flusher passes history log → HasSafeMirror o table fresh' k' flusher passes' history' log'
+    → HasSafeMirror o (core_state table fresh k flusher passes history) log → HasSafeMirror o (core_state table fresh' k' flusher passes' history') log'
 same-secured {o} {table} {fresh} {fresh'} {k} {k'} {flusher} {passes} {passes'} {history} {history'} {log} {log'} same_fresh same_k same_passes entries numbers same_log secured =
     let s = secured.state in
     let is = secured.mirrors in
-    subst (λ (ps : List Pass). HasSafeMirror o table fresh' k' flusher ps history' log') (sym same_passes)
-    (subst (λ (x : KeeperState). HasSafeMirror o table fresh' x flusher passes history' log') (sym same_k)
-    (subst (λ (bits : List Bool). HasSafeMirror o table bits k flusher passes history' log') (sym same_fresh)
+    subst (λ (ps : List Pass). HasSafeMirror o (core_state table fresh' k' flusher ps history') log') (sym same_passes)
+    (subst (λ (x : KeeperState). HasSafeMirror o (core_state table fresh' x flusher passes history') log') (sym same_k)
+    (subst (λ (bits : List Bool). HasSafeMirror o (core_state table bits k flusher passes history') log') (sym same_fresh)
     (record {
       state = s;
       keeps = secured.keeps;
@@ -85,12 +86,12 @@ same-secured {o} {table} {fresh} {fresh'} {k} {k'} {flusher} {passes} {passes'} 
 
 -- The pass that has the write in flight.
 module _ {h : Header} {o : Opening} {shape : Shape} {table : TableState} {fresh : List Bool} {k : KeeperState} {flusher : Option ℕ} {passes : List Pass} {history : HistoryState} {base : List Sector} {last : ℕ} {log : List Entry}
-    (around : Surroundings h o shape table fresh k flusher passes history.log.entries base last) (secured : HasSafeMirror o table fresh k flusher passes history log)
+    (around : Surroundings h o shape (core_state table fresh k flusher passes history) base last) (secured : HasSafeMirror o (core_state table fresh k flusher passes history) log)
     (i : ℕ) (p : Pass) (t : Ticket) (there : slice_get passes i ≡ Some p) (issuing : p.phase ≡ Issuing) (has : p.ticket ≡ Some t) where
   abbrev s : State
   s = secured.state
 
-  mirrors : Mirrors o table fresh k flusher passes history log s
+  mirrors : Mirrors o (core_state table fresh k flusher passes history) log s
   mirrors = secured.mirrors
 
   stands : IsAsHistorySays shape fresh (place_of shape table.chunks) (standing history.log.entries i) p
@@ -148,7 +149,7 @@ module _ {h : Header} {o : Opening} {shape : Shape} {table : TableState} {fresh 
 
     pub after-end : (f : ℕ → Bool) (born : ℕ → ℕ) (w : ℕ → Bool) (pending : ℕ → Option ℕ) → ((c : ℕ) → f c ≡ bit_of fresh' c) → ((c : ℕ) → w c ≡ bit_of owed' c) → IsUpdated s.memory.pending pending p.block None
         → KeepsCrashSafety o (state store' events' (with_blocks s.memory f born w pending) s.marked flights' s.stage)
-        → HasSafeMirror o table fresh' (record k { owed = owed' }) flusher (slice_set passes i p') history' log'
+        → HasSafeMirror o (core_state table fresh' (record k { owed = owed' }) flusher (slice_set passes i p') history') log'
     after-end f born w pending f_is w_is put keeps = record {
       state = state store' events' (with_blocks s.memory f born w pending) s.marked flights' s.stage;
       keeps = keeps;
@@ -186,7 +187,7 @@ module _ {h : Header} {o : Opening} {shape : Shape} {table : TableState} {fresh 
     logged : (s.memory.index.stale p.block ≡ true) ⊎ (bit_of owed' p.block ≡ true)
     logged = elim (owed-own (bit_of k.stale p.block) k.owed p.block in-owed) [ inl old ↦ inl (mirrors.stale p.block ∙ old) | inr own ↦ inr own ]
 
-    local : bit_of fresh p.block ≡ true → HasSafeMirror o table fresh' (record k { owed = owed' }) flusher (slice_set passes i pass') history' log'
+    local : bit_of fresh p.block ≡ true → HasSafeMirror o (core_state table fresh' (record k { owed = owed' }) flusher (slice_set passes i pass') history') log'
     local is_fresh = after-end history' pass' idle-after fresh' owed' (Done (ticket_id t)) (Done (call_id i p)) log' entries numbers grows fresh-others
         s.memory.fresh s.memory.born (bit_of owed') s.memory.pending fresh-same (λ c. refl) (updated-same s.memory.pending p.block None none)
         (primitive_keeps o s (state (s.log ++ Done (ticket_id t) ∷ []) (s.history ++ entry_now (s.log ++ Done (ticket_id t) ∷ []) (Done (call_id i p)) ∷ []) (with_blocks s.memory s.memory.fresh s.memory.born (bit_of owed') s.memory.pending) s.marked flights' s.stage)
@@ -207,7 +208,7 @@ module _ {h : Header} {o : Opening} {shape : Shape} {table : TableState} {fresh 
     abbrev born' : ℕ → ℕ
     born' = updated s.memory.born p.block (length (s.log ++ Done (ticket_id t) ∷ []))
 
-    whole : bit_of fresh p.block ≡ false → HasSafeMirror o table fresh' (record k { owed = owed' }) flusher (slice_set passes i pass') history' log'
+    whole : bit_of fresh p.block ≡ false → HasSafeMirror o (core_state table fresh' (record k { owed = owed' }) flusher (slice_set passes i pass') history') log'
     whole not_fresh = after-end history' pass' idle-after fresh' owed' (Done (ticket_id t)) (Done (call_id i p)) log' entries numbers grows fresh-others
         (bit_of fresh') born' (bit_of owed') pending' (λ c. refl) (λ c. refl) (is-updated s.memory.pending p.block None)
         (primitive_keeps o s (state (s.log ++ Done (ticket_id t) ∷ []) (s.history ++ entry_now (s.log ++ Done (ticket_id t) ∷ []) (Done (call_id i p)) ∷ []) (with_blocks s.memory (bit_of fresh') born' (bit_of owed') pending') s.marked flights' s.stage)
@@ -220,16 +221,16 @@ module _ {h : Header} {o : Opening} {shape : Shape} {table : TableState} {fresh 
           | inr is ↦ is
         ]
 
-    ends : (v : Bool) → bit_of fresh p.block ≡ v → HasSafeMirror o table fresh' (record k { owed = owed' }) flusher (slice_set passes i pass') history' log'
+    ends : (v : Bool) → bit_of fresh p.block ≡ v → HasSafeMirror o (core_state table fresh' (record k { owed = owed' }) flusher (slice_set passes i pass') history') log'
     ends true is = local is
     ends false is = whole is
 
-    pub ends-done : HasSafeMirror o table fresh' (after_owe p.block k) flusher (slice_set passes i pass') history' log'
-    ends-done = subst (λ (x : KeeperState). HasSafeMirror o table fresh' x flusher (slice_set passes i pass') history' log') (sym (owing-is p.block k)) (ends (bit_of fresh p.block) refl)
+    pub ends-done : HasSafeMirror o (core_state table fresh' (after_owe p.block k) flusher (slice_set passes i pass') history') log'
+    ends-done = subst (λ (x : KeeperState). HasSafeMirror o (core_state table fresh' x flusher (slice_set passes i pass') history') log') (sym (owing-is p.block k)) (ends (bit_of fresh p.block) refl)
 
   -- It has failed.
   pub ends-failed : (history' : HistoryState) (log' : List Entry) → history'.log.entries ≡ history.log.entries ++ Broke (call_id i p) ∷ [] → history'.numbers ≡ history.numbers ++ length log' ∷ []
-      → log' ≡ log ++ Broke (ticket_id t) ∷ [] → HasSafeMirror o table fresh k flusher (slice_set passes i (after_spending 1 0 (after_fault (fault.Store t.number) p))) history' log'
+      → log' ≡ log ++ Broke (ticket_id t) ∷ [] → HasSafeMirror o (core_state table fresh k flusher (slice_set passes i (after_spending 1 0 (after_fault (fault.Store t.number) p))) history') log'
   ends-failed history' log' entries numbers grows =
       let pending' = updated s.memory.pending p.block None in
       after-end history' (after_spending 1 0 (after_fault (fault.Store t.number) p)) refl fresh k.owed (Broke (ticket_id t)) (Broke (call_id i p)) log' entries numbers grows (λ c ne. refl)
@@ -245,23 +246,26 @@ failed-write : (kind : Kind) (t : Ticket) → kind ≡ WriteKind → failed_entr
 failed-write kind t is = ap (λ (x : Kind). failed_entry x t) is
 
 -- A settled write keeps a core secured.
-pub settle_issue-secured : (answer : Settled) {h : Header} {o : Opening} {shape : Shape} {table : TableState} {fresh fresh' : List Bool} {k k' : KeeperState} {flusher : Option ℕ} {passes passes' : List Pass} {history : HistoryState} {base : List Sector}
-    {i last last' : ℕ} {flight flight' : List Ticket → Type 0} {tells tells' : Type 0} {disk disk' : Disk} (history' : HistoryState)
-    → Surroundings h o shape table fresh k flusher passes history.log.entries base last → IsAt passes i (λ p. p.phase ≡ Issuing)
-    → WriteSettled answer i fresh fresh' passes passes' history.log.entries history'.log.entries flight flight' tells tells' disk disk' last last'
-    → IsAt passes i (λ p. IsOwedAfter answer p.block k k') → IsNumberedAfter answer (length disk'.log) history.numbers history'.numbers → tells'
-    → HasSafeMirror o table fresh k flusher passes history disk.log → HasSafeMirror o table fresh' k' flusher passes' history' disk'.log
-settle_issue-secured settled.Done {h} {o} {shape} {table} {fresh} {fresh'} {k} {k'} {flusher} {passes} {passes'} {history} {base} {i} {last} {last'} {flight} {flight'} {tells} {tells'} {disk} {disk'} history' around at step owed numbers telling secured =
-    let p = step.pass in
-    let issuing : p.phase ≡ Issuing = at-this passes i (λ p. p.phase ≡ Issuing) p step.there at in
-    let kind = write-kind around secured i p step.ticket step.there issuing step.has in
-    same-secured step.effect.0 (at-this passes i (λ p. k' ≡ after_owe p.block k) p step.there owed) step.effect.1 refl refl refl
-    (ends-done around secured i p step.ticket step.there issuing step.has history' disk'.log step.effect.2 numbers ((step.told telling).grows.log ∙ ap (λ (e : Entry). disk.log ++ e ∷ []) (done-write step.ticket.kind step.ticket kind)))
-settle_issue-secured (settled.NotYet same) {h} {o} {shape} {table} {fresh} {fresh'} {k} {k'} {flusher} {passes} {passes'} {history} {base} {i} {last} {last'} {flight} {flight'} {tells} {tells'} {disk} {disk'} history' around at step owed numbers telling secured =
-    same-secured step.effect.0 (at-this passes i (λ p. k' ≡ k) step.pass step.there owed) step.effect.1 step.effect.2 (numbers ∙ append-nil history.numbers) ((step.told telling).grows.log ∙ append-nil disk.log) secured
-settle_issue-secured (settled.Failed number) {h} {o} {shape} {table} {fresh} {fresh'} {k} {k'} {flusher} {passes} {passes'} {history} {base} {i} {last} {last'} {flight} {flight'} {tells} {tells'} {disk} {disk'} history' around at step owed numbers telling secured =
-    let p = step.pass in
-    let issuing : p.phase ≡ Issuing = at-this passes i (λ p. p.phase ≡ Issuing) p step.there at in
-    let kind = write-kind around secured i p step.ticket step.there issuing step.has in
-    same-secured step.effect.0 (at-this passes i (λ p. k' ≡ k) p step.there owed) step.effect.1 refl refl refl
-    (ends-failed around secured i p step.ticket step.there issuing step.has history' disk'.log step.effect.2 numbers ((step.told telling).grows.log ∙ ap (λ (e : Entry). disk.log ++ e ∷ []) (failed-write step.ticket.kind step.ticket kind)))
+module _ {h : Header} {o : Opening} {shape shape' : Shape} {table : TableState} {fresh fresh' : List Bool} {k k' : KeeperState} {flusher : Option ℕ} {passes passes' : List Pass} {history : HistoryState} {base : List Sector}
+    {i last : ℕ} {S : Type 0} {g : store.Ghosts S} {before now : S} where
+  pub settle_issue-secured : (answer : Settled) (history' : HistoryState) → Surroundings h o shape (core_state table fresh k flusher passes history) base last → IsAt passes i (λ p. p.phase ≡ Issuing)
+      → WriteSettled g answer i (requests shape fresh passes history.log.entries) (requests shape' fresh' passes' history'.log.entries) before now
+      → IsAt passes i (λ p. IsOwedAfter answer p.block k k') → IsNumberedAfter answer (length (g.disk now).log) history.numbers history'.numbers → g.tells now
+      → HasSafeMirror o (core_state table fresh k flusher passes history) (g.disk before).log → HasSafeMirror o (core_state table fresh' k' flusher passes' history') (g.disk now).log
+  settle_issue-secured settled.Done history' around at step owed numbers telling secured =
+      let p = step.pass in
+      let issuing : p.phase ≡ Issuing = at-this passes i (λ p. p.phase ≡ Issuing) p step.there at in
+      let kind = write-kind around secured i p step.ticket step.there issuing step.has in
+      same-secured (ap (λ (r : RequestState). r.fresh) step.after) (at-this passes i (λ p. k' ≡ after_owe p.block k) p step.there owed) (ap (λ (r : RequestState). r.passes) step.after) refl refl refl
+      (ends-done around secured i p step.ticket step.there issuing step.has history' (g.disk now).log (ap (λ (r : RequestState). r.entries) step.after) numbers
+      ((step.call.takes.told telling).log ∙ ap (λ (e : Entry). (g.disk before).log ++ e ∷ []) (done-write step.ticket.kind step.ticket kind)))
+  settle_issue-secured (settled.NotYet same) history' around at step owed numbers telling secured =
+      same-secured (ap (λ (r : RequestState). r.fresh) step.after) (at-this passes i (λ p. k' ≡ k) step.pass step.there owed) (ap (λ (r : RequestState). r.passes) step.after) (ap (λ (r : RequestState). r.entries) step.after)
+      (numbers ∙ append-nil history.numbers) ((step.call.takes.told telling).log ∙ append-nil (g.disk before).log) secured
+  settle_issue-secured (settled.Failed number) history' around at step owed numbers telling secured =
+      let p = step.pass in
+      let issuing : p.phase ≡ Issuing = at-this passes i (λ p. p.phase ≡ Issuing) p step.there at in
+      let kind = write-kind around secured i p step.ticket step.there issuing step.has in
+      same-secured (ap (λ (r : RequestState). r.fresh) step.after) (at-this passes i (λ p. k' ≡ k) p step.there owed) (ap (λ (r : RequestState). r.passes) step.after) refl refl refl
+      (ends-failed around secured i p step.ticket step.there issuing step.has history' (g.disk now).log (ap (λ (r : RequestState). r.entries) step.after) numbers
+      ((step.call.takes.told telling).log ∙ ap (λ (e : Entry). (g.disk before).log ++ e ∷ []) (failed-write step.ticket.kind step.ticket kind)))

@@ -29,7 +29,7 @@ use Rattle.vd_passes.specs.declared.pass.Pass.{Pass}
 use Rattle.vd_passes.specs.declared.pass.Phase.TheVariants.{Flushing}
 use Rattle.vd_passes.specs.declared.pass.Fault.TheVariants.{Store}
 use Rattle.vd_passes.specs.Passes.{after_fault}
-use Rattle.vd_safety.specs.Mirrors.{bit_of, Mirrors, HasSafeMirror}
+use Rattle.vd_safety.specs.Mirrors.{core_state, bit_of, Mirrors, HasSafeMirror}
 use Rattle.vd_safety.proofs.Updates.{updated-same}
 use Rattle.vd_safety.proofs.Flying.{is_bare, flights-set, idle-flight}
 use Rattle.vd_safety.proofs.Stepping.{stage-at, moved}
@@ -54,13 +54,13 @@ broke-ends flights id none k t has (inl e) = absurd cc
 broke-ends flights id none k t has (inr e) = (let same : t ≡ id = cc in none k (subst (HasTicket (flights k)) same has))
 
 module _ (o : Opening) (table : TableState) (fresh : List Bool) (k : KeeperState) (passes : List Pass) (history : HistoryState) (log : List Entry) (s : State) (i : ℕ) (p : Pass) (t : Ticket)
-    (was : KeepsCrashSafety o s) (mirrors : Mirrors o table fresh k (Some i) passes history log s)
+    (was : KeepsCrashSafety o s) (mirrors : Mirrors o (core_state table fresh k (Some i) passes history) log s)
     (there : slice_get passes i ≡ Some p) (flushes : p.phase ≡ Flushing) (has : p.ticket ≡ Some t) where
   abbrev p' : Pass
   p' = after_fault (Store t.number) p
 
   -- with this entry
-  failed-with : (e : Entry) → WritesNothing e → EndsNone s.flights e → HasSafeMirror o table fresh (after_break k) None (slice_set passes i p') history (log ++ e ∷ [])
+  failed-with : (e : Entry) → WritesNothing e → EndsNone s.flights e → HasSafeMirror o (core_state table fresh (after_break k) None (slice_set passes i p') history) (log ++ e ∷ [])
   failed-with e quiet ends =
       let bare : is_bare p.phase ≡ true = ap is_bare flushes in
       let after = primitive_keeps o s (state (s.log ++ e ∷ []) s.history s.memory s.marked s.flights Resting) (Flush_fails s.log s.history s.memory s.marked s.flights s.stage e quiet ends) was in
@@ -81,12 +81,12 @@ module _ (o : Opening) (table : TableState) (fresh : List Bool) (k : KeeperState
     | inr plain ↦ (let now = stage-at Puts false (Some t) i p o k (Some i) passes s.stage refl there puts plain has mirrors.stage in subst (λ (x : core.Stage). StageTicket x (ticket_id t)) (sym now.1.8) refl)
   ]
 
-  replied : t.kind ≡ kinds.Flush → HasSafeMirror o table fresh (after_break k) None (slice_set passes i p') history (log ++ failed_entry t.kind t ∷ [])
-  replied kind = subst (λ (x : Kind). HasSafeMirror o table fresh (after_break k) None (slice_set passes i p') history (log ++ failed_entry x t ∷ [])) (sym kind)
+  replied : t.kind ≡ kinds.Flush → HasSafeMirror o (core_state table fresh (after_break k) None (slice_set passes i p') history) (log ++ failed_entry t.kind t ∷ [])
+  replied kind = subst (λ (x : Kind). HasSafeMirror o (core_state table fresh (after_break k) None (slice_set passes i p') history) (log ++ failed_entry x t ∷ [])) (sym kind)
       (failed-with (Reply (ticket_id t) (StoreFault t.number 0)) (reply-quiet (ticket_id t) t.number) (reply-ends s.flights (ticket_id t) t.number))
 
-  pub any-failed : IsOutAt k.stage t → HasSafeMirror o table fresh (after_break k) None (slice_set passes i (after_fault (Store t.number) p)) history (log ++ failed_entry t.kind t ∷ [])
+  pub any-failed : IsOutAt k.stage t → HasSafeMirror o (core_state table fresh (after_break k) None (slice_set passes i (after_fault (Store t.number) p)) history) (log ++ failed_entry t.kind t ∷ [])
   any-failed (inl first) = replied first.1
-  any-failed (inr (inl put)) = subst (λ (x : Kind). HasSafeMirror o table fresh (after_break k) None (slice_set passes i p') history (log ++ failed_entry x t ∷ [])) (sym put.1)
+  any-failed (inr (inl put)) = subst (λ (x : Kind). HasSafeMirror o (core_state table fresh (after_break k) None (slice_set passes i p') history) (log ++ failed_entry x t ∷ [])) (sym put.1)
       (failed-with (Broke (ticket_id t)) (broke-quiet (ticket_id t)) (broke-ends s.flights (ticket_id t) (λ l out. kept-tickets o s was l (ticket_id t) out (put-ticket put.0))))
   any-failed (inr (inr sync)) = replied sync.1

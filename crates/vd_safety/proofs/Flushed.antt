@@ -30,14 +30,14 @@ use Rattle.vd_keeper.specs.Moves.{after_data}
 use Rattle.vd_passes.specs.declared.pass.Pass.{Pass}
 use Rattle.vd_passes.specs.declared.pass.Phase.TheVariants.{Flushing}
 use Rattle.vd_passes.specs.Passes.{call_id}
-use Rattle.vd_safety.specs.Mirrors.{bit_of, IsOfHeader, IsBegunOf, IsProgressOf, Nowhere, IsStageBy, IsStageOf, Mirrors, HasSafeMirror}
+use Rattle.vd_safety.specs.Mirrors.{core_state, bit_of, IsOfHeader, IsBegunOf, IsProgressOf, Nowhere, IsStageBy, IsStageOf, Mirrors, HasSafeMirror}
 use Rattle.vd_safety.proofs.Records.{by-header}
 use Rattle.vd_safety.proofs.Putting.{same-chunks}
 use Rattle.vd_safety.proofs.Stepping.{keeps-at, stage-at, stage-by}
 use Rattle.vd_safety.proofs.Settling.{data-not-data, data-not-syncs, data-seals, begun-after, p', ended}
 
 module _ (h : Header) (o : Opening) (table : TableState) (fresh : List Bool) (k : KeeperState) (passes : List Pass) (history : HistoryState) (log : List Entry) (s : State) (i : ℕ) (p : Pass) (t : Ticket)
-    (of : IsOfHeader h o k) (was : KeepsCrashSafety o s) (mirrors : Mirrors o table fresh k (Some i) passes history log s)
+    (of : IsOfHeader h o k) (was : KeepsCrashSafety o s) (mirrors : Mirrors o (core_state table fresh k (Some i) passes history) log s)
     (there : slice_get passes i ≡ Some p) (flushes : p.phase ≡ Flushing) (has : p.ticket ≡ Some t) (sends : k.stage ≡ DataFlush) where
   now : IsBegunOf k × IsStageBy DataFlush k.head (Some t) o k (call_id i p) s.stage
   now = stage-at DataFlush k.head (Some t) i p o k (Some i) passes s.stage refl there sends refl has mirrors.stage
@@ -112,7 +112,7 @@ module _ (h : Header) (o : Opening) (table : TableState) (fresh : List Bool) (k 
   stage-after (ways.Recycle u) e =
       stage-by Puts k.head None i p (p' o table fresh k passes history log s i p mirrors there flushes) o k' passes stage there (ap after_data e) refl refl begun (now.1.0, now.1.1, now.1.2, pr, so_far, refl)
 
-  pub data-flushed : HasSafeMirror o table fresh k' (Some i) (slice_set passes i (record p { ticket = None })) history (log ++ Reply (ticket_id t) Fine ∷ [])
+  pub data-flushed : HasSafeMirror o (core_state table fresh k' (Some i) (slice_set passes i (record p { ticket = None })) history) (log ++ Reply (ticket_id t) Fine ∷ [])
   data-flushed =
       let sending : core.Stage = Sending (call_id i p) now.1.0 now.1.1 now.1.2 snapshot (ticket_id t) in
       let after = primitive_keeps o (state s.log s.history s.memory s.marked s.flights sending) (state (s.log ++ Reply (ticket_id t) Fine ∷ []) s.history s.memory s.marked s.flights stage)

@@ -20,7 +20,7 @@ use Rattle.vd_crash.specs.primitives.Keeping.{KeepsCrashSafety}
 use Rattle.vd_replay.specs.Images.{image_of}
 use Rattle.vd_keeper.specs.Keeping.{KeeperState}
 use Rattle.vd_passes.specs.declared.pass.Pass.{Pass}
-use Rattle.vd_safety.specs.Mirrors.{IsUndiscarded, bit_of, storage_of, opening_for, HasSafeMirror}
+use Rattle.vd_safety.specs.Mirrors.{core_state, IsUndiscarded, bit_of, storage_of, opening_for, HasSafeMirror}
 use Rattle.vd_safety.specs.Held.{IsHeldNow, IsFound}
 use Rattle.vd_safety.proofs.Held.{held_image}
 use Rattle.vd_format.specs.Background.{background, base_at, zero_sector}
@@ -73,7 +73,7 @@ kept_holds o s kept = kept.core.holds
 
 -- ---- of a core
 
-module _ (o : Opening) (table : TableState) (fresh : List Bool) (k : KeeperState) (flusher : Option ℕ) (passes : List Pass) (history : HistoryState) (log : List Entry) (secured : HasSafeMirror o table fresh k flusher passes history log) where
+module _ (o : Opening) (table : TableState) (fresh : List Bool) (k : KeeperState) (flusher : Option ℕ) (passes : List Pass) (history : HistoryState) (log : List Entry) (secured : HasSafeMirror o (core_state table fresh k flusher passes history) log) where
   holds : Holds o secured.state.log secured.state.history secured.state.memory
   holds = kept_holds o secured.state secured.keeps
 
@@ -97,7 +97,7 @@ module _ (o : Opening) (table : TableState) (fresh : List Bool) (k : KeeperState
 
 -- Each sector of the disk that a held image stands for is found there.
 pub held-found : (h : Header) (entries : List MapEntry) (before : List Sector) (held : ℕ → Sector) (base disk : List Sector) (opened : ℕ) (table : TableState) (fresh : List Bool) (k : KeeperState) (flusher : Option ℕ) (passes : List Pass) (history : HistoryState) (log : List Entry) (now : List Sector)
-    → HasSafeMirror (opening_for h entries before held base disk opened) table fresh k flusher passes history log → IsHeldNow before log now
+    → HasSafeMirror (opening_for h entries before held base disk opened) (core_state table fresh k flusher passes history) log → IsHeldNow before log now
     → (s : ℕ) (v : Sector) → s < h.size → DiskHas (format_of h) (layout_of h) (base_at zero_sector base) zero_sector (image_of now) s v → IsFound h base table fresh k now s v
 held-found h entries before held base disk opened table fresh k flusher passes history log now secured is_held s v inside has =
     secured-found (opening_for h entries before held base disk opened) table fresh k flusher passes history log secured (sectors_or zero_sector now) (held_image zero_sector before log now is_held) s v inside has

@@ -29,7 +29,7 @@ use Rattle.vd_crash.specs.primitives.Keeping.{KeepsCrashSafety}
 use Rattle.vd_replay.specs.Images.{image_of}
 use Rattle.vd_keeper.specs.Keeping.{KeeperState}
 use Rattle.vd_passes.specs.declared.pass.Pass.{Pass}
-use Rattle.vd_safety.specs.Mirrors.{opening_for, HasSafeMirror}
+use Rattle.vd_safety.specs.Mirrors.{core_state, opening_for, HasSafeMirror}
 use Rattle.vd_safety.specs.Held.{IsHeldNow, IsOpenAgain}
 use Rattle.vd_safety.proofs.Words.{secured-is-safe, secured-numbers}
 use Rattle.vd_format.specs.Background.{base_at, zero_sector}
@@ -52,7 +52,7 @@ unfolding KeepsCrashSafety
 kept_opening o s kept = kept.core.holds.facts.opening
 
 -- an image that a crash may leave now is safe by the whole history
-safe_held : (o : Opening) (table : TableState) (fresh : List Bool) (k : KeeperState) (flusher : Option ℕ) (passes : List Pass) (history : HistoryState) (log : List Entry) (image : ℕ → Sector) → HasSafeMirror o table fresh k flusher passes history log
+safe_held : (o : Opening) (table : TableState) (fresh : List Bool) (k : KeeperState) (flusher : Option ℕ) (passes : List Pass) (history : HistoryState) (log : List Entry) (image : ℕ → Sector) → HasSafeMirror o (core_state table fresh k flusher passes history) log
     → IsImage o.before log image → IsSafeImage o history.log.entries image
 safe_held o table fresh k flusher passes history log image secured left = subst (λ (es : List Entry). IsSafeImage o es image) all now
   where
@@ -67,7 +67,7 @@ safe_held o table fresh k flusher passes history log image secured left = subst 
 
 -- What the store of a secured core holds opens again.
 pub held-sound : (h : Header) (entries : List MapEntry) (before : List Sector) (held : ℕ → Sector) (base disk : List Sector) (opened : ℕ) (table : TableState) (fresh : List Bool) (k : KeeperState) (flusher : Option ℕ) (passes : List Pass) (history : HistoryState) (log : List Entry) (now : List Sector)
-    → HasSafeMirror (opening_for h entries before held base disk opened) table fresh k flusher passes history log → IsHeldNow before log now → h.version ≡ this_version → store_need h ≤ length now → length disk ≡ h.size
+    → HasSafeMirror (opening_for h entries before held base disk opened) (core_state table fresh k flusher passes history) log → IsHeldNow before log now → h.version ≡ this_version → store_need h ≤ length now → length disk ≡ h.size
     → IsOpenAgain h base disk history.log.entries now
 held-sound h entries before held base disk opened table fresh k flusher passes history log now secured holds version room size = record {
   sound = sound;

@@ -6,9 +6,9 @@ use Rattle.std.proofs.lemmas.Option.{slice_get_within}
 use Rattle.vd_law.specs.declared.entry.Sector.{Sector}
 use Rattle.vd_law.specs.Entries.{Entry, Issue}
 use Rattle.vd_law.specs.Histories.{HistoryState}
+use Rattle.vd_device.specs.declared.store.Store as store
 use Rattle.vd_device.specs.declared.ticket.Ticket.{Ticket}
 use Rattle.vd_device.specs.Tickets.{ticket_id}
-use Rattle.vd_device.specs.Disks.{Disk}
 use Rattle.vd_format.specs.declared.header.Header.{Header}
 use Rattle.vd_format.specs.Layouts.{blocks_of, storage_start}
 use Rattle.vd_table.specs.Tables.{TableState}
@@ -30,8 +30,9 @@ use Rattle.vd_passes.specs.Laying.{content_with_part, IsRest}
 use Rattle.vd_passes.specs.Standings.{standing}
 use Rattle.vd_passes.specs.Places.{place_of}
 use Rattle.vd_passes.specs.Passes.{has_region, call_id, IsAsHistorySays, IsPiece, IsRequestOf, HasInFlight, after_issue}
+use Rattle.vd_passes.specs.Requests.{RequestState, requests}
 use Rattle.vd_passes.specs.Steps.{IsAt, HasAskedWrite, Issues}
-use Rattle.vd_safety.specs.Mirrors.{bit_of, storage_of, storage_given, AreFlightsOf, IsPendingOf, IsStageOf, Mirrors, HasSafeMirror}
+use Rattle.vd_safety.specs.Mirrors.{core_state, bit_of, storage_of, storage_given, AreFlightsOf, IsPendingOf, IsStageOf, Mirrors, HasSafeMirror}
 use Rattle.vd_safety.proofs.Updates.{some-inj, bit-is, updated, is-updated}
 use Rattle.vd_safety.proofs.Places.{chunk-is, place-from}
 use Rattle.vd_safety.proofs.Writing.{Comes, comes-laid, length-laid, same-write, whole-write}
@@ -55,13 +56,13 @@ holding-phase : (P : Phase → Type 0) → P Held → P Filled → (p : Pass) �
 holding-phase P held filled p (inl is) = subst P (sym is) held
 holding-phase P held filled p (inr is) = subst P (sym is) filled
 
-module _ {h : Header} {o : Opening} {shape : Shape} {table : TableState} {fresh : List Bool} {k : KeeperState} {flusher : Option ℕ} {passes passes' : List Pass} {history : HistoryState} {base content : List Sector}
-    {i last last' : ℕ} {flight flight' : List Ticket → Type 0} {tells tells' : Type 0} {disk disk' : Disk} (history' : HistoryState)
-    (around : Surroundings h o shape table fresh k flusher passes history.log.entries base last)
+module _ {h : Header} {o : Opening} {shape shape' : Shape} {table : TableState} {fresh fresh' : List Bool} {k : KeeperState} {flusher : Option ℕ} {passes passes' : List Pass} {history : HistoryState} {base content : List Sector}
+    {i : ℕ} {S : Type 0} {g : store.Ghosts S} {before now : S} (history' : HistoryState)
+    (around : Surroundings h o shape (core_state table fresh k flusher passes history) base (g.last before))
     (at : IsAt passes i (λ p. ((p.phase ≡ Held) ⊎ (p.phase ≡ Filled)) × (p.write ≡ true))) (asked : HasAskedWrite history.log.entries i content)
-    (step : Issues shape fresh content i passes passes' history.log.entries history'.log.entries flight flight' tells tells' disk disk' last last')
-    (numbers : history'.numbers ≡ history.numbers ++ length disk.log ∷ []) (telling : tells')
-    (secured : HasSafeMirror o table fresh k flusher passes history disk.log) where
+    (step : Issues g content i (requests shape fresh passes history.log.entries) (requests shape' fresh' passes' history'.log.entries) before now)
+    (numbers : history'.numbers ≡ history.numbers ++ length (g.disk before).log ∷ []) (telling : g.tells now)
+    (secured : HasSafeMirror o (core_state table fresh k flusher passes history) (g.disk before).log) where
   abbrev s : State
   s = secured.state
 
@@ -80,7 +81,7 @@ module _ {h : Header} {o : Opening} {shape : Shape} {table : TableState} {fresh 
   abbrev stored-event : Entry
   stored-event = Issue (ticket_id t) t.first step.stored
 
-  mirrors : Mirrors o table fresh k flusher passes history disk.log s
+  mirrors : Mirrors o (core_state table fresh k flusher passes history) (g.disk before).log s
   mirrors = secured.mirrors
 
   this : ((p.phase ≡ Held) ⊎ (p.phase ≡ Filled)) × (p.write ≡ true)
@@ -143,11 +144,11 @@ module _ {h : Header} {o : Opening} {shape : Shape} {table : TableState} {fresh 
   in-disk : p.block < blocks_of h
   in-disk = let b = blocks-same around in let g = piece.in_disk in omega arith
 
-  told : last < t.number
-  told = (step.told telling).1
+  told : g.last before < t.number
+  told = step.call.rises telling
 
-  log-after : s.log ++ stored-event ∷ [] ≡ disk'.log
-  log-after = ap (λ (es : List Entry). es ++ stored-event ∷ []) mirrors.log_is ∙ sym (step.told telling).0.log
+  log-after : s.log ++ stored-event ∷ [] ≡ (g.disk now).log
+  log-after = ap (λ (es : List Entry). es ++ stored-event ∷ []) mirrors.log_is ∙ sym (step.call.takes.told telling).log
 
   abbrev flights' : ℕ → Flight
   flights' = updated s.flights i (Writing p.block (length s.history) (length s.log) (call_id i p) (ticket_id t))
@@ -171,13 +172,13 @@ module _ {h : Header} {o : Opening} {shape : Shape} {table : TableState} {fresh 
   -- the whole state, with these blocks written whole
   after : (pending : ℕ → Option ℕ) → ((c : ℕ) → IsPendingOf fresh (slice_set passes i p') c (pending c))
       → KeepsCrashSafety o (state (s.log ++ stored-event ∷ []) (s.history ++ entry_now s.log event ∷ []) (with_blocks s.memory s.memory.fresh s.memory.born s.memory.owed pending) s.marked flights' s.stage)
-      → HasSafeMirror o table fresh k flusher (slice_set passes i p') history' disk'.log
+      → HasSafeMirror o (core_state table fresh k flusher (slice_set passes i p') history') (g.disk now).log
   after pending pending_is keeps = record {
     state = state (s.log ++ stored-event ∷ []) (s.history ++ entry_now s.log event ∷ []) (with_blocks s.memory s.memory.fresh s.memory.born s.memory.owed pending) s.marked flights' s.stage;
     keeps = keeps;
-    mirrors = mirrored o table fresh k flusher passes history disk.log s mirrors table fresh k.owed (slice_set passes i p') history' disk'.log (s.log ++ stored-event ∷ []) (s.history ++ entry_now s.log event ∷ [])
+    mirrors = mirrored o table fresh k flusher passes history (g.disk before).log s mirrors table fresh k.owed (slice_set passes i p') history' (g.disk now).log (s.log ++ stored-event ∷ []) (s.history ++ entry_now s.log event ∷ [])
         s.memory.index.table s.memory.fresh s.memory.born s.memory.owed pending flights' log-after
-        (history-more history history' s.history s.log disk.log event (was-history o table fresh k flusher passes history disk.log s mirrors) mirrors.log_is step.event numbers)
+        (history-more history history' s.history s.log (g.disk before).log event (was-history o table fresh k flusher passes history (g.disk before).log s mirrors) mirrors.log_is (ap (λ (r : RequestState). r.entries) step.after) numbers)
         mirrors.storage mirrors.fresh_is mirrors.owed pending_is flights-after stage-after;
   }
 
@@ -188,7 +189,7 @@ module _ {h : Header} {o : Opening} {shape : Shape} {table : TableState} {fresh 
   filled-not is = fresh-is false (subst (λ ph. HasInFlight ph shape fresh p) is stands.ticket).1
 
   -- the block is local, and the piece is written to its place
-  local : bit_of fresh p.block ≡ true → HasSafeMirror o table fresh k flusher (slice_set passes i p') history' disk'.log
+  local : bit_of fresh p.block ≡ true → HasSafeMirror o (core_state table fresh k flusher (slice_set passes i p') history') (g.disk now).log
   local is_fresh = after s.memory.pending others-pending
       (primitive_keeps o s (state (s.log ++ stored-event ∷ []) (s.history ++ entry_now s.log event ∷ []) s.memory s.marked flights' s.stage)
       (Issues_local s.log s.history s.memory s.marked s.flights flights' s.stage i p.block placed.0 (call_id i p) (ticket_id t) (p.first + p.done) part stored-event
@@ -208,7 +209,7 @@ module _ {h : Header} {o : Opening} {shape : Shape} {table : TableState} {fresh 
   offset = p.first + p.done - shape.block * p.block
 
   -- it isn't, and the block is written whole
-  whole : bit_of fresh p.block ≡ false → HasSafeMirror o table fresh k flusher (slice_set passes i p') history' disk'.log
+  whole : bit_of fresh p.block ≡ false → HasSafeMirror o (core_state table fresh k flusher (slice_set passes i p') history') (g.disk now).log
   whole not_fresh = after pending' pending-after
       (primitive_keeps o s (state (s.log ++ stored-event ∷ []) (s.history ++ entry_now s.log event ∷ []) (with_blocks s.memory s.memory.fresh s.memory.born s.memory.owed pending') s.marked flights' s.stage)
       (Issues_whole s.log s.history s.memory s.marked pending' s.flights flights' s.stage i p.block placed.0 (call_id i p) (ticket_id t) (p.first + p.done) part stored-event
@@ -258,10 +259,10 @@ module _ {h : Header} {o : Opening} {shape : Shape} {table : TableState} {fresh 
             ]))
       ]
 
-  issued : (v : Bool) → bit_of fresh p.block ≡ v → HasSafeMirror o table fresh k flusher (slice_set passes i p') history' disk'.log
+  issued : (v : Bool) → bit_of fresh p.block ≡ v → HasSafeMirror o (core_state table fresh k flusher (slice_set passes i p') history') (g.disk now).log
   issued true is = local is
   issued false is = whole is
 
   -- it stays secured
-  pub issue-secured : HasSafeMirror o table fresh k flusher passes' history' disk'.log
-  issue-secured = subst (λ (ps : List Pass). HasSafeMirror o table fresh k flusher ps history' disk'.log) (sym step.after) (issued (bit_of fresh p.block) refl)
+  pub issue-secured : HasSafeMirror o (core_state table fresh' k flusher passes' history') (g.disk now).log
+  issue-secured = subst (λ (r : RequestState). HasSafeMirror o (core_state table r.fresh k flusher r.passes history') (g.disk now).log) (sym step.after) (issued (bit_of fresh p.block) refl)

@@ -19,7 +19,7 @@ use Rattle.vd_passes.specs.declared.pass.Pass.{Pass}
 use Rattle.vd_passes.specs.declared.pass.Phase.TheVariants.{Issuing}
 use Rattle.vd_passes.specs.Passes.{has_region, writes_in, call_id}
 use Rattle.vd_passes.specs.Steps.{IsAt}
-use Rattle.vd_safety.specs.Mirrors.{Mirrors}
+use Rattle.vd_safety.specs.Mirrors.{core_state, Mirrors}
 use Rattle.vd_safety.proofs.Updates.{some-inj}
 use Rattle.vd_safety.proofs.Surroundings.{Surroundings}
 use Rattle.vd_safety.proofs.Flying.{is_bare, flying, idle-flight, pending-none}
@@ -30,7 +30,7 @@ pub at-this : (passes : List Pass) (i : ℕ) (P : Pass → Type 0) (p : Pass) �
 at-this passes i P p there at = subst P (some-inj (sym at.1 ∙ there)) at.2
 
 module _ {h : Header} {o : Opening} {shape : Shape} {table : TableState} {fresh : List Bool} {k : KeeperState} {flusher : Option ℕ} {passes : List Pass} {history : HistoryState} {log : List Entry} {base : List Sector} {last : ℕ} {s : State}
-    (around : Surroundings h o shape table fresh k flusher passes history.log.entries base last) (is : Mirrors o table fresh k flusher passes history log s) where
+    (around : Surroundings h o shape (core_state table fresh k flusher passes history) base last) (is : Mirrors o (core_state table fresh k flusher passes history) log s) where
   -- A ticket that is given now is none of the passes',
   pub new-ticket : (t : Ticket) → last < t.number → (i : ℕ) (p : Pass) (u : Ticket) → slice_get passes i ≡ Some p → p.ticket ≡ Some u → ticket_id u ≡ ticket_id t → ⊥
   new-ticket t later i p u there has same = let e : u.number ≡ t.number = ap (λ (c : CallId). c.call) same in let old = around.numbers i p u there has in omega arith

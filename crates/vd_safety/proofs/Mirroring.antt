@@ -9,7 +9,7 @@ use Rattle.vd_crash.specs.flushes.Moves.{entry_now}
 use Rattle.vd_crash.specs.primitives.Primitives.{State, state}
 use Rattle.vd_keeper.specs.Keeping.{KeeperState}
 use Rattle.vd_passes.specs.declared.pass.Pass.{Pass}
-use Rattle.vd_safety.specs.Mirrors.{bit_of, storage_of, AreFlightsOf, IsPendingOf, IsStageOf, Mirrors}
+use Rattle.vd_safety.specs.Mirrors.{core_state, bit_of, storage_of, AreFlightsOf, IsPendingOf, IsStageOf, Mirrors}
 use Rattle.vd_safety.proofs.Updates.{numbered-more, length-more}
 use Rattle.vd_crash.specs.facts.Memory.{Memory}
 
@@ -50,12 +50,12 @@ history-same history history' events was entries numbers = record {
 }
 
 module _ (o : Opening) (table : TableState) (fresh : List Bool) (k : KeeperState) (flusher : Option ℕ) (passes : List Pass) (history : HistoryState) (log : List Entry) (s : State)
-    (was : Mirrors o table fresh k flusher passes history log s) where
+    (was : Mirrors o (core_state table fresh k flusher passes history) log s) where
   pub mirrored : (table' : TableState) (fresh' owed' : List Bool) (passes' : List Pass) (history' : HistoryState) (log' store : List Entry) (events : List NumberedEntry)
       (t : ℕ → Option ℕ) (f : ℕ → Bool) (born : ℕ → ℕ) (w : ℕ → Bool) (pending : ℕ → Option ℕ) (flights : ℕ → Flight)
       → store ≡ log' → IsHistory history' events → ((c : ℕ) → t c ≡ storage_of table' c) → ((b : ℕ) → f b ≡ bit_of fresh' b) → ((b : ℕ) → w b ≡ bit_of owed' b) → ((b : ℕ) → IsPendingOf fresh' passes' b (pending b))
       → AreFlightsOf passes' flights → IsStageOf flusher o (record k { owed = owed' }) passes' s.stage
-      → Mirrors o table' fresh' (record k { owed = owed' }) flusher passes' history' log' (state store events (changed s.memory t f born w pending) s.marked flights s.stage)
+      → Mirrors o (core_state table' fresh' (record k { owed = owed' }) flusher passes' history') log' (state store events (changed s.memory t f born w pending) s.marked flights s.stage)
   mirrored table' fresh' owed' passes' history' log' store events t f born w pending flights told events_are storage fresh_is owed_is pending_is flights_are stage_is = record {
     log_is = told;
     history_is = events_are.is;

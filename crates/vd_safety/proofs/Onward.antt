@@ -21,7 +21,7 @@ use Rattle.vd_keeper.specs.Keeping.{KeeperState}
 use Rattle.vd_passes.specs.declared.shape.Shape.{Shape}
 use Rattle.vd_passes.specs.declared.pass.Pass.{Pass}
 use Rattle.vd_passes.specs.declared.pass.Phase.TheVariants.{Issuing, Flushing}
-use Rattle.vd_safety.specs.Mirrors.{storage_of, IsFlightOf, Mirrors, HasSafeMirror}
+use Rattle.vd_safety.specs.Mirrors.{core_state, storage_of, IsFlightOf, Mirrors, HasSafeMirror}
 use Rattle.vd_safety.proofs.Updates.{updated-same}
 use Rattle.vd_safety.proofs.Surroundings.{Surroundings, not-flusher}
 use Rattle.vd_safety.proofs.Flying.{is_bare, flights-set, idle-flight, pending-other}
@@ -74,18 +74,18 @@ tells o s e calm asks keeps = primitive_keeps o s (state (s.log ++ e ∷ []) s.h
     (Tells s.log s.history s.memory s.marked s.flights s.stage e (calm-quiet e calm) (λ l id has. calm-ends e calm id) (λ id waits. calm-ends e calm id) asks) keeps
 
 module _ {h : Header} {o : Opening} {shape : Shape} {table : TableState} {fresh : List Bool} {k : KeeperState} {flusher : Option ℕ} {passes : List Pass} {history : HistoryState} {base : List Sector} {last : ℕ} {log : List Entry}
-    (around : Surroundings h o shape table fresh k flusher passes history.log.entries base last) (secured : HasSafeMirror o table fresh k flusher passes history log)
+    (around : Surroundings h o shape (core_state table fresh k flusher passes history) base last) (secured : HasSafeMirror o (core_state table fresh k flusher passes history) log)
     (i : ℕ) (p p' : Pass) (there : slice_get passes i ≡ Some p) (not_issuing : p.phase ≡ Issuing → ⊥) (not_flushing : p.phase ≡ Flushing → ⊥) where
   abbrev s : State
   s = secured.state
 
-  mirrors : Mirrors o table fresh k flusher passes history log s
+  mirrors : Mirrors o (core_state table fresh k flusher passes history) log s
   mirrors = secured.mirrors
 
   -- The state after a step of pass i, with this storage, these logs and these flights.
   pub moved : (table' : TableState) (history' : HistoryState) (log' store : List Entry) (events : List NumberedEntry) (t : ℕ → Option ℕ) (flights : ℕ → Flight) (f : Flight)
       → store ≡ log' → IsHistory history' events → ((c : ℕ) → t c ≡ storage_of table' c) → IsUpdated s.flights flights i f → IsFlightOf p'.phase p'.fault i p' f
-      → KeepsCrashSafety o (state store events (with_table s.memory t) s.marked flights s.stage) → HasSafeMirror o table' fresh k flusher (slice_set passes i p') history' log'
+      → KeepsCrashSafety o (state store events (with_table s.memory t) s.marked flights s.stage) → HasSafeMirror o (core_state table' fresh k flusher (slice_set passes i p') history') log'
   moved table' history' log' store events t flights f told events_are storage put idle keeps = record {
     state = state store events (with_table s.memory t) s.marked flights s.stage;
     keeps = keeps;
@@ -96,7 +96,7 @@ module _ {h : Header} {o : Opening} {shape : Shape} {table : TableState} {fresh 
 
   -- the same where the pass has nothing in flight and owes nothing, before and after
   pub moved-bare : s.flights i ≡ NoFlight → IsFlightOf p'.phase p'.fault i p' NoFlight → (history' : HistoryState) (log' store : List Entry) (events : List NumberedEntry) → store ≡ log' → IsHistory history' events
-      → KeepsCrashSafety o (state store events s.memory s.marked s.flights s.stage) → HasSafeMirror o table fresh k flusher (slice_set passes i p') history' log'
+      → KeepsCrashSafety o (state store events s.memory s.marked s.flights s.stage) → HasSafeMirror o (core_state table fresh k flusher (slice_set passes i p') history') log'
   moved-bare was idle history' log' store events told events_are keeps =
       moved table history' log' store events s.memory.index.table s.flights NoFlight told events_are mirrors.storage (updated-same s.flights i NoFlight was) idle keeps
 
@@ -104,5 +104,5 @@ module _ {h : Header} {o : Opening} {shape : Shape} {table : TableState} {fresh 
   bare-before bare = idle-flight passes s.flights i p mirrors.flights there bare
 
   -- A step that changes the pass alone.
-  pub only-passes : is_bare p.phase ≡ true → IsFlightOf p'.phase p'.fault i p' NoFlight → HasSafeMirror o table fresh k flusher (slice_set passes i p') history log
+  pub only-passes : is_bare p.phase ≡ true → IsFlightOf p'.phase p'.fault i p' NoFlight → HasSafeMirror o (core_state table fresh k flusher (slice_set passes i p') history) log
   only-passes bare idle = moved-bare (bare-before bare) idle history log s.log s.history mirrors.log_is (was-history o table fresh k flusher passes history log s mirrors) secured.keeps

@@ -33,7 +33,7 @@ use Rattle.vd_keeper.specs.Keeping.{KeeperState, pages_of, no_marks}
 use Rattle.vd_passes.specs.declared.pass.Pass.{Pass}
 use Rattle.vd_passes.specs.declared.pass.Phase.{Phase}
 use Rattle.vd_passes.specs.declared.pass.Phase.TheVariants.{Idle}
-use Rattle.vd_safety.specs.Mirrors.{bit_of, storage_of, is_in, opening_for, IsFlightOf, HasSafeMirror}
+use Rattle.vd_safety.specs.Mirrors.{core_state, bit_of, storage_of, is_in, opening_for, IsFlightOf, HasSafeMirror}
 use Rattle.vd_safety.proofs.Stated.{maps_grammar, up_there, down_there, stored_has, has_stored, has_gives, gives_has, up_mask, up_local, local_up, below_next, disk_past}
 use Rattle.vd_format.specs.Background.{zero_sector, base_at}
 use Rattle.vd_lists.proofs.Places.{some_place}
@@ -236,7 +236,7 @@ idle_flight phase i p idle = subst (λ (x : Phase). IsFlightOf x p.fault i p NoF
 -- A core as it is made, of passes that have asked nothing yet, is secured.
 pub opened-secured : (s : State) (before held base disk : List Sector) (log : List Event) (passes : List Pass) (history : HistoryState) → IsStart s before held base disk log
     → ((i : ℕ) (p : Pass) → slice_get passes i ≡ Some p → p.phase ≡ Idle) → history.log.entries ≡ [] → history.numbers ≡ []
-    → HasSafeMirror (opening_for s.header s.map before (image_of held) base disk (length log)) s.table s.fresh.bits (keeper_of s) None passes history log
+    → HasSafeMirror (opening_for s.header s.map before (image_of held) base disk (length log)) (core_state s.table s.fresh.bits (keeper_of s) None passes history) log
 opened-secured s before held base disk log passes history start idle no_entry no_number = record {
   state = at_rest log (memory_of s) (marked_of s);
   keeps = opening_keeps_all (opening_for s.header s.map before (image_of held) base disk (length log)) log (memory_of s) (marked_of s)

@@ -39,15 +39,16 @@ use Rattle.vd_passes.specs.declared.shape.Shape.{Shape}
 use Rattle.vd_passes.specs.declared.pass.Pass.{Pass}
 use Rattle.vd_passes.specs.declared.pass.Phase.TheVariants.{Flushing}
 use Rattle.vd_passes.specs.Passes.{call_id, after_meta}
+use Rattle.vd_passes.specs.Requests.{RequestState, requests, with_pass}
 use Rattle.vd_passes.specs.Steps.{meta_entry}
-use Rattle.vd_safety.specs.Mirrors.{bit_of, IsBegunOf, IsProgressOf, Nowhere, InRecordOf, InPageOf, IsStageBy, Mirrors, HasSafeMirror}
+use Rattle.vd_safety.specs.Mirrors.{core_state, bit_of, IsBegunOf, IsProgressOf, Nowhere, InRecordOf, InPageOf, IsStageBy, Mirrors, HasSafeMirror}
 use Rattle.vd_safety.proofs.Records.{IsMemoryOf}
 use Rattle.vd_safety.proofs.Slots.{record-wanted, record-names, logged-more}
 use Rattle.vd_safety.proofs.Pages.{page-wanted, page-chunk, page-first}
 use Rattle.vd_safety.proofs.Heads.{next-generation, next-tracked, head-reads, head-geometry}
 use Rattle.vd_safety.proofs.Updates.{bit-is, bit-set-same, bit-set-other}
 use Rattle.vd_safety.proofs.Flying.{is_bare}
-use Rattle.vd_safety.proofs.Stepping.{IsFlushing, flusher-is, flusher-as, keeps-at, ticket-new, stage-at, stage-by, moved, flights-after, secured-as}
+use Rattle.vd_safety.proofs.Stepping.{IsFlushing, flusher-is, flusher-as, keeps-at, ticket-new, stage-at, stage-by, moved, flights-after, secured-on}
 use Rattle.vd_safety.proofs.Putting.{one-writes, one-covers, puts-data, puts-syncs, puts-seals, puts-possible, puts-due, records-recycle, records-plain, plain-recycle, slot-left, kept-apart, kept-first, slot-at, map-at, header-at, same-chunks, same-slots, same-map, map-same}
 use Rattle.vd_machine.specs.Flushing.{meta_state, PutsNext, place_of_put, put_sector}
 
@@ -85,7 +86,7 @@ none-marked marked empty page = elim (cases_lt page (length marked)) [
 
 -- A core where a pass that flushes is about to put something.
 module _ (h : Header) (o : Opening) (shape : Shape) (table : TableState) (fresh : List Bool) (k : KeeperState) (passes : List Pass) (history : HistoryState) (log : List Entry) (s : State) (last i : ℕ) (p : Pass) (t : Ticket)
-    (around : IsFlushing h o shape table fresh k (Some i) passes last) (was : KeepsCrashSafety o s) (mirrors : Mirrors o table fresh k (Some i) passes history log s)
+    (around : IsFlushing h o shape (core_state table fresh k (Some i) passes history) last) (was : KeepsCrashSafety o s) (mirrors : Mirrors o (core_state table fresh k (Some i) passes history) log s)
     (there : slice_get passes i ≡ Some p) (flushes : p.phase ≡ Flushing) (none : p.ticket ≡ None) (puts : k.stage ≡ Puts) (above : last < t.number) where
   abbrev p' : Pass
   p' = after_meta p t
@@ -94,7 +95,7 @@ module _ (h : Header) (o : Opening) (shape : Shape) (table : TableState) (fresh 
   kept = around.attended.keeping
 
   due : HasPutDue k
-  due = puts-due i p around there none puts
+  due = puts-due i p around refl there none puts
 
   now : IsBegunOf k × IsStageBy Puts k.head None o k (call_id i p) s.stage
   now = stage-at Puts k.head None i p o k (Some i) passes s.stage refl there puts refl none mirrors.stage
@@ -132,7 +133,7 @@ module _ (h : Header) (o : Opening) (shape : Shape) (table : TableState) (fresh 
   -- ---- a record
 
   put-record : (v : Sector) → k.way ≡ ways.Records → v.bytes ≡ record_bytes k.header.generation (next_facts table k) → t.first ≡ slots_start k.header + k.next
-      → HasSafeMirror o table fresh (record k { next = k.next + 1; logged = k.logged + length (next_chunks k) }) (Some i) (slice_set passes i p') history (log ++ entry v ∷ [])
+      → HasSafeMirror o (core_state table fresh (record k { next = k.next + 1; logged = k.logged + length (next_chunks k) }) (Some i) (slice_set passes i p') history) (log ++ entry v ∷ [])
   put-record v way bytes at =
       let k' : KeeperState = record k { next = k.next + 1; logged = k.logged + length (next_chunks k) } in
       let m = s.memory in
@@ -174,7 +175,7 @@ module _ (h : Header) (o : Opening) (shape : Shape) (table : TableState) (fresh 
   -- ---- a sector of the map
 
   put-page : (page : ℕ) (v : Sector) → is_recycle k.way ≡ true → IsLowest k.marked 0 page → v.bytes ≡ page_bytes (page_entries table k page) → t.first ≡ map_start k.header + page
-      → HasSafeMirror o table fresh (record k { marked = slice_set k.marked page false; put = slice_set k.put page true }) (Some i) (slice_set passes i p') history (log ++ entry v ∷ [])
+      → HasSafeMirror o (core_state table fresh (record k { marked = slice_set k.marked page false; put = slice_set k.put page true }) (Some i) (slice_set passes i p') history) (log ++ entry v ∷ [])
   put-page page v recycle lowest bytes at =
       let k' : KeeperState = record k { marked = slice_set k.marked page false; put = slice_set k.put page true } in
       let m = s.memory in
@@ -231,7 +232,7 @@ module _ (h : Header) (o : Opening) (shape : Shape) (table : TableState) (fresh 
   -- ---- the header
 
   put-header : (v : Sector) → is_recycle k.way ≡ true → NoneFrom k.marked 0 → v.bytes ≡ spelling (next_header k.way k.header) → t.first ≡ 0
-      → HasSafeMirror o table fresh (record k { sure = false; head = true }) (Some i) (slice_set passes i p') history (log ++ entry v ∷ [])
+      → HasSafeMirror o (core_state table fresh (record k { sure = false; head = true }) (Some i) (slice_set passes i p') history) (log ++ entry v ∷ [])
   put-header v recycle empty bytes at =
       let k' : KeeperState = record k { sure = false; head = true } in
       let m = s.memory in
@@ -270,22 +271,21 @@ module _ (h : Header) (o : Opening) (shape : Shape) (table : TableState) (fresh 
 
   -- ---- each of them
 
-  put-any : (what : put.Put) (k' : KeeperState) → IsNextPut table k what k' → t.first ≡ place_of_put k.header what → HasSafeMirror o table fresh k' (Some i) (slice_set passes i p') history (log ++ entry (put_sector what) ∷ [])
+  put-any : (what : put.Put) (k' : KeeperState) → IsNextPut table k what k' → t.first ≡ place_of_put k.header what → HasSafeMirror o (core_state table fresh k' (Some i) (slice_set passes i p') history) (log ++ entry (put_sector what) ∷ [])
   put-any what k' (Next_record v way bytes) at = put-record v way bytes at
   put-any what k' (Next_page page v recycle lowest bytes) at = put-page page v recycle lowest bytes at
   put-any what k' (Next_header v recycle empty bytes) at = put-header v recycle empty bytes at
 
-module _ {h : Header} {o : Opening} {shape : Shape} {table : TableState} {fresh : List Bool} {k k' : KeeperState} {flusher : Option ℕ} {passes passes' : List Pass} {history : HistoryState} {i : ℕ} {S : Type 0} {g : store.Ghosts S} {from to : S} where
-  pub put-secured : IsFlushing h o shape table fresh k flusher passes (g.last from) → PutsNext g table shape i (meta_state k passes) (meta_state k' passes') from to → k.stage ≡ Puts → g.tells to
-      → HasSafeMirror o table fresh k flusher passes history (g.disk from).log → HasSafeMirror o table fresh k' flusher passes' history (g.disk to).log
+module _ {h : Header} {o : Opening} {shape : Shape} {table : TableState} {fresh : List Bool} {k k' : KeeperState} {flusher : Option ℕ} {passes : List Pass} {history : HistoryState} {r' : RequestState} {i : ℕ} {S : Type 0} {g : store.Ghosts S} {from to : S} where
+  pub put-secured : IsFlushing h o shape (core_state table fresh k flusher passes history) (g.last from) → PutsNext g table i (meta_state k (requests shape fresh passes history.log.entries)) (meta_state k' r') from to → k.stage ≡ Puts → g.tells to
+      → HasSafeMirror o (core_state table fresh k flusher passes history) (g.disk from).log → HasSafeMirror o (core_state table r'.fresh k' flusher r'.passes history) (g.disk to).log
   put-secured around step puts told was =
       let p : Pass = step.sends.pass in
       let t : Ticket = step.sends.ticket in
       let flush : flusher ≡ Some i = flusher-is around i p step.sends.there step.under_way in
-      let mine : IsFlushing h o shape table fresh k (Some i) passes (g.last from) = subst (λ (f : Option ℕ). IsFlushing h o shape table fresh k f passes (g.last from)) flush around in
-      let secured : HasSafeMirror o table fresh k (Some i) passes history (g.disk from).log = subst (λ (f : Option ℕ). HasSafeMirror o table fresh k f passes history (g.disk from).log) flush was in
-      let tale = step.sends.told told in
-      let done = put-any h o shape table fresh k passes history (g.disk from).log secured.state (g.last from) i p t mine secured.keeps secured.mirrors step.sends.there step.under_way step.sends.none puts tale.1 step.put k' step.next step.at in
+      let mine : IsFlushing h o shape (core_state table fresh k (Some i) passes history) (g.last from) = subst (λ (f : Option ℕ). IsFlushing h o shape (core_state table fresh k f passes history) (g.last from)) flush around in
+      let secured : HasSafeMirror o (core_state table fresh k (Some i) passes history) (g.disk from).log = subst (λ (f : Option ℕ). HasSafeMirror o (core_state table fresh k f passes history) (g.disk from).log) flush was in
+      let done = put-any h o shape table fresh k passes history (g.disk from).log secured.state (g.last from) i p t mine secured.keeps secured.mirrors step.sends.there step.under_way step.sends.none puts (step.sends.call.rises told) step.put k' step.next step.at in
       flusher-as flusher (Some i) flush
-      (secured-as o table fresh k' k' (Some i) passes' (slice_set passes i (after_meta p t)) history (g.disk to).log ((g.disk from).log ++ Issue (ticket_id t) t.first (put_sector step.put ∷ []) ∷ []) refl step.sends.after
-      (tale.0.log ∙ ap (λ (kind : Kind). (g.disk from).log ++ meta_entry kind t (put_sector step.put ∷ []) ∷ []) step.kind) done)
+      (secured-on k' k' r' (with_pass i (after_meta p t) (requests shape fresh passes history.log.entries)) (g.disk to).log ((g.disk from).log ++ Issue (ticket_id t) t.first (put_sector step.put ∷ []) ∷ []) refl step.sends.after
+      ((step.sends.call.takes.told told).log ∙ ap (λ (kind : Kind). (g.disk from).log ++ meta_entry kind t (put_sector step.put ∷ []) ∷ []) step.kind) done)

@@ -5,7 +5,6 @@ use Rattle.vd_law.specs.declared.entry.CallId.{CallId}
 use Rattle.vd_law.specs.Entries.{Issue, Entry}
 use Rattle.vd_format.specs.declared.header.Header.{Header}
 use Rattle.vd_format.specs.Layouts.{chunks_of, slots_start, map_start}
-use Rattle.vd_table.specs.Tables.{TableState}
 use Rattle.vd_image.specs.Log.{Covers}
 use Rattle.vd_image.specs.Image.{IsApart}
 use Rattle.vd_crash.specs.facts.Safe.{Opening, NumberedEntry}
@@ -24,7 +23,7 @@ use Rattle.vd_keeper.specs.Moves.{HasPutDue}
 use Rattle.vd_keeper.proofs.Flushed.{is-possible}
 use Rattle.vd_passes.specs.declared.shape.Shape.{Shape}
 use Rattle.vd_passes.specs.declared.pass.Pass.{Pass}
-use Rattle.vd_safety.specs.Mirrors.{IsOfHeader}
+use Rattle.vd_safety.specs.Mirrors.{CoreState, IsOfHeader}
 use Rattle.vd_safety.proofs.Records.{by-header}
 use Rattle.vd_safety.proofs.Updates.{some-inj}
 use Rattle.vd_safety.proofs.Stepping.{IsFlushing}
@@ -64,10 +63,11 @@ pub puts-possible : (k : KeeperState) → IsKeeping k → k.stage ≡ Puts → I
 puts-possible k kept is = is-possible k kept (λ e. puts-rest (sym is ∙ e)) (λ e. puts-broken (sym is ∙ e))
 
 -- something is due where nothing is in flight
-pub puts-due : {h : Header} {o : Opening} {shape : Shape} {table : TableState} {fresh : List Bool} {k : KeeperState} {passes : List Pass} {last : ℕ} (i : ℕ) (p : Pass) → IsFlushing h o shape table fresh k (Some i) passes last
-    → slice_get passes i ≡ Some p → p.ticket ≡ None → k.stage ≡ Puts → HasPutDue k
-puts-due {h} {o} {shape} {table} {fresh} {k} i p around there none is =
-    let w = around.attended.working i refl in
+pub puts-due : {h : Header} {o : Opening} {shape : Shape} {c : CoreState} {last : ℕ} (i : ℕ) (p : Pass) → IsFlushing h o shape c last → c.flusher ≡ Some i
+    → slice_get c.passes i ≡ Some p → p.ticket ≡ None → c.keeping.stage ≡ Puts → HasPutDue c.keeping
+puts-due {c = c} i p around flush there none is =
+    let k = c.keeping in
+    let w = around.attended.working i flush in
     let same : w.0 ≡ p = some-inj (sym w.1 ∙ there) in
     let own : IsAtStage k.stage k p = subst (λ (q : Pass). IsAtStage k.stage k q) same w.2 in
     let here : IsAtStage Puts k p = subst (λ (x : Stage). IsAtStage x k p) is own in

@@ -27,8 +27,9 @@ use Rattle.vd_passes.specs.declared.pass.Fault.TheVariants as fault
 use Rattle.vd_passes.specs.Standings.{standing}
 use Rattle.vd_passes.specs.Places.{place_of}
 use Rattle.vd_passes.specs.Passes.{call_id, IsAsHistorySays, IsRequestOf, after_reply, answer_by}
+use Rattle.vd_passes.specs.Requests.{RequestState, requests}
 use Rattle.vd_passes.specs.Steps.{IsAt, Replies}
-use Rattle.vd_safety.specs.Mirrors.{IsFlightOf, Mirrors, HasSafeMirror}
+use Rattle.vd_safety.specs.Mirrors.{core_state, IsFlightOf, Mirrors, HasSafeMirror}
 use Rattle.vd_safety.proofs.Updates.{some-inj, numbered-at, updated, is-updated}
 use Rattle.vd_safety.proofs.Surroundings.{Surroundings}
 use Rattle.vd_safety.proofs.Flying.{flight-of}
@@ -57,16 +58,16 @@ not-fine (fault.Store ticket) done is = cc
 not-fine (fault.Base ticket) done is = cc
 not-fine (fault.Worn generation) done is = cc
 
-module _ {h : Header} {o : Opening} {shape : Shape} {table : TableState} {fresh : List Bool} {k : KeeperState} {flusher : Option ℕ} {passes passes' : List Pass} {history : HistoryState} {base : List Sector} {last i : ℕ} {log : List Entry} {answer : Answer}
-    (history' : HistoryState) (around : Surroundings h o shape table fresh k flusher passes history.log.entries base last) (at : IsAt passes i (λ p. p.phase ≡ Ready))
-    (step : Replies answer i passes passes' history.log.entries history'.log.entries) (numbers : history'.numbers ≡ history.numbers ++ length log ∷ []) (secured : HasSafeMirror o table fresh k flusher passes history log) where
+module _ {h : Header} {o : Opening} {shape shape' : Shape} {table : TableState} {fresh fresh' : List Bool} {k : KeeperState} {flusher : Option ℕ} {passes passes' : List Pass} {history : HistoryState} {base : List Sector} {last i : ℕ} {log : List Entry} {answer : Answer}
+    (history' : HistoryState) (around : Surroundings h o shape (core_state table fresh k flusher passes history) base last) (at : IsAt passes i (λ p. p.phase ≡ Ready))
+    (step : Replies answer i (requests shape fresh passes history.log.entries) (requests shape' fresh' passes' history'.log.entries)) (numbers : history'.numbers ≡ history.numbers ++ length log ∷ []) (secured : HasSafeMirror o (core_state table fresh k flusher passes history) log) where
   abbrev s : State
   s = secured.state
 
   abbrev p : Pass
   p = step.pass
 
-  mirrors : Mirrors o table fresh k flusher passes history log s
+  mirrors : Mirrors o (core_state table fresh k flusher passes history) log s
   mirrors = secured.mirrors
 
   ready : p.phase ≡ Ready
@@ -87,17 +88,17 @@ module _ {h : Header} {o : Opening} {shape : Shape} {table : TableState} {fresh 
 
   history-after : (x : Answer) → answer ≡ x → IsHistory history' (s.history ++ entry_now s.log (Reply (call_id i p) x) ∷ [])
   history-after x is = history-more history history' s.history s.log log (Reply (call_id i p) x) (was-history o table fresh k flusher passes history log s mirrors) mirrors.log_is
-      (step.event ∙ ap (λ (y : Answer). history.log.entries ++ Reply (call_id i p) y ∷ []) is) numbers
+      (ap (λ (r : RequestState). r.entries) step.after ∙ ap (λ (y : Answer). history.log.entries ++ Reply (call_id i p) y ∷ []) is) numbers
 
   abbrev passes-after : List Pass
   passes-after = slice_set passes i (after_reply p)
 
   -- the reply is no good answer of a flush
-  noted : (x : Answer) → answer ≡ x → s.flights i ≡ NoFlight → ((id : CallId) (a n : ℕ) → Stands s.history a n (Ask id Flush) → Reply (call_id i p) x ≡ Reply id Fine → ⊥) → HasSafeMirror o table fresh k flusher passes-after history' log
+  noted : (x : Answer) → answer ≡ x → s.flights i ≡ NoFlight → ((id : CallId) (a n : ℕ) → Stands s.history a n (Ask id Flush) → Reply (call_id i p) x ≡ Reply id Fine → ⊥) → HasSafeMirror o (core_state table fresh k flusher passes-after history') log
   noted x is was none = moved-bare around secured i p (after_reply p) step.there not-issuing not-flushing was refl history' log s.log (s.history ++ entry_now s.log (Reply (call_id i p) x) ∷ []) mirrors.log_is (history-after x is)
       (notes o s (Reply (call_id i p) x) tt none secured.keeps)
 
-  replies : (why : Option Fault) → answer ≡ answer_by why p.done → IsFlightOf Ready why i p (s.flights i) → HasSafeMirror o table fresh k flusher passes-after history' log
+  replies : (why : Option Fault) → answer ≡ answer_by why p.done → IsFlightOf Ready why i p (s.flights i) → HasSafeMirror o (core_state table fresh k flusher passes-after history') log
   replies None is (inl owes) =
       moved around secured i p (after_reply p) step.there not-issuing not-flushing table history' log s.log (s.history ++ entry_now s.log (Reply (call_id i p) Fine) ∷ []) s.memory.index.table (updated s.flights i NoFlight) NoFlight
       mirrors.log_is (history-after Fine is) mirrors.storage (is-updated s.flights i NoFlight) refl
@@ -117,5 +118,5 @@ module _ {h : Header} {o : Opening} {shape : Shape} {table : TableState} {fresh 
           cc
   replies (Some why) is none = noted (answer_by (Some why) p.done) is none (λ id a n stands same. not-fine why p.done (let e : answer_by (Some why) p.done ≡ Fine = cc in e))
 
-  pub reply-secured : HasSafeMirror o table fresh k flusher passes' history' log
-  reply-secured = subst (λ (ps : List Pass). HasSafeMirror o table fresh k flusher ps history' log) (sym step.after) (replies p.fault step.is (flight-of passes s.flights i p Ready mirrors.flights step.there ready))
+  pub reply-secured : HasSafeMirror o (core_state table fresh' k flusher passes' history') log
+  reply-secured = subst (λ (r : RequestState). HasSafeMirror o (core_state table r.fresh k flusher r.passes history') log) (sym step.after) (replies p.fault step.is (flight-of passes s.flights i p Ready mirrors.flights step.there ready))

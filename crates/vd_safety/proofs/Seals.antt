@@ -28,15 +28,16 @@ use Rattle.vd_passes.specs.declared.shape.Shape.{Shape}
 use Rattle.vd_passes.specs.declared.pass.Pass.{Pass}
 use Rattle.vd_passes.specs.declared.pass.Phase.TheVariants.{Flushing}
 use Rattle.vd_passes.specs.Passes.{call_id, after_flush}
-use Rattle.vd_safety.specs.Mirrors.{IsSnapshotOf, bit_of, Mirrors, HasSafeMirror}
+use Rattle.vd_passes.specs.Requests.{RequestState, requests, with_pass}
+use Rattle.vd_safety.specs.Mirrors.{core_state, IsSnapshotOf, bit_of, Mirrors, HasSafeMirror}
 use Rattle.vd_safety.proofs.Updates.{updated, is-updated}
 use Rattle.vd_safety.proofs.Flying.{is_bare, flights-set, idle-flight}
 use Rattle.vd_safety.proofs.Records.{by-header}
 use Rattle.vd_safety.proofs.Marked.{chunk-inside}
 use Rattle.vd_safety.proofs.Heads.{next-generation}
 use Rattle.vd_safety.proofs.Putting.{same-chunks}
-use Rattle.vd_safety.proofs.Stepping.{IsFlushing, flusher-is, keeps-at, stage-at, pending-after, secured-as}
-use Rattle.vd_machine.specs.Flushing.{SealsFlush}
+use Rattle.vd_safety.proofs.Stepping.{IsFlushing, flusher-is, keeps-at, stage-at, pending-after, secured-on}
+use Rattle.vd_machine.specs.Flushing.{meta_state, SealsFlush}
 
 -- the header after it
 plain-header : (w : way.Way) (h : Header) → is_recycle w ≡ false → next_header w h ≡ h
@@ -49,7 +50,7 @@ tracked-after w h t e = ap (λ (x : way.Way). (next_header x h).tracked) (sym e)
 
 -- A core whose pass has its flush behind it.
 module _ (h : Header) (o : Opening) (shape : Shape) (table : TableState) (fresh : List Bool) (k : KeeperState) (passes : List Pass) (history : HistoryState) (log : List Entry) (s : State) (last i : ℕ) (p : Pass)
-    (around : IsFlushing h o shape table fresh k (Some i) passes last) (was : KeepsCrashSafety o s) (mirrors : Mirrors o table fresh k (Some i) passes history log s)
+    (around : IsFlushing h o shape (core_state table fresh k (Some i) passes history) last) (was : KeepsCrashSafety o s) (mirrors : Mirrors o (core_state table fresh k (Some i) passes history) log s)
     (there : slice_get passes i ≡ Some p) (flushes : p.phase ≡ Flushing) (serves : p.flush ≡ true) (none : p.ticket ≡ None) (seals : k.stage ≡ Seals) where
   abbrev p' : Pass
   p' = after_flush p None
@@ -107,10 +108,10 @@ module _ (h : Header) (o : Opening) (shape : Shape) (table : TableState) (fresh 
   over : (generation tracked : ℕ) (sure : Bool) (tried : ℕ → Bool) (cursor a n reach : ℕ)
       → KeepsCrashSafety o (state s.log s.history (sealed_memory s.memory generation tracked sure tried cursor (left reach)) s.marked (updated s.flights i (Answering (call_id i p) a n)) Resting)
       → generation ≡ (after_seal k).header.generation → tracked ≡ (after_seal k).header.tracked → sure ≡ (after_seal k).sure → ((b : ℕ) → tried b ≡ false) → cursor ≡ (after_seal k).next
-      → HasSafeMirror o table fresh (after_seal k) None (slice_set passes i p') history log
+      → HasSafeMirror o (core_state table fresh (after_seal k) None (slice_set passes i p') history) log
   over generation tracked sure tried cursor a n reach after generation_is tracked_is sure_is tried_is cursor_is =
       let new : ℕ → Flight = updated s.flights i (Answering (call_id i p) a n) in
-      let mine : Mirrors o table fresh (after_seal k) None (slice_set passes i p') history log (state s.log s.history (sealed_memory s.memory generation tracked sure tried cursor (left reach)) s.marked new Resting) = record {
+      let mine : Mirrors o (core_state table fresh (after_seal k) None (slice_set passes i p') history) log (state s.log s.history (sealed_memory s.memory generation tracked sure tried cursor (left reach)) s.marked new Resting) = record {
         log_is = mirrors.log_is;
         history_is = mirrors.history_is;
         many = mirrors.many;
@@ -134,7 +135,7 @@ module _ (h : Header) (o : Opening) (shape : Shape) (table : TableState) (fresh 
       record { state = _; keeps = after; mirrors = mine }
 
   -- by records, or with nothing
-  sealed-plain : k.head ≡ false → HasSafeMirror o table fresh (after_seal k) None (slice_set passes i p') history log
+  sealed-plain : k.head ≡ false → HasSafeMirror o (core_state table fresh (after_seal k) None (slice_set passes i p') history) log
   sealed-plain head =
       let now = stage-at Seals false None i p o k (Some i) passes s.stage refl there seals head none mirrors.stage in
       let w = now.1 in
@@ -166,7 +167,7 @@ module _ (h : Header) (o : Opening) (shape : Shape) (table : TableState) (fresh 
       kept-next n x e = ap (λ (b : Bool). cond {A = ℕ} b 0 n) e
 
   -- of a recycle
-  sealed-recycle : k.head ≡ true → HasSafeMirror o table fresh (after_seal k) None (slice_set passes i p') history log
+  sealed-recycle : k.head ≡ true → HasSafeMirror o (core_state table fresh (after_seal k) None (slice_set passes i p') history) log
   sealed-recycle head =
       let now = stage-at Seals true None i p o k (Some i) passes s.stage refl there seals head none mirrors.stage in
       let w = now.1 in
@@ -188,16 +189,17 @@ module _ (h : Header) (o : Opening) (shape : Shape) (table : TableState) (fresh 
       first-next : (n : ℕ) (x : Bool) → x ≡ true → cond {A = ℕ} x 0 n ≡ 0
       first-next n x e = ap (λ (b : Bool). cond {A = ℕ} b 0 n) e
 
-  sealed-any : HasSafeMirror o table fresh (after_seal k) None (slice_set passes i p') history log
+  sealed-any : HasSafeMirror o (core_state table fresh (after_seal k) None (slice_set passes i p') history) log
   sealed-any = elim (cases_Bool k.head) [ inl head ↦ sealed-recycle head | inr plain ↦ sealed-plain plain ]
 
-module _ {h : Header} {o : Opening} {shape : Shape} {table : TableState} {fresh : List Bool} {k k' : KeeperState} {flusher : Option ℕ} {passes passes' : List Pass} {history : HistoryState} {log : List Entry} {last i : ℕ} where
-  pub seal-secured : IsFlushing h o shape table fresh k flusher passes last → SealsFlush i k k' passes passes' → k.stage ≡ Seals → HasSafeMirror o table fresh k flusher passes history log → HasSafeMirror o table fresh k' None passes' history log
+module _ {h : Header} {o : Opening} {shape : Shape} {table : TableState} {fresh : List Bool} {k k' : KeeperState} {flusher : Option ℕ} {passes : List Pass} {history : HistoryState} {r' : RequestState} {log : List Entry} {last i : ℕ} where
+  pub seal-secured : IsFlushing h o shape (core_state table fresh k flusher passes history) last → SealsFlush i (meta_state k (requests shape fresh passes history.log.entries)) (meta_state k' r') → k.stage ≡ Seals
+      → HasSafeMirror o (core_state table fresh k flusher passes history) log → HasSafeMirror o (core_state table r'.fresh k' None r'.passes history) log
   seal-secured around step seals was =
       let p : Pass = step.ends.pass in
       let flushes : p.phase ≡ Flushing = elim step.ends.cause [ inl is ↦ is.1 | inr worn ↦ absurd (let e = worn.1 in cc) ] in
       let flush : flusher ≡ Some i = flusher-is around i p step.ends.there flushes in
-      let mine : IsFlushing h o shape table fresh k (Some i) passes last = subst (λ (f : Option ℕ). IsFlushing h o shape table fresh k f passes last) flush around in
-      let secured : HasSafeMirror o table fresh k (Some i) passes history log = subst (λ (f : Option ℕ). HasSafeMirror o table fresh k f passes history log) flush was in
-      secured-as o table fresh k' (after_seal k) None passes' (slice_set passes i (after_flush p None)) history log log step.after step.ends.after refl
+      let mine : IsFlushing h o shape (core_state table fresh k (Some i) passes history) last = subst (λ (f : Option ℕ). IsFlushing h o shape (core_state table fresh k f passes history) last) flush around in
+      let secured : HasSafeMirror o (core_state table fresh k (Some i) passes history) log = subst (λ (f : Option ℕ). HasSafeMirror o (core_state table fresh k f passes history) log) flush was in
+      secured-on k' (after_seal k) r' (with_pass i (after_flush p None) (requests shape fresh passes history.log.entries)) log log step.after step.ends.after refl
       (sealed-any h o shape table fresh k passes history log secured.state last i p mine secured.keeps secured.mirrors step.ends.there flushes step.ends.serves step.ends.none seals)

@@ -26,7 +26,7 @@ use Rattle.vd_passes.specs.declared.shape.Shape.{Shape}
 use Rattle.vd_passes.specs.declared.pass.Pass.{Pass}
 use Rattle.vd_passes.specs.declared.pass.Phase.TheVariants.{Flushing}
 use Rattle.vd_machine.specs.Attending.{IsAtStage}
-use Rattle.vd_safety.specs.Mirrors.{bit_of, IsBegunOf, IsStageOf, Mirrors, HasSafeMirror}
+use Rattle.vd_safety.specs.Mirrors.{CoreState, core_state, bit_of, IsBegunOf, IsStageOf, Mirrors, HasSafeMirror}
 use Rattle.vd_safety.proofs.Updates.{some-inj}
 use Rattle.vd_safety.proofs.Flying.{is_bare}
 use Rattle.vd_safety.proofs.Puts.{none-marked}
@@ -48,10 +48,11 @@ out-at Syncs k p t has (put, marked, inr out) = inr (inr (refl, (let same : out.
 out-at Seals k p t has is = absurd cc
 out-at Broken k p t has is = absurd is
 
-pub what-is-out : {h : Header} {o : Opening} {shape : Shape} {table : TableState} {fresh : List Bool} {k : KeeperState} {passes : List Pass} {last : ℕ} (i : ℕ) (p : Pass) (t : Ticket) → IsFlushing h o shape table fresh k (Some i) passes last
-    → slice_get passes i ≡ Some p → p.ticket ≡ Some t → IsOutAt k.stage t
-what-is-out {h} {o} {shape} {table} {fresh} {k} i p t around there has =
-    let w = around.attended.working i refl in
+pub what-is-out : {h : Header} {o : Opening} {shape : Shape} {c : CoreState} {last : ℕ} (i : ℕ) (p : Pass) (t : Ticket) → IsFlushing h o shape c last → c.flusher ≡ Some i
+    → slice_get c.passes i ≡ Some p → p.ticket ≡ Some t → IsOutAt c.keeping.stage t
+what-is-out {c = c} i p t around flush there has =
+    let k = c.keeping in
+    let w = around.attended.working i flush in
     let same : w.0 ≡ p = some-inj (sym w.1 ∙ there) in
     out-at k.stage k p t has (subst (λ (q : Pass). IsAtStage k.stage k q) same w.2)
 
@@ -153,13 +154,13 @@ begun-after k st puts was not_data unput all_logged recycled = record {
 -- ---- the core after the end of a call
 
 module _ (o : Opening) (table : TableState) (fresh : List Bool) (k : KeeperState) (passes : List Pass) (history : HistoryState) (log : List Entry) (s : State) (i : ℕ) (p : Pass)
-    (mirrors : Mirrors o table fresh k (Some i) passes history log s) (there : slice_get passes i ≡ Some p) (flushes : p.phase ≡ Flushing) where
+    (mirrors : Mirrors o (core_state table fresh k (Some i) passes history) log s) (there : slice_get passes i ≡ Some p) (flushes : p.phase ≡ Flushing) where
   abbrev pub p' : Pass
   p' = record p { ticket = None }
 
   pub ended : (k' : KeeperState) (e : Entry) (marked : ℕ → Bool) (stage : core.Stage) → KeepsCrashSafety o (state (s.log ++ e ∷ []) s.history s.memory marked s.flights stage) → IsSameDisk k k' → k'.sure ≡ k.sure → k'.next ≡ k.next → k'.way ≡ k.way
       → ((c : ℕ) → c < o.layout.chunks → marked (o.layout.map_at c) ≡ (bit_of k'.marked (c / 32) || bit_of k'.put (c / 32))) → IsStageOf (Some i) o k' (slice_set passes i p') stage
-      → HasSafeMirror o table fresh k' (Some i) (slice_set passes i p') history (log ++ e ∷ [])
+      → HasSafeMirror o (core_state table fresh k' (Some i) (slice_set passes i p') history) (log ++ e ∷ [])
   ended k' e marked stage after same sure next way marks stage_is =
       let bare : is_bare p.phase ≡ true = ap is_bare flushes in
       let mine = moved o table fresh k (Some i) passes history log s mirrors i p p' there k' (Some i) (log ++ e ∷ []) (s.log ++ e ∷ []) s.memory.index.sure s.memory.index.cursor marked stage bare

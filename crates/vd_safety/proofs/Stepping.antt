@@ -22,22 +22,22 @@ use Rattle.vd_passes.specs.declared.pass.Pass.{Pass}
 use Rattle.vd_passes.specs.declared.pass.Phase.TheVariants.{Flushing, Issuing}
 use Rattle.vd_passes.specs.declared.shape.Shape.{Shape}
 use Rattle.vd_passes.specs.Passes.{call_id}
+use Rattle.vd_passes.specs.Requests.{RequestState}
 use Rattle.vd_machine.specs.Attending.{KeeperAgrees}
-use Rattle.vd_safety.specs.Mirrors.{bit_of, AreFlightsOf, IsPendingOf, IsBegunOf, IsStageBy, IsStageOf, Mirrors, HasSafeMirror, IsOfHeader}
+use Rattle.vd_safety.specs.Mirrors.{CoreState, core_state, bit_of, AreFlightsOf, IsPendingOf, IsBegunOf, IsStageBy, IsStageOf, Mirrors, HasSafeMirror, IsOfHeader}
 use Rattle.vd_safety.proofs.Updates.{some-inj, get-set-same, updated-same}
 use Rattle.vd_safety.proofs.Flying.{is_bare, flying, idle-flight, flight-bare, flights-set, pending-other}
 
 -- What is known of a core beside what it keeps of crashes: the keeper is one of this disk and is attended, each chunk that a flush
 -- writes has storage, and each ticket was given before.
-pub record IsFlushing (h : Header) (o : Opening) (shape : Shape) (table : TableState) (fresh : List Bool) (k : KeeperState) (flusher : Option ℕ) (passes : List Pass) (last : ℕ) : Type 0 where
-  pub header : IsOfHeader h o k
-  pub attended : KeeperAgrees shape table fresh passes flusher k
-  pub storage : HasStorage table k
-  pub numbers : (i : ℕ) (p : Pass) (t : Ticket) → slice_get passes i ≡ Some p → p.ticket ≡ Some t → t.number ≤ last
+pub record IsFlushing (h : Header) (o : Opening) (shape : Shape) (c : CoreState) (last : ℕ) : Type 0 where
+  pub header : IsOfHeader h o c.keeping
+  pub attended : KeeperAgrees shape c.table c.fresh c.passes c.flusher c.keeping
+  pub storage : HasStorage c.table c.keeping
+  pub numbers : (i : ℕ) (p : Pass) (t : Ticket) → slice_get c.passes i ≡ Some p → p.ticket ≡ Some t → t.number ≤ last
 
 -- the pass that flushes is the one that is remembered
-pub flusher-is : {h : Header} {o : Opening} {shape : Shape} {table : TableState} {fresh : List Bool} {k : KeeperState} {flusher : Option ℕ} {passes : List Pass} {last : ℕ} → IsFlushing h o shape table fresh k flusher passes last
-    → (i : ℕ) (p : Pass) → slice_get passes i ≡ Some p → p.phase ≡ Flushing → flusher ≡ Some i
+pub flusher-is : {h : Header} {o : Opening} {shape : Shape} {c : CoreState} {last : ℕ} → IsFlushing h o shape c last → (i : ℕ) (p : Pass) → slice_get c.passes i ≡ Some p → p.phase ≡ Flushing → c.flusher ≡ Some i
 flusher-is around i p there is = (around.attended.flushing i p there).0 is
 
 -- the stage of the flush of this pass
@@ -82,7 +82,7 @@ pub record IsSameDisk (k k' : KeeperState) : Type 0 where
 
 -- A step of a flush before its end: the pass has nothing else in flight before and after.
 module _ (o : Opening) (table : TableState) (fresh : List Bool) (k : KeeperState) (flusher : Option ℕ) (passes : List Pass) (history : HistoryState) (log : List Entry) (s : State)
-    (was : Mirrors o table fresh k flusher passes history log s) (i : ℕ) (p p' : Pass) (there : slice_get passes i ≡ Some p) where
+    (was : Mirrors o (core_state table fresh k flusher passes history) log s) (i : ℕ) (p p' : Pass) (there : slice_get passes i ≡ Some p) where
   not-issuing : is_bare p.phase ≡ true → p.phase ≡ Issuing → ⊥
   not-issuing bare is = (let e : is_bare Issuing ≡ true = ap is_bare (sym is) ∙ bare in cc)
 
@@ -95,7 +95,7 @@ module _ (o : Opening) (table : TableState) (fresh : List Bool) (k : KeeperState
   pub moved : (k' : KeeperState) (flusher' : Option ℕ) (log' store : List Entry) (sure : Bool) (cursor : ℕ) (marked : ℕ → Bool) (stage : Stage) → is_bare p.phase ≡ true
       → store ≡ log' → IsSameDisk k k' → sure ≡ k'.sure → cursor ≡ k'.next → ((t : ℕ) → k'.way ≡ ways.Recycle t → t ≡ k.header.tracked)
       → ((c : ℕ) → c < o.layout.chunks → marked (o.layout.map_at c) ≡ (bit_of k'.marked (c / 32) || bit_of k'.put (c / 32))) → AreFlightsOf (slice_set passes i p') s.flights → IsStageOf flusher' o k' (slice_set passes i p') stage
-      → Mirrors o table fresh k' flusher' (slice_set passes i p') history log' (state store s.history (with_index s.memory sure s.memory.index.tried cursor) marked s.flights stage)
+      → Mirrors o (core_state table fresh k' flusher' (slice_set passes i p') history) log' (state store s.history (with_index s.memory sure s.memory.index.tried cursor) marked s.flights stage)
   moved k' flusher' log' store sure cursor marked stage bare told same sure_is cursor_is tracked marks flights stage_is = record {
     log_is = told;
     history_is = was.history_is;
@@ -120,10 +120,16 @@ module _ (o : Opening) (table : TableState) (fresh : List Bool) (k : KeeperState
 
 -- the same by equal parts
 pub secured-as : (o : Opening) (table : TableState) (fresh : List Bool) (k a : KeeperState) (flusher : Option ℕ) (passes b : List Pass) (history : HistoryState) (log c : List Entry) → k ≡ a → passes ≡ b → log ≡ c
-    → HasSafeMirror o table fresh a flusher b history c → HasSafeMirror o table fresh k flusher passes history log
+    → HasSafeMirror o (core_state table fresh a flusher b history) c → HasSafeMirror o (core_state table fresh k flusher passes history) log
 secured-as o table fresh k a flusher passes b history log c keeper passes_are log_is is =
-    subst (λ (l : List Entry). HasSafeMirror o table fresh k flusher passes history l) (sym log_is)
-    (subst (λ (ps : List Pass). HasSafeMirror o table fresh k flusher ps history c) (sym passes_are) (subst (λ (x : KeeperState). HasSafeMirror o table fresh x flusher b history c) (sym keeper) is))
+    subst (λ (l : List Entry). HasSafeMirror o (core_state table fresh k flusher passes history) l) (sym log_is)
+    (subst (λ (ps : List Pass). HasSafeMirror o (core_state table fresh k flusher ps history) c) (sym passes_are) (subst (λ (x : KeeperState). HasSafeMirror o (core_state table fresh x flusher b history) c) (sym keeper) is))
 
-pub flusher-as : {o : Opening} {table : TableState} {fresh : List Bool} {k : KeeperState} {passes : List Pass} {history : HistoryState} {log : List Entry} (flusher new : Option ℕ) → flusher ≡ new → HasSafeMirror o table fresh k new passes history log → HasSafeMirror o table fresh k flusher passes history log
-flusher-as {o} {table} {fresh} {k} {passes} {history} {log} flusher new is secured = subst (λ (f : Option ℕ). HasSafeMirror o table fresh k f passes history log) (sym is) secured
+-- and by an equal value of what its passes work on
+pub secured-on : {o : Opening} {table : TableState} {flusher : Option ℕ} {history : HistoryState} (k a : KeeperState) (r b : RequestState) (log c : List Entry) → k ≡ a → r ≡ b → log ≡ c
+    → HasSafeMirror o (core_state table b.fresh a flusher b.passes history) c → HasSafeMirror o (core_state table r.fresh k flusher r.passes history) log
+secured-on {o} {table} {flusher} {history} k a r b log c keeper requests_are log_is is =
+    subst (λ (q : RequestState). HasSafeMirror o (core_state table q.fresh k flusher q.passes history) log) (sym requests_are) (secured-as o table b.fresh k a flusher b.passes b.passes history log c keeper refl log_is is)
+
+pub flusher-as : {o : Opening} {table : TableState} {fresh : List Bool} {k : KeeperState} {passes : List Pass} {history : HistoryState} {log : List Entry} (flusher new : Option ℕ) → flusher ≡ new → HasSafeMirror o (core_state table fresh k new passes history) log → HasSafeMirror o (core_state table fresh k flusher passes history) log
+flusher-as {o} {table} {fresh} {k} {passes} {history} {log} flusher new is secured = subst (λ (f : Option ℕ). HasSafeMirror o (core_state table fresh k f passes history) log) (sym is) secured

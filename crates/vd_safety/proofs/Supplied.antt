@@ -29,7 +29,7 @@ use Rattle.vd_passes.specs.declared.pass.Phase.TheVariants.{Idle, Asked as HasAs
 use Rattle.vd_passes.specs.Passes.{IsAsHistorySays, IsRequestOf, call_id}
 use Rattle.vd_passes.specs.Standings.{standing}
 use Rattle.vd_machine.specs.Attending.{KeeperAgrees}
-use Rattle.vd_safety.specs.Mirrors.{bit_of, storage_given, IsOfHeader, HasSafeMirror}
+use Rattle.vd_safety.specs.Mirrors.{core_state, bit_of, storage_given, IsOfHeader, HasSafeMirror}
 use Rattle.vd_safety.proofs.Records.{by-header}
 use Rattle.vd_safety.proofs.Surroundings.{Surroundings}
 use Rattle.vd_safety.proofs.Stepping.{IsFlushing}
@@ -64,7 +64,7 @@ given-there None p is = absurd cc
 
 module _ {h : Header} {o : Opening} {shape : Shape} {table : TableState} {fresh : List Bool} {k : KeeperState} {flusher : Option ℕ} {passes : List Pass} {history : HistoryState} {log : List Entry} where
   -- each chunk that a flush writes has storage
-  pub storage-kept : IsOfHeader h o k → KeeperAgrees shape table fresh passes flusher k → HasSafeMirror o table fresh k flusher passes history log → HasStorage table k
+  pub storage-kept : IsOfHeader h o k → KeeperAgrees shape table fresh passes flusher k → HasSafeMirror o (core_state table fresh k flusher passes history) log → HasStorage table k
   storage-kept of attended was =
       let s : State = was.state in
       let mirrors = was.mirrors in
@@ -87,7 +87,7 @@ module _ {h : Header} {o : Opening} {shape : Shape} {table : TableState} {fresh 
       }
 
   -- the side facts of a flush
-  pub flushing-of : {base : List Sector} {last : ℕ} → Surroundings h o shape table fresh k flusher passes history.log.entries base last → HasSafeMirror o table fresh k flusher passes history log → IsFlushing h o shape table fresh k flusher passes last
+  pub flushing-of : {base : List Sector} {last : ℕ} → Surroundings h o shape (core_state table fresh k flusher passes history) base last → HasSafeMirror o (core_state table fresh k flusher passes history) log → IsFlushing h o shape (core_state table fresh k flusher passes history) last
   flushing-of around was = record { header = around.header; attended = around.attended; storage = storage-kept around.header around.attended was; numbers = around.numbers }
 
 -- ---- the ask of a flush

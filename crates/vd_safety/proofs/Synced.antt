@@ -31,7 +31,7 @@ use Rattle.vd_keeper.proofs.Rows.{get_or-nothing}
 use Rattle.vd_passes.specs.declared.pass.Pass.{Pass}
 use Rattle.vd_passes.specs.declared.pass.Phase.TheVariants.{Flushing}
 use Rattle.vd_passes.specs.Passes.{call_id}
-use Rattle.vd_safety.specs.Mirrors.{bit_of, IsOfHeader, IsBegunOf, IsProgressOf, Nowhere, IsStageBy, IsStageOf, Mirrors, HasSafeMirror}
+use Rattle.vd_safety.specs.Mirrors.{core_state, bit_of, IsOfHeader, IsBegunOf, IsProgressOf, Nowhere, IsStageBy, IsStageOf, Mirrors, HasSafeMirror}
 use Rattle.vd_safety.proofs.Marked.{chunk-among}
 use Rattle.vd_safety.proofs.Begins.{page-of}
 use Rattle.vd_safety.proofs.Putting.{same-chunks, puts-data, puts-syncs}
@@ -40,7 +40,7 @@ use Rattle.vd_safety.proofs.Settling.{neither-stage, sync-recycled, sync-either,
 
 -- A core where a flush of what was put has succeeded.
 module _ (h : Header) (o : Opening) (table : TableState) (fresh : List Bool) (k : KeeperState) (passes : List Pass) (history : HistoryState) (log : List Entry) (s : State) (i : ℕ) (p : Pass) (t : Ticket)
-    (of : IsOfHeader h o k) (kept : IsKeeping k) (was : KeepsCrashSafety o s) (mirrors : Mirrors o table fresh k (Some i) passes history log s)
+    (of : IsOfHeader h o k) (kept : IsKeeping k) (was : KeepsCrashSafety o s) (mirrors : Mirrors o (core_state table fresh k (Some i) passes history) log s)
     (there : slice_get passes i ≡ Some p) (flushes : p.phase ≡ Flushing) (has : p.ticket ≡ Some t) (syncs : k.stage ≡ Syncs) where
   abbrev p' : Pass
   p' = record p { ticket = None }
@@ -144,7 +144,7 @@ module _ (h : Header) (o : Opening) (table : TableState) (fresh : List Bool) (k 
     stage-after (ways.Recycle u) e =
         stage-by Puts false None i p p' o k' passes stage there (ap (after_sync k.head) e ∙ ap (λ (b : Bool). after_sync b (ways.Recycle u)) plain) plain refl (begun now.0) (now.1.0, now.1.1, now.1.2, after, so_far, refl)
 
-    put-synced : HasSafeMirror o table fresh k' (Some i) (slice_set passes i p') history (log ++ entry ∷ [])
+    put-synced : HasSafeMirror o (core_state table fresh k' (Some i) (slice_set passes i p') history) (log ++ entry ∷ [])
     put-synced =
         let syncing : core.Stage = Syncing (call_id i p) now.1.0 now.1.1 now.1.2 pr now.1.3 (ticket_id t) in
         let done = primitive_keeps o (state s.log s.history s.memory s.marked s.flights syncing) (state (s.log ++ entry ∷ []) s.history s.memory marked s.flights stage)
@@ -154,7 +154,7 @@ module _ (h : Header) (o : Opening) (table : TableState) (fresh : List Bool) (k 
 
   -- ---- of the header
 
-  head-synced : k.head ≡ true → HasSafeMirror o table fresh k' (Some i) (slice_set passes i p') history (log ++ entry ∷ [])
+  head-synced : k.head ≡ true → HasSafeMirror o (core_state table fresh k' (Some i) (slice_set passes i p') history) (log ++ entry ∷ [])
   head-synced head =
       let now = stage-at Syncs true (Some t) i p o k (Some i) passes s.stage refl there syncs head has mirrors.stage in
       let w = now.1 in
@@ -181,5 +181,5 @@ module _ (h : Header) (o : Opening) (table : TableState) (fresh : List Bool) (k 
       (λ c within. mirrors.marked c within ∙ ap (λ (x : Bool). bit_of k.marked (c / 32) || x) (now.0.unput (inr (inr head)) (c / 32) ∙ sym (unput (c / 32))))
       (stage-by Seals true None i p p' o k' passes stage there seals head refl (begun now.0) (w.0, w.1, w.2, w.3, w.4, w.5, w.6, so_far, refl))
 
-  pub any-synced : HasSafeMirror o table fresh k' (Some i) (slice_set passes i (record p { ticket = None })) history (log ++ Reply (ticket_id t) Fine ∷ [])
+  pub any-synced : HasSafeMirror o (core_state table fresh k' (Some i) (slice_set passes i (record p { ticket = None })) history) (log ++ Reply (ticket_id t) Fine ∷ [])
   any-synced = elim (cases_Bool k.head) [ inl head ↦ head-synced head | inr plain ↦ put-synced plain ]

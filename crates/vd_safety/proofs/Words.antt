@@ -35,7 +35,7 @@ use Rattle.vd_crash.specs.primitives.Keeping.{KeepsCrashSafety}
 use Rattle.vd_crash.proofs.primitives.Keeping.{kept_is_safe}
 use Rattle.vd_keeper.specs.Keeping.{KeeperState}
 use Rattle.vd_passes.specs.declared.pass.Pass.{Pass}
-use Rattle.vd_safety.specs.Mirrors.{opening_for, HasSafeMirror}
+use Rattle.vd_safety.specs.Mirrors.{core_state, opening_for, HasSafeMirror}
 use Rattle.vd_format.specs.Background.{base_at, zero_sector}
 
 -- ---- the numbers rise
@@ -53,13 +53,13 @@ kept_numbers : (o : Opening) (s : State) → KeepsCrashSafety o s → AreNumbers
 unfolding KeepsCrashSafety
 kept_numbers o s kept = kept.core.holds.facts.numbers
 
-pub secured-rising : (o : Opening) (table : TableState) (fresh : List Bool) (k : KeeperState) (flusher : Option ℕ) (passes : List Pass) (history : HistoryState) (log : List Entry) → HasSafeMirror o table fresh k flusher passes history log → IsRising o.opened history.numbers
+pub secured-rising : (o : Opening) (table : TableState) (fresh : List Bool) (k : KeeperState) (flusher : Option ℕ) (passes : List Pass) (history : HistoryState) (log : List Entry) → HasSafeMirror o (core_state table fresh k flusher passes history) log → IsRising o.opened history.numbers
 secured-rising o table fresh k flusher passes history log secured =
     let numbers : AreNumbers o.opened secured.state.log secured.state.memory.discards.drops (numbered history.log.entries history.numbers) = subst (λ (h : List NumberedEntry). AreNumbers o.opened secured.state.log secured.state.memory.discards.drops h) secured.mirrors.history_is (kept_numbers o secured.state secured.keeps) in
     rising_from history.log.entries history.numbers o.opened secured.mirrors.many numbers.since_opening numbers.never_fall
 
 -- no number is above the log's length
-pub secured-numbers : (o : Opening) (table : TableState) (fresh : List Bool) (k : KeeperState) (flusher : Option ℕ) (passes : List Pass) (history : HistoryState) (log : List Entry) → HasSafeMirror o table fresh k flusher passes history log
+pub secured-numbers : (o : Opening) (table : TableState) (fresh : List Bool) (k : KeeperState) (flusher : Option ℕ) (passes : List Pass) (history : HistoryState) (log : List Entry) → HasSafeMirror o (core_state table fresh k flusher passes history) log
     → (j n : ℕ) (e : Entry) → StandsAs (numbered history.log.entries history.numbers) j n e → n ≤ length log
 secured-numbers o table fresh k flusher passes history log secured =
     let numbers : AreNumbers o.opened log secured.state.memory.discards.drops (numbered history.log.entries history.numbers) = subst (λ (l : List Entry). AreNumbers o.opened l secured.state.memory.discards.drops (numbered history.log.entries history.numbers)) secured.mirrors.log_is
@@ -69,7 +69,7 @@ secured-numbers o table fresh k flusher passes history log secured =
 -- ---- safety
 
 -- in the laws' own words
-pub secured-is-safe : (o : Opening) (table : TableState) (fresh : List Bool) (k : KeeperState) (flusher : Option ℕ) (passes : List Pass) (history : HistoryState) (log : List Entry) → HasSafeMirror o table fresh k flusher passes history log
+pub secured-is-safe : (o : Opening) (table : TableState) (fresh : List Bool) (k : KeeperState) (flusher : Option ℕ) (passes : List Pass) (history : HistoryState) (log : List Entry) → HasSafeMirror o (core_state table fresh k flusher passes history) log
     → IsSafe o log (numbered history.log.entries history.numbers)
 secured-is-safe o table fresh k flusher passes history log secured =
     subst (λ (l : List Entry). IsSafe o l (numbered history.log.entries history.numbers)) secured.mirrors.log_is
@@ -77,7 +77,7 @@ secured-is-safe o table fresh k flusher passes history log secured =
 
 -- A core that is secured is crash safe.
 pub secured-safe : (h : Header) (entries : List MapEntry) (before : List Sector) (held : ℕ → Sector) (base disk : List Sector) (opened : ℕ) (table : TableState) (fresh : List Bool) (k : KeeperState) (flusher : Option ℕ) (passes : List Pass) (history : HistoryState) (log : List Entry)
-    → HasSafeMirror (opening_for h entries before held base disk opened) table fresh k flusher passes history log → opened ≡ history.opened → length disk ≡ h.size → ((i a : ℕ) (v : Sector) → Writes log i a v → a < length before)
+    → HasSafeMirror (opening_for h entries before held base disk opened) (core_state table fresh k flusher passes history) log → opened ≡ history.opened → length disk ≡ h.size → ((i a : ℕ) (v : Sector) → Writes log i a v → a < length before)
     → IsCrashSafe (format_of h) (layout_of h) (base_at zero_sector base) zero_sector before log disk history
 secured-safe h entries before held base disk opened table fresh k flusher passes history log secured same size inside =
     let o : Opening = opening_for h entries before held base disk opened in

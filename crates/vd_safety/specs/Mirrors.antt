@@ -160,35 +160,51 @@ abbrev pub IsStageOf : (flusher : Option ℕ) → (o : Opening) → (k : KeeperS
 IsStageOf None o k passes s = s ≡ Resting
 IsStageOf (Some i) o k passes s = IsBegunOf k × ((p : Pass) × (slice_get passes i ≡ Some p) × IsStageBy k.stage k.head p.ticket o k (call_id i p) s)
 
--- The state that the laws speak of is that of this core.
-pub record Mirrors (o : Opening) (table : TableState) (fresh : List Bool) (k : KeeperState) (flusher : Option ℕ) (passes : List Pass) (history : HistoryState) (log : List Entry) (s : State) : Type 0 where
+-- The core as these laws see it.
+pub record CoreState : Type 0 where
+  -- the storage chunk of each chunk
+  pub table : TableState
+  -- the blocks that are local now
+  pub fresh : List Bool
+  -- what every image says, and what a flush is to write
+  pub keeping : KeeperState
+  -- the pass whose flush is under way
+  pub flusher : Option ℕ
+  pub passes : List Pass
+  pub history : HistoryState
+
+abbrev pub core_state : TableState → (fresh : List Bool) → KeeperState → (flusher : Option ℕ) → List Pass → HistoryState → CoreState
+core_state table fresh k flusher passes history = record { table = table; fresh = fresh; keeping = k; flusher = flusher; passes = passes; history = history }
+
+-- The state that the laws speak of is that of this core, by the store's log.
+pub record Mirrors (o : Opening) (c : CoreState) (log : List Entry) (s : State) : Type 0 where
   pub log_is : s.log ≡ log
-  pub history_is : s.history ≡ numbered history.log.entries history.numbers
-  pub many : length history.numbers ≡ length history.log.entries
-  pub generation : s.memory.index.generation ≡ k.header.generation
-  pub tracked : s.memory.index.tracked ≡ k.header.tracked
-  pub sure : s.memory.index.sure ≡ k.sure
-  pub storage : (c : ℕ) → s.memory.index.table c ≡ storage_of table c
-  pub stale : (b : ℕ) → s.memory.index.stale b ≡ bit_of k.stale b
-  pub off_base : (b : ℕ) → s.memory.index.off_base b ≡ bit_of k.stale b
+  pub history_is : s.history ≡ numbered c.history.log.entries c.history.numbers
+  pub many : length c.history.numbers ≡ length c.history.log.entries
+  pub generation : s.memory.index.generation ≡ c.keeping.header.generation
+  pub tracked : s.memory.index.tracked ≡ c.keeping.header.tracked
+  pub sure : s.memory.index.sure ≡ c.keeping.sure
+  pub storage : (chunk : ℕ) → s.memory.index.table chunk ≡ storage_of c.table chunk
+  pub stale : (b : ℕ) → s.memory.index.stale b ≡ bit_of c.keeping.stale b
+  pub off_base : (b : ℕ) → s.memory.index.off_base b ≡ bit_of c.keeping.stale b
   pub undiscarded : IsUndiscarded s.memory.discards
   -- no header lowers the tracked part
   pub tried : (b : ℕ) → s.memory.index.tried b ≡ false
-  pub same_tracked : (t : ℕ) → k.way ≡ ways.Recycle t → t ≡ k.header.tracked
-  pub cursor : s.memory.index.cursor ≡ k.next
-  pub fresh_is : (b : ℕ) → s.memory.fresh b ≡ bit_of fresh b
-  pub owed : (b : ℕ) → s.memory.owed b ≡ bit_of k.owed b
-  pub pending : (b : ℕ) → IsPendingOf fresh passes b (s.memory.pending b)
+  pub same_tracked : (t : ℕ) → c.keeping.way ≡ ways.Recycle t → t ≡ c.keeping.header.tracked
+  pub cursor : s.memory.index.cursor ≡ c.keeping.next
+  pub fresh_is : (b : ℕ) → s.memory.fresh b ≡ bit_of c.fresh b
+  pub owed : (b : ℕ) → s.memory.owed b ≡ bit_of c.keeping.owed b
+  pub pending : (b : ℕ) → IsPendingOf c.fresh c.passes b (s.memory.pending b)
   -- a sector of the map is marked while a put of it isn't flushed too
-  pub marked : (c : ℕ) → c < o.layout.chunks → s.marked (o.layout.map_at c) ≡ (bit_of k.marked (c / 32) || bit_of k.put (c / 32))
-  pub flights : AreFlightsOf passes s.flights
-  pub stage : IsStageOf flusher o k passes s.stage
+  pub marked : (chunk : ℕ) → chunk < o.layout.chunks → s.marked (o.layout.map_at chunk) ≡ (bit_of c.keeping.marked (chunk / 32) || bit_of c.keeping.put (chunk / 32))
+  pub flights : AreFlightsOf c.passes s.flights
+  pub stage : IsStageOf c.flusher o c.keeping c.passes s.stage
 
 -- What a core keeps so that every image that a crash may leave is safe, from this opening on.
-pub record HasSafeMirror (o : Opening) (table : TableState) (fresh : List Bool) (k : KeeperState) (flusher : Option ℕ) (passes : List Pass) (history : HistoryState) (log : List Entry) : Type 0 where
+pub record HasSafeMirror (o : Opening) (c : CoreState) (log : List Entry) : Type 0 where
   pub state : State
   pub keeps : KeepsCrashSafety o state
-  pub mirrors : Mirrors o table fresh k flusher passes history log state
+  pub mirrors : Mirrors o c log state
 
 -- What the laws are told of the disk's numbers: they are those of one header, but for its generation.
 pub record IsOfHeader (h : Header) (o : Opening) (k : KeeperState) : Type 0 where

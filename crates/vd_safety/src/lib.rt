@@ -16,20 +16,22 @@ ghost use Rattle.vd_format.specs.Layouts.{store_need};
 ghost use Rattle.vd_crash.specs.facts.CrashSafe.{IsCrashSafe};
 ghost use Rattle.vd_keeper.specs.Keeping.{KeeperState};
 ghost use Rattle.vd_passes.specs.declared.pass.Pass.{Pass};
-ghost use Rattle.vd_safety.specs.Mirrors.{opening_for, HasSafeMirror};
+ghost use Rattle.vd_safety.specs.Mirrors.{CoreState, opening_for, HasSafeMirror};
 ghost use Rattle.vd_safety.specs.Held.{IsHeldNow, IsOpenAgain};
 ghost use Rattle.vd_format.specs.Background.{zero_sector, base_at};
 
 /// A core that is secured is crash safe, over what its store tells and the history as it is kept.
 pub fn secured_is_crash_safe()
-    ensures { (h : Header) (entries : List MapEntry) (before : List Sector) (held : ℕ → Sector) (base disk : List Sector) (opened : ℕ) (table : TableState) (fresh : List Bool) (k : KeeperState) (flusher : Option ℕ) (passes : List Pass) (history : HistoryState) (log : List Entry)
-        → HasSafeMirror (opening_for h entries before held base disk opened) table fresh k flusher passes history log → opened ≡ history.opened → length disk ≡ h.size → ((i a : ℕ) (v : Sector) → Writes log i a v → a < length before)
-        → IsCrashSafe (format_of h) (layout_of h) (base_at zero_sector base) zero_sector before log disk history }
+    ensures { (h : Header) (entries : List MapEntry) (before : List Sector) (held : ℕ → Sector) (base disk : List Sector) (core : CoreState) (log : List Entry)
+        → HasSafeMirror (opening_for h entries before held base disk core.history.opened) core log → length disk ≡ h.size
+        → ((i a : ℕ) (v : Sector) → Writes log i a v → a < length before)
+        → IsCrashSafe (format_of h) (layout_of h) (base_at zero_sector base) zero_sector before log disk core.history }
 {}
 
 /// What the store of a secured core holds, and each image that a crash leaves of it, opens again, with a disk that the history allows.
 pub fn secured_image_opens_again()
-    ensures { (h : Header) (entries : List MapEntry) (before : List Sector) (held : ℕ → Sector) (base disk : List Sector) (opened : ℕ) (table : TableState) (fresh : List Bool) (k : KeeperState) (flusher : Option ℕ) (passes : List Pass) (history : HistoryState) (log : List Entry) (now : List Sector)
-        → HasSafeMirror (opening_for h entries before held base disk opened) table fresh k flusher passes history log → IsHeldNow before log now → h.version ≡ this_version → store_need h ≤ length now → length disk ≡ h.size
-        → IsOpenAgain h base disk history.log.entries now }
+    ensures { (h : Header) (entries : List MapEntry) (before : List Sector) (held : ℕ → Sector) (base disk : List Sector) (opened : ℕ)
+        (core : CoreState) (log : List Entry) (now : List Sector) → HasSafeMirror (opening_for h entries before held base disk opened) core log
+        → IsHeldNow before log now → h.version ≡ this_version → store_need h ≤ length now → length disk ≡ h.size
+        → IsOpenAgain h base disk core.history.log.entries now }
 {}

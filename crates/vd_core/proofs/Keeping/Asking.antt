@@ -1,5 +1,5 @@
 -- Asking a request keeps a core.
-use Rattle.std.proofs.Common.{◌≡◌, ℕ, ◌+◌, ◌-◌, ◌*◌, ◌^◌, false, List, length, refl, sym, ◌∙◌, ap, inl, inr, arith, Option, Some, slice_get}
+use Rattle.std.proofs.Common.{◌≡◌, ℕ, ◌+◌, ◌-◌, ◌*◌, ◌^◌, false, List, [], length, refl, sym, ◌∙◌, ap, inl, inr, arith, Option, Some, slice_get}
 use Rattle.vd_device.specs.declared.store.Store as store
 use Rattle.vd_device.specs.declared.base.Base as base
 use Rattle.vd_replay.specs.declared.state.State.{State}
@@ -16,6 +16,7 @@ use Rattle.vd_passes.specs.declared.pass.Pass.{Pass}
 use Rattle.vd_passes.specs.declared.pass.Phase.TheVariants.{Idle}
 use Rattle.vd_passes.specs.Places.{place_of, ArePlaces, KeepsPlaces}
 use Rattle.vd_passes.specs.Passes.{has_region, after_ask}
+use Rattle.vd_passes.specs.Requests.{RequestState}
 use Rattle.vd_passes.specs.Steps.{IsAt}
 use Rattle.vd_passes.proofs.Lists.{some-inj}
 use Rattle.vd_passes.proofs.PlacesGiven.{are-places}
@@ -76,23 +77,23 @@ module _ {shape : Shape} {state : State} {regions : List (Option Region)} {passe
   module _ {needed free : ℕ} {table' : TableState} {passes' : List Pass} {history' : HistoryState} {spare' : Room} (ends : EndsFull request needed free (g.events s) i (ask_state shape state.table passes history spare) (ask_state shape table' passes' history' spare')) where
     full-roomy : RoomIsReserved shape.block passes' history' spare' (g.events s)
     full-roomy =
-        let step = ends.asks in let none = none-left step.there in
+        let step = ends.asks [] in let none = none-left step.there in
         let few = need-events shape.block request in let told = need-sectors shape.block request in
         let a = ends.enough.0 in let b = ends.enough.1 in
         let c = ap (λ (r : Room). r.events) ends.left_after in let d = ap (λ (r : Room). r.sectors) ends.left_after in
-        room-shared kept.roomy i step.there step.after ends.extends (room-idle shape.block _ (idle-is step.there) none.0 none.1) spare'
+        room-shared kept.roomy i step.there (ap (λ (r : RequestState). r.passes) step.after) ends.extends (room-idle shape.block _ (idle-is step.there) none.0 none.1) spare'
         (omega (arith, few, a, c)) (omega (arith, told, b, d)) (omega arith) (omega arith)
 
   -- The request is asked.
   module _ {table' : TableState} {passes' : List Pass} {history' : HistoryState} {spare' : Room} (ends : EndsAsked request (g.events s) i (ask_state shape state.table passes history spare) (ask_state shape table' passes' history' spare')) where
     asked-roomy : RoomIsReserved shape.block passes' history' spare' (g.events s)
     asked-roomy =
-        let step = ends.asks in let none = none-left step.there in
+        let step = ends.asks [] in let none = none-left step.there in
         let few = need-events shape.block request in let told = need-sectors shape.block request in
         let a = ends.enough.0 in let b = ends.enough.1 in
         let c = ap (λ (r : Room). r.events) ends.left_after in let d = ap (λ (r : Room). r.sectors) ends.left_after in
         let own = asked-has step.pass request ((request_room shape.block request).events - 1) ((request_room shape.block request).sectors - length (asked_content request)) in
-        room-shared kept.roomy i step.there step.after ends.extends (room-asked shape.block step.pass request _ _ (omega (arith, few)) (omega (arith, told))) spare'
+        room-shared kept.roomy i step.there (ap (λ (r : RequestState). r.passes) step.after) ends.extends (room-asked shape.block step.pass request _ _ (omega (arith, few)) (omega (arith, told))) spare'
         (omega (arith, few, a, c, own.0, none.0)) (omega (arith, told, b, d, own.1, none.1)) (omega (arith, own.2)) (omega arith)
 
     asked-extends : KeepsPlaces (place_of shape state.table.chunks) (place_of shape table'.chunks)
@@ -106,14 +107,14 @@ module _ {shape : Shape} {state : State} {regions : List (Option Region)} {passe
 
     asked-kept : IsSoundCore g h shape (record state { table = table' }) regions passes' history' spare' s b
     asked-kept = record {
-      coherent = asks-coherent request kept.coherent at (some-sectors request size) inside asked-extends asked-places asked-placed ends.asks;
-      held = kept.held ∙ sym (asks-regions none-held ends.asks);
+      coherent = asks-coherent request kept.coherent at (some-sectors request size) inside asked-extends asked-places asked-placed (ends.asks state.fresh.bits);
+      held = kept.held ∙ sym (asks-regions none-held (ends.asks state.fresh.bits));
       roomy = asked-roomy;
       storage = claim-storage kept.storage ends.claims;
     }
 
     asked-told : IsFaithfullyKept g h shape state passes history s b → IsFaithfullyKept g h shape (record state { table = table' }) passes' history' s b
-    asked-told told = told-here told ends.extends.opened (λ start faithful. asks-faithful request kept.coherent at (some-sectors request size) inside asked-extends asked-places asked-placed ends.asks faithful)
+    asked-told told = told-here told ends.extends.opened (λ start faithful. asks-faithful request kept.coherent at (some-sectors request size) inside asked-extends asked-places asked-placed (ends.asks state.fresh.bits) faithful)
 
 -- Only a write is answered Full.
 module _ {shape : Shape} {state : State} {regions : List (Option Region)} {passes : List Pass} {history : HistoryState} {spare : Room} {S B : Type 0} {g : store.Ghosts S} {h : base.Ghosts B} {s : S} {b : B} where
@@ -123,8 +124,8 @@ module _ {shape : Shape} {state : State} {regions : List (Option Region)} {passe
       → IsSoundCore g h shape (record state { table = table' }) regions passes' history' spare' s b
   full-kept (Read first count) i kept at size inside {needed} ends = let none : needed ≡ 0 = ends.needed_is in absurd (let less = ends.fewer in omega arith)
   full-kept (Write first content) i kept at size inside ends = record {
-    coherent = rw ends.table_same (asks_full-coherent first content kept.coherent at size.0 inside ends.asks);
-    held = kept.held ∙ sym (asks_full-regions (none-held (Write first content) i kept at size inside) ends.asks);
+    coherent = rw ends.table_same (asks_full-coherent first content kept.coherent at size.0 inside (ends.asks state.fresh.bits));
+    held = kept.held ∙ sym (asks_full-regions (none-held (Write first content) i kept at size inside) (ends.asks state.fresh.bits));
     roomy = full-roomy (Write first content) i kept at size inside ends;
     storage = rw ends.table_same kept.storage;
   }
@@ -136,7 +137,7 @@ module _ {shape : Shape} {state : State} {regions : List (Option Region)} {passe
       → IsFaithfullyKept g h shape state passes history s b → IsFaithfullyKept g h shape (record state { table = table' }) passes' history' s b
   full-told (Read first count) i kept at size inside {needed} ends told = let none : needed ≡ 0 = ends.needed_is in absurd (let less = ends.fewer in omega arith)
   full-told (Write first content) i kept at size inside ends told =
-      told-here told ends.extends.opened (λ start faithful. rw ends.table_same (asks_full-faithful first content kept.coherent at size.0 inside ends.asks faithful))
+      told-here told ends.extends.opened (λ start faithful. rw ends.table_same (asks_full-faithful first content kept.coherent at size.0 inside (ends.asks state.fresh.bits) faithful))
   full-told Flush i kept at size inside {needed} ends told = let none : needed ≡ 0 = ends.needed_is in absurd (let less = ends.fewer in omega arith)
 
 -- However an ask ends.

@@ -1,21 +1,21 @@
 -- A core whose passes are idle has nothing in flight.
-use Rattle.std.proofs.Common.{◌≡◌, ℕ, Bool, List, [], Option, Some, slice_get, subst}
-use Rattle.vd_law.specs.Entries.{Entry}
-use Rattle.vd_device.specs.declared.ticket.Ticket.{Ticket}
-use Rattle.vd_passes.specs.declared.shape.Shape.{Shape}
+use Rattle.std.proofs.Common.{◌≡◌, ℕ, [], Option, Some, slice_get, subst}
+use Rattle.vd_device.specs.declared.store.Store as store
+use Rattle.vd_device.specs.declared.base.Base as base
 use Rattle.vd_passes.specs.declared.pass.Pass.{Pass}
 use Rattle.vd_passes.specs.declared.pass.Phase.TheVariants.{Idle}
 use Rattle.vd_passes.specs.Passes.{HasNone, HasInFlight}
+use Rattle.vd_passes.specs.Requests.{RequestState}
 use Rattle.vd_passes.specs.Coherent.{IsCoherent}
 use Rattle.vd_core.proofs.Keeping.Opening.{no-tickets, no-fetches}
 
-module _ {shape : Shape} {fresh : List Bool} {places : ℕ → Option ℕ} {passes : List Pass} {history : List Entry} {sectors depth base_sectors base_depth : ℕ} {flight base_flight : List Ticket → Type 0}
-    (co : IsCoherent shape fresh places passes history sectors depth base_sectors base_depth flight base_flight) (idle : (i : ℕ) (p : Pass) → slice_get passes i ≡ Some p → p.phase ≡ Idle) where
-  none : (i : ℕ) (p : Pass) → slice_get passes i ≡ Some p → HasNone p
-  none i p there = subst (λ ph. HasInFlight ph shape fresh p) (idle i p there) (co.each i p there).ticket
+module _ {r : RequestState} {places : ℕ → Option ℕ} {S B : Type 0} {g : store.Ghosts S} {h : base.Ghosts B} {s : S} {b : B}
+    (co : IsCoherent g h r places s b) (idle : (i : ℕ) (p : Pass) → slice_get r.passes i ≡ Some p → p.phase ≡ Idle) where
+  none : (i : ℕ) (p : Pass) → slice_get r.passes i ≡ Some p → HasNone p
+  none i p there = subst (λ ph. HasInFlight ph r.shape r.fresh p) (idle i p there) (co.each i p there).ticket
 
-  pub none-in-flight : flight []
-  none-in-flight = subst flight (no-tickets passes (λ i p there. (none i p there).ticket)) co.flight
+  pub none-in-flight : g.flight s []
+  none-in-flight = subst (g.flight s) (no-tickets r.passes (λ i p there. (none i p there).ticket)) co.flight
 
-  pub none-in-base-flight : base_flight []
-  none-in-base-flight = subst base_flight (no-fetches passes (λ i p there. (none i p there).fetch)) co.base_flight
+  pub none-in-base-flight : h.flight b []
+  none-in-base-flight = subst (h.flight b) (no-fetches r.passes (λ i p there. (none i p there).fetch)) co.base_flight

@@ -4,6 +4,7 @@ use Rattle.std.specs.Prelude.{IsSome}
 use Rattle.vd_device.specs.declared.base.Base as base
 use Rattle.vd_law.specs.Histories.{HistoryState}
 use Rattle.vd_law.specs.declared.entry.Room.{Room}
+use Rattle.vd_law.specs.Entries.{Entry}
 use Rattle.vd_device.specs.declared.ticket.Ticket.{Ticket}
 use Rattle.vd_device.specs.declared.ticket.Kind.TheVariants.{Write, Flush}
 use Rattle.vd_device.specs.declared.settled.Settled.{Settled}
@@ -30,6 +31,7 @@ use Rattle.vd_passes.specs.declared.shape.Shape.{Shape}
 use Rattle.vd_passes.specs.declared.pass.Pass.{Pass}
 use Rattle.vd_passes.specs.declared.pass.Phase.TheVariants.{Idle, Asked as HasAsked, Flushing}
 use Rattle.vd_passes.specs.Passes.{HasInFlight, IsMeta}
+use Rattle.vd_passes.specs.Requests.{requests}
 use Rattle.vd_passes.specs.Steps.{IsAt}
 use Rattle.vd_passes.proofs.Flushing.{store-place, flushing-ticket, below-free}
 use Rattle.vd_passes.proofs.PlacesGiven.{place-from}
@@ -75,7 +77,7 @@ module _ {shape : Shape} {state : State} {regions : List (Option Region)} {passe
     pub between-calls : IsAt passes i IsBetween → IsAt passes i (λ p. (p.phase ≡ Flushing) × (p.flush ≡ true) × (p.ticket ≡ None))
     between-calls at = (at.0, at.1, (at.2.phase, (kept.coherent.each i at.0 at.1).flush at.2.phase, at.2.none))
 
-    pub away-call : IsAt passes i IsAway → IsAt passes i (λ p. (p.phase ≡ Flushing) × IsWaitingMeta (g.flight s) p)
+    pub away-call : IsAt passes i IsAway → IsAt passes i (λ p. (p.phase ≡ Flushing) × IsWaitingMeta g s p)
     away-call at =
         let u = some-of at.0.ticket at.2.some in
         let its = flushing-ticket kept.coherent i (at.0, at.1, at.2.phase) u.0 u.1 in
@@ -133,10 +135,10 @@ put-stale k k' put (Next_record sector way bytes) = refl
 put-stale k k' put (Next_page page sector way lowest bytes) = refl
 put-stale k k' put (Next_header sector way none bytes) = refl
 
-module _ {shape : Shape} {state : State} {passes passes' : List Pass} {flusher : Option ℕ} {k k' : KeeperState} {i : ℕ} where
+module _ {shape : Shape} {state : State} {passes passes' : List Pass} {entries entries' : List Entry} {flusher : Option ℕ} {k k' : KeeperState} {i : ℕ} where
   module _ {S : Type 0} {g : store.Ghosts S} {s s' : S} where
     pub begin-recorded : {route : Route} → MetadataAgrees shape state passes flusher k → flusher ≡ None → ((t : ℕ) → route ≡ Recycle t → t ≡ k.header.tracked)
-        → BeginsFlush g route shape i (meta_state k passes) (meta_state k' passes') s s' → MetadataAgrees shape state passes' (Some i) k'
+        → BeginsFlush g route i (meta_state k (requests shape state.fresh.bits passes entries)) (meta_state k' (requests shape state.fresh.bits passes' entries')) s s' → MetadataAgrees shape state passes' (Some i) k'
     begin-recorded {route} was none tracked step = record {
       attended = begin-attended (subst (λ (o : Option ℕ). KeeperAgrees shape state.table state.fresh.bits passes o k) none was.attended) tracked step;
       sized = was.sized;
@@ -144,7 +146,7 @@ module _ {shape : Shape} {state : State} {passes passes' : List Pass} {flusher :
       stale = same-marks shape state.map (ap (λ (x : KeeperState). x.stale) step.after) was.stale;
     }
 
-    pub put-recorded : MetadataAgrees shape state passes flusher k → k.stage ≡ Puts → PutsNext g state.table shape i (meta_state k passes) (meta_state k' passes') s s' → MetadataAgrees shape state passes' flusher k'
+    pub put-recorded : MetadataAgrees shape state passes flusher k → k.stage ≡ Puts → PutsNext g state.table i (meta_state k (requests shape state.fresh.bits passes entries)) (meta_state k' (requests shape state.fresh.bits passes' entries')) s s' → MetadataAgrees shape state passes' flusher k'
     put-recorded was stage step = record {
       attended = put-attended was.attended stage step;
       sized = was.sized;
@@ -152,7 +154,7 @@ module _ {shape : Shape} {state : State} {passes passes' : List Pass} {flusher :
       stale = same-marks shape state.map (put-stale k k' step.put step.next) was.stale;
     }
 
-    pub settle_meta-recorded : (answer : Settled) → MetadataAgrees shape state passes flusher k → SettlesMeta g answer i (meta_state k passes) (meta_state k' passes') s s' → MetadataAgrees shape state passes' (flusher_after answer flusher) k'
+    pub settle_meta-recorded : (answer : Settled) → MetadataAgrees shape state passes flusher k → SettlesMeta g answer i (meta_state k (requests shape state.fresh.bits passes entries)) (meta_state k' (requests shape state.fresh.bits passes' entries')) s s' → MetadataAgrees shape state passes' (flusher_after answer flusher) k'
     settle_meta-recorded settled.Done was step = record {
       attended = done-attended was.attended step;
       sized = was.sized;
@@ -162,7 +164,7 @@ module _ {shape : Shape} {state : State} {passes passes' : List Pass} {flusher :
     settle_meta-recorded (settled.NotYet same) was step = record { attended = late-attended was.attended step; sized = was.sized; same = ap (λ (x : KeeperState). geometry_of x.header) step.after ∙ was.same; stale = same-marks shape state.map (ap (λ (x : KeeperState). x.stale) step.after) was.stale }
     settle_meta-recorded (settled.Failed number) was step = record { attended = failed-attended was.attended step; sized = was.sized; same = ap (λ (x : KeeperState). geometry_of x.header) step.after ∙ was.same; stale = same-marks shape state.map (ap (λ (x : KeeperState). x.stale) step.after) was.stale }
 
-  pub seal-recorded : MetadataAgrees shape state passes flusher k → k.stage ≡ Seals → SealsFlush i k k' passes passes' → MetadataAgrees shape state passes' None k'
+  pub seal-recorded : MetadataAgrees shape state passes flusher k → k.stage ≡ Seals → SealsFlush i (meta_state k (requests shape state.fresh.bits passes entries)) (meta_state k' (requests shape state.fresh.bits passes' entries')) → MetadataAgrees shape state passes' None k'
   seal-recorded was stage step = record {
     attended = seal-attended was.attended stage step;
     sized = was.sized;
@@ -170,12 +172,12 @@ module _ {shape : Shape} {state : State} {passes passes' : List Pass} {flusher :
     stale = same-marks shape state.map (ap (λ (x : KeeperState). x.stale) step.after) (more-marks shape state.map k.stale k.snapshot was.stale);
   }
 
-module _ {shape : Shape} {state : State} {passes passes' : List Pass} {flusher : Option ℕ} {k : KeeperState} {i : ℕ} where
+module _ {shape : Shape} {state : State} {passes passes' : List Pass} {entries entries' : List Entry} {flusher : Option ℕ} {k : KeeperState} {i : ℕ} where
   pub sync-recorded : {S : Type 0} {g : store.Ghosts S} {s s' : S} → MetadataAgrees shape state passes flusher k → k.stage ≡ Syncs
-      → SyncsPuts g shape i passes passes' s s' → MetadataAgrees shape state passes' flusher k
+      → SyncsPuts g i (requests shape state.fresh.bits passes entries) (requests shape state.fresh.bits passes' entries') s s' → MetadataAgrees shape state passes' flusher k
   sync-recorded was stage step = record { attended = sync-attended was.attended stage step; sized = was.sized; same = was.same; stale = was.stale }
 
-  pub worn-recorded : {route : Route} → MetadataAgrees shape state passes flusher k → IsWornOut route i k passes passes' → MetadataAgrees shape state passes' flusher k
+  pub worn-recorded : {route : Route} → MetadataAgrees shape state passes flusher k → IsWornOut route i k (requests shape state.fresh.bits passes entries) (requests shape state.fresh.bits passes' entries') → MetadataAgrees shape state passes' flusher k
   worn-recorded was step = record { attended = worn-attended was.attended step; sized = was.sized; same = was.same; stale = was.stale }
 
 pub adopt-recorded : {shape : Shape} {state : State} {passes : List Pass} {flusher : Option ℕ} {k k' : KeeperState} → MetadataAgrees shape state passes flusher k → length state.fresh.bits ≡ blocks_of k.header → k' ≡ after_adopt state.fresh.bits k

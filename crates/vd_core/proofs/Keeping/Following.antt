@@ -5,29 +5,28 @@ use Rattle.vd_law.specs.declared.entry.Room.{Room}
 use Rattle.vd_law.specs.declared.entry.Answer.{Answer}
 use Rattle.vd_law.specs.Entries.{Asked, Entry}
 use Rattle.vd_law.specs.Histories.{HistoryState}
-use Rattle.vd_device.specs.declared.ticket.Ticket.{Ticket}
+use Rattle.vd_device.specs.declared.base.Base as base
 use Rattle.vd_regions.specs.declared.regions.Region.{Region}
 use Rattle.vd_regions.specs.declared.regions.Busy.{Busy}
 use Rattle.vd_table.specs.Tables.{TableState}
 use Rattle.vd_passes.specs.declared.shape.Shape.{Shape}
 use Rattle.vd_passes.specs.declared.pass.Pass.{Pass}
 use Rattle.vd_passes.specs.declared.pass.Phase.TheVariants.{Idle, Asked as HasAsked, Held}
+use Rattle.vd_passes.specs.Requests.{RequestState}
 use Rattle.vd_passes.specs.Steps.{IsAt}
 use Rattle.vd_passes.specs.Following.{IsFollowed}
 use Rattle.vd_passes.proofs.TracingSteps.{enters-followed, fetches-followed, fills-followed, asks-followed, asks_full-followed}
 use Rattle.vd_machine.specs.Asking.{ask_state, AskEnds}
 use Rattle.vd_machine.specs.Entering.{IsKeptOut, EntersBlock}
-use Rattle.vd_machine.specs.Fetching.{FetchesIn}
+use Rattle.vd_machine.specs.Fetching.{FetchesBlock}
 
-module _ (shape : Shape) (chunks : List (Option ℕ)) (regions regions' : List (Option Region)) {passes passes' : List Pass} {history : List Entry} {numbers : List ℕ} {log : List Entry}
-    (followed : IsFollowed passes history numbers log) (i : ℕ) where
-  pub enter-followed : IsAt passes i (λ p. p.phase ≡ HasAsked) → (result : Result Unit Busy) → IfErr result (λ busy. IsKeptOut shape regions regions' i passes passes' busy.by)
-      → OnOk result (EntersBlock shape chunks regions regions' i passes passes') → IsFollowed passes' history numbers log
-  enter-followed at (Ok v) busy entered = enters-followed followed at entered.enters
-  enter-followed at (Err busy) out entered = rw out.passes_same followed
+pub enter-followed : (chunks : List (Option ℕ)) (regions regions' : List (Option Region)) (r r' : RequestState) {numbers : List ℕ} {log : List Entry} → IsFollowed r.passes r.entries numbers log → (i : ℕ) → IsAt r.passes i (λ p. p.phase ≡ HasAsked)
+    → (result : Result Unit Busy) → IfErr result (λ busy. IsKeptOut regions regions' i busy.by r r') → OnOk result (EntersBlock chunks regions regions' i r r') → IsFollowed r'.passes r'.entries numbers log
+enter-followed chunks regions regions' r r' followed i at (Ok v) busy entered = enters-followed followed at entered.enters
+enter-followed chunks regions regions' r r' followed i at (Err busy) out entered = rw out.same followed
 
-pub fetch-followed : {shape : Shape} {passes passes' : List Pass} {history : List Entry} {numbers : List ℕ} {log : List Entry} {base_flight base_flight' : List Ticket → Type 0} → IsFollowed passes history numbers log → (i : ℕ) → IsAt passes i (λ p. p.phase ≡ Held)
-    → FetchesIn shape i passes passes' base_flight base_flight' → IsFollowed passes' history numbers log
+pub fetch-followed : {r r' : RequestState} {numbers : List ℕ} {log : List Entry} {B : Type 0} {h : base.Ghosts B} {b b' : B} → IsFollowed r.passes r.entries numbers log → (i : ℕ) → IsAt r.passes i (λ p. p.phase ≡ Held)
+    → FetchesBlock h i r r' b b' → IsFollowed r'.passes r'.entries numbers log
 fetch-followed followed i at (inl f) = fetches-followed followed at f.0
 fetch-followed followed i at (inr z) = fills-followed followed at z.0
 
@@ -40,11 +39,11 @@ pub ask-followed : {result : Option Answer} {request : Asked} {shape : Shape} {i
     → (history' ≡ history) ⊎ (events ≡ length log) → IsFollowed passes' history'.log.entries history'.numbers log
 ask-followed {result} {request} {shape} {i} {table} {table'} {passes} {passes'} {history} {history'} {spare} {spare'} {events} {log} followed at (inl none) running = rw (none.2.passes_same, none.2.history_same) followed
 ask-followed {result} {request} {shape} {i} {table} {table'} {passes} {passes'} {history} {history'} {spare} {spare'} {events} {log} followed at (inr (inl full)) running =
-    asks_full-followed followed events at full.3.asks full.3.extends.numbers
+    asks_full-followed followed events at (full.3.asks []) full.3.extends.numbers
 ask-followed {result} {request} {shape} {i} {table} {table'} {passes} {passes'} {history} {history'} {spare} {spare'} {events} {log} followed at (inr (inr asked)) (inl same) =
-    absurd (longer history.log.entries _ (sym (ap (λ (h : HistoryState). h.log.entries) same) ∙ asked.1.asks.event))
+    absurd (longer history.log.entries _ (sym (ap (λ (h : HistoryState). h.log.entries) same) ∙ ap (λ (r : RequestState). r.entries) (asked.1.asks []).after))
 ask-followed {result} {request} {shape} {i} {table} {table'} {passes} {passes'} {history} {history'} {spare} {spare'} {events} {log} followed at (inr (inr asked)) (inr running) =
-    asks-followed followed asked.1.asks asked.1.extends.numbers running
+    asks-followed followed (asked.1.asks []) asked.1.extends.numbers running
 
 -- no ask changes what the store had told at opening
 pub ask-opened : {result : Option Answer} {request : Asked} {shape : Shape} {i : ℕ} {table table' : TableState} {passes passes' : List Pass} {history history' : HistoryState} {spare spare' : Room} {events : ℕ}

@@ -12,6 +12,7 @@ use Rattle.vd_passes.specs.declared.shape.Shape.{Shape}
 use Rattle.vd_passes.specs.declared.pass.Pass.{Pass}
 use Rattle.vd_passes.specs.declared.pass.Phase.TheVariants.{Held, Filled, Flushing}
 use Rattle.vd_passes.specs.Needs.{sectors_left, pieces_left, events_needed, sectors_needed, HasRoom}
+use Rattle.vd_passes.specs.Requests.{RequestState}
 use Rattle.vd_passes.specs.Steps.{IsAt, HasAskedWrite, Issues}
 use Rattle.vd_passes.proofs.Lists.{some-inj}
 use Rattle.vd_passes.proofs.Needing.{is_before_event, room-issued}
@@ -21,7 +22,7 @@ use Rattle.vd_passes.proofs.Holding.{issues-regions}
 use Rattle.vd_machine.specs.Adding.{AddsEntries}
 use Rattle.vd_core.proofs.Keeping.Devices.{piece-short}
 use Rattle.vd_machine.specs.Issuing.{CanIssue, IsWritable}
-use Rattle.vd_core.specs.Kept.{IsSoundCore, LogAgrees, IsFaithfullyKept}
+use Rattle.vd_core.specs.Kept.{core_requests, IsSoundCore, LogAgrees, IsFaithfullyKept}
 use Rattle.vd_core.proofs.Rooming.{can-add, room-used}
 use Rattle.vd_core.proofs.Keeping.Telling.{told-on}
 
@@ -62,14 +63,14 @@ can-issue {shape} {state} {passes = passes} kept i content at asked =
     let can = can-write-asked kept.coherent i content asked (writing-at passes i at) in
     let p = can.0 in let holding = subst (λ (x : Pass). IsHolding x) (some-inj (sym at.1 ∙ can.1)) (writable-holding at.2) in
     let way = subst (λ (x : Pass). IsWritable shape state.fresh.bits x) (some-inj (sym at.1 ∙ can.1)) at.2 in
-    let piece = can.2.0.piece in let room = kept.roomy.reserved i p can.1 in (
+    let piece = can.2.0.read.piece in let room = kept.roomy.reserved i p can.1 in (
       p,
       can.1,
       record {
         writable = can.2.0;
         inside = let n = piece.no_more in let l = can.2.1 in omega (arith, n, l);
         way = way.way;
-        room = can-add kept.roomy i p can.1 p.piece (holding-events shape.block p room holding) (let n = piece.no_more in let l = holding-sectors shape.block p room holding in omega (arith, n, l)) (piece-short can.2.0.small piece);
+        room = can-add kept.roomy i p can.1 p.piece (holding-events shape.block p room holding) (let n = piece.no_more in let l = holding-sectors shape.block p room holding in omega (arith, n, l)) (piece-short can.2.0.read.small piece);
       },
     )
 
@@ -77,7 +78,7 @@ module _ {shape : Shape} {state : State} {regions : List (Option Region)} {passe
     (kept : IsSoundCore g h shape state regions passes history spare s b)
     (i : ℕ) (content : List Sector) (at : IsAt passes i (IsWritable shape state.fresh.bits)) (asked : HasAskedWrite history.log.entries i content) where
   module _ {passes' : List Pass} {history' : HistoryState} {s' : S}
-      (step : Issues shape state.fresh.bits content i passes passes' history.log.entries history'.log.entries (g.flight s) (g.flight s') (g.tells s) (g.tells s') (g.disk s) (g.disk s') (g.last s) (g.last s')) where
+      (step : Issues g content i (core_requests shape state passes history) (core_requests shape state passes' history') s s') where
     pub issue-kept : IsAt passes i (λ p. AddsEntries (g.events s ∷ []) p.piece history history') → KeepsStore g s s'
         → IsSoundCore g h shape state regions passes' history' spare s' b
     issue-kept extends stays =
@@ -87,13 +88,13 @@ module _ {shape : Shape} {state : State} {regions : List (Option Region)} {passe
         let used = room-issued piece (kept.roomy.reserved i p there) (holding-before p holding) step.ticket step.buffer in
         let more = subst (λ (x : Pass). AddsEntries (g.events s ∷ []) x.piece history history') (some-inj (sym extends.1 ∙ there)) extends.2 in
         record {
-          coherent = rw (stays.counts.sectors, stays.counts.depth) (issues-coherent content kept.coherent (writing-at passes i at) asked step);
+          coherent = issues-coherent content kept.coherent (writing-at passes i at) asked step;
           held = kept.held ∙ sym (issues-regions (at.0, at.1, holding-region at.0 (writable-holding at.2)) step);
-          roomy = room-used kept.roomy i (g.events s') there step.after more used.0 used.1 refl stays.telling.events;
+          roomy = room-used kept.roomy i (g.events s') there (ap (λ (r : RequestState). r.passes) step.after) more used.0 used.1 refl stays.telling.events;
           storage = rw stays.counts.sectors kept.storage;
         }
 
     pub issue-told : history'.opened ≡ history.opened → (g.tells s → LogAgrees passes history (g.disk s)) → (g.tells s → h.tells b → IsFaithfullyKept g h shape state passes history s b)
         → g.tells s' → h.tells b → IsFaithfullyKept g h shape state passes' history' s' b
-    issue-told opened logged was told base_told = let before = step.told_before told in
-        told-on (was before base_told) (logged before) (_, (step.told told).0) opened (λ start faithful. issues-faithful content kept.coherent (writing-at passes i at) asked step (λ b. faithful) told)
+    issue-told opened logged was told base_told = let before = step.call.takes.keeps.told_before told in
+        told-on (was before base_told) (logged before) (_, step.call.takes.told told) opened (λ start faithful. issues-faithful content kept.coherent (writing-at passes i at) asked step (λ b. faithful) told)

@@ -24,6 +24,7 @@ use Rattle.vd_passes.specs.Tracks.{writes}
 use Rattle.vd_passes.specs.Standings.{Standing, standing}
 use Rattle.vd_passes.specs.Places.{IsShape, place_of}
 use Rattle.vd_passes.specs.Passes.{has_region, region_of, ticket_of, tickets_of, fetches_of, writes_in, IsNew, HasInFlight, IsAsHistorySays}
+use Rattle.vd_passes.specs.Requests.{requests}
 use Rattle.vd_passes.specs.Coherent.{IsCoherent}
 use Rattle.vd_regions.specs.declared.regions.Region.{Region}
 use Rattle.vd_passes.proofs.Holding.{region-none}
@@ -123,8 +124,8 @@ one-to-one s whole = record {
       let fits = entry.storage in let is = given.1.2 in let all = whole.sized.storage in omega (arith, fits, is, all);
 }
 
-module _ (s : State) (whole : IsWholeState s) (passes : List Pass) (count sectors depth events base_sectors base_depth : ℕ) (room : Room) (flight base_flight : List Ticket → Type 0)
-    (fits : store_need s.header ≤ sectors) (bounded : sectors < 2 ^ 64) (deep : 128 ≤ depth) (base_deep : 128 ≤ base_depth) (idle : flight []) (base_idle : base_flight [])
+module _ {S B : Type 0} (g : store.Ghosts S) (bg : base.Ghosts B) (x : S) (y : B) (s : State) (whole : IsWholeState s) (passes : List Pass) (count : ℕ) (room : Room)
+    (fits : store_need s.header ≤ g.sectors x) (bounded : g.sectors x < 2 ^ 64) (deep : 128 ≤ g.depth x) (base_deep : 128 ≤ bg.depth y) (idle : g.flight x []) (base_idle : bg.flight y [])
     (few : count ≤ 64) (new : AreNew count s.header.block passes) (counted : room.events < 2 ^ 64) where
   abbrev h : Header
   h = s.header
@@ -133,7 +134,7 @@ module _ (s : State) (whole : IsWholeState s) (passes : List Pass) (count sector
   valid = whole.sized.valid
 
   abbrev shape : Shape
-  shape = disk_shape h base_sectors
+  shape = disk_shape h (bg.sectors y)
 
   abbrev table : TableState
   table = s.table
@@ -144,7 +145,7 @@ module _ (s : State) (whole : IsWholeState s) (passes : List Pass) (count sector
   is-idle : (i : ℕ) (p : Pass) → slice_get passes i ≡ Some p → p.phase ≡ Idle
   is-idle i p there = (new.each i p there).phase
 
-  storage : IsStorage shape table sectors
+  storage : IsStorage shape table (g.sectors x)
   storage = record {
     chunks = λ b inside. let many = whole.sized.table in let less = chunk-inside (blocks_of h) h.chunk b (chunk_within h valid).0 inside in omega arith;
     few = let many = whole.sized.table in let less = div-le_self (blocks_of h + h.chunk - 1) h.chunk in let blocks = div-le_self h.size h.block in
@@ -153,9 +154,9 @@ module _ (s : State) (whole : IsWholeState s) (passes : List Pass) (count sector
     inside = let same : s.table.storage * (h.chunk * h.block) ≡ h.storage * h.chunk * h.block = ap (λ (n : ℕ). n * (h.chunk * h.block)) whole.sized.storage ∙ sym (mul_assoc h.storage h.chunk h.block) in omega (arith, same, fits);
   }
 
-  coherent : IsCoherent shape fresh (place_of shape table.chunks) passes [] sectors depth base_sectors base_depth flight base_flight
+  coherent : IsCoherent g bg (requests shape fresh passes []) (place_of shape table.chunks) x y
   coherent = record {
-    shaped = shaped h sectors base_sectors valid bounded;
+    shaped = shaped h (g.sectors x) (bg.sectors y) valid bounded;
     size = whole.sized.fresh;
     placed = are-places shape table (one-to-one s whole) (let chunk = (chunk_within h valid).0 in omega (arith, chunk)) storage.inside;
     fresh_placed = λ b is. let stored = whole-storage s b whole is in has-place shape table.chunks b stored.0 stored.1;
@@ -165,12 +166,12 @@ module _ (s : State) (whole : IsWholeState s) (passes : List Pass) (count sector
     base_deep = base_deep;
     each = λ i p there. new-stands shape fresh (place_of shape table.chunks) i p (new.each i p there) (length-replicate h.block zero_sector);
     apart = λ i j p q there_p there_q other has_p. absurd (let none = sym (ap has_region (is-idle i p there_p)) ∙ has_p in cc);
-    flight = subst flight (sym (no-tickets passes (λ i p there. (new.each i p there).ticket))) idle;
-    base_flight = subst base_flight (sym (no-fetches passes (λ i p there. (new.each i p there).fetch))) base_idle;
-    guest = λ x. inl (record { nobody = λ i p there w. let phase = w.phase in let other = sym (is-idle i p there) ∙ phase in cc; none = no-writes x });
+    flight = subst (g.flight x) (sym (no-tickets passes (λ i p there. (new.each i p there).ticket))) idle;
+    base_flight = subst (bg.flight y) (sym (no-fetches passes (λ i p there. (new.each i p there).fetch))) base_idle;
+    guest = λ a. inl (record { nobody = λ i p there w. let phase = w.phase in let other = sym (is-idle i p there) ∙ phase in cc; none = no-writes a });
   }
 
-  roomy : RoomIsReserved h.block passes (empty_history room events) room events
+  roomy : RoomIsReserved h.block passes (empty_history room (g.events x)) room (g.events x)
   roomy = record {
     later = omega arith;
     spare_events = let none = no-sum (λ (p : Pass). p.events) passes (λ i p there. (new.each i p there).events) in omega arith;
@@ -180,17 +181,10 @@ module _ (s : State) (whole : IsWholeState s) (passes : List Pass) (count sector
     bounded = counted;
   }
 
-  opened-parts : IsCoherent shape fresh (place_of shape table.chunks) passes [] sectors depth base_sectors base_depth flight base_flight × RoomIsReserved h.block passes (empty_history room events) room events × IsStorage shape table sectors
-  opened-parts = (coherent, roomy, storage)
-
-pub opened-kept : {S B : Type 0} (g : store.Ghosts S) (h : base.Ghosts B) (x : S) (y : B) (s : State) → IsWholeState s → (passes : List Pass) (count : ℕ) (room : Room) → store_need s.header ≤ g.sectors x → g.sectors x < 2 ^ 64 → 128 ≤ g.depth x → 128 ≤ h.depth y
-    → g.flight x [] → h.flight y [] → count ≤ 64 → AreNew count s.header.block passes → room.events < 2 ^ 64
-    → IsSoundCore g h (disk_shape s.header (h.sectors y)) s (replicate count None) passes (empty_history room (g.events x)) room x y
-opened-kept g h x y s whole passes count room fits bounded deep base_deep idle base_idle few new counted =
-    let made = opened-parts s whole passes count (g.sectors x) (g.depth x) (g.events x) (h.sectors y) (h.depth y) room (g.flight x) (h.flight y) fits bounded deep base_deep idle base_idle few new counted in
-    record {
-      coherent = made.0;
-      held = ap (λ (n : ℕ). replicate n None) (sym new.many) ∙ sym (idle-regions passes (λ i p there. (new.each i p there).phase));
-      roomy = made.1;
-      storage = made.2;
-    }
+  pub opened-kept : IsSoundCore g bg (disk_shape s.header (bg.sectors y)) s (replicate count None) passes (empty_history room (g.events x)) room x y
+  opened-kept = record {
+    coherent = coherent;
+    held = ap (λ (n : ℕ). replicate n None) (sym new.many) ∙ sym (idle-regions passes is-idle);
+    roomy = roomy;
+    storage = storage;
+  }

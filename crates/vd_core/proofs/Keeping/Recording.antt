@@ -1,5 +1,5 @@
 -- The steps of reads and writes leave the metadata attended to: none begins or ends a flush.
-use Rattle.std.proofs.Common.{◌≡◌, ◌≢◌, ℕ, ◌<◌, Bool, true, false, List, refl, sym, ◌∙◌, ap, subst, inl, inr, Option, Some, slice_get, slice_set, length}
+use Rattle.std.proofs.Common.{◌≡◌, ◌≢◌, ℕ, ◌<◌, Bool, true, false, List, [], refl, sym, ◌∙◌, ap, subst, inl, inr, Option, Some, slice_get, slice_set, length}
 use Rattle.std.specs.Prelude.{◌+◌, if◌then◌else◌, nat_lt, slice_index_or, Result, Ok, Err, IfErr, OnOk}
 use Rattle.vd_law.specs.declared.entry.Sector.{Sector}
 use Rattle.vd_law.specs.declared.entry.Room.{Room}
@@ -9,7 +9,8 @@ use Rattle.vd_law.specs.Histories.{HistoryState}
 use Rattle.vd_device.specs.declared.ticket.Ticket.{Ticket}
 use Rattle.vd_device.specs.declared.settled.Settled.{Settled}
 use Rattle.vd_device.specs.declared.settled.Settled.TheVariants as settled
-use Rattle.vd_device.specs.Disks.{Disk}
+use Rattle.vd_device.specs.declared.store.Store as store
+use Rattle.vd_device.specs.declared.base.Base as base
 use Rattle.vd_bits.specs.Blocks.{Blocks}
 use Rattle.vd_regions.specs.declared.regions.Region.{Region}
 use Rattle.vd_regions.specs.declared.regions.Busy.{Busy}
@@ -26,13 +27,14 @@ use Rattle.vd_passes.specs.declared.pass.Fault.{Fault}
 use Rattle.vd_passes.specs.declared.pass.Phase.{Phase}
 use Rattle.vd_passes.specs.declared.pass.Phase.TheVariants.{Idle, Asked as HasAsked, Held, Fetching, Filled, Issuing, Looking, Flushing, Ready}
 use Rattle.vd_passes.specs.Passes.{after_ask}
-use Rattle.vd_passes.specs.Steps.{IsAt, after_base_read, FetchSettled, Issues, EndsWrite, WriteSettled, Looks, LooksAtBase, Sees, EndsRead, LookSettled, BaseLookSettled, Replies}
+use Rattle.vd_passes.specs.Requests.{RequestState, requests}
+use Rattle.vd_passes.specs.Steps.{IsAt, after_base_read, FetchSettled, Issues, after_write, WriteSettled, Looks, LooksAtBase, Sees, EndsRead, LookSettled, BaseLookSettled, Replies}
 use Rattle.vd_passes.proofs.Lists.{some-inj, length-set'}
 use Rattle.vd_machine.specs.Attending.{KeeperAgrees}
 use Rattle.vd_machine.proofs.Others.{pass-attended, table-attended, owing-attended}
 use Rattle.vd_machine.specs.Asking.{ask_state, AskEnds}
 use Rattle.vd_machine.specs.Entering.{IsKeptOut, EntersBlock}
-use Rattle.vd_machine.specs.Fetching.{FetchesIn}
+use Rattle.vd_machine.specs.Fetching.{FetchesBlock}
 use Rattle.vd_machine.specs.Issuing.{keeper_after_write}
 use Rattle.vd_core.specs.Kept.{MetadataAgrees}
 use Rattle.vd_core.proofs.Local.{same-marks}
@@ -89,54 +91,62 @@ module _ {shape : Shape} {state : State} {passes : List Pass} {flusher : Option 
   recorded-same : {passes' : List Pass} → passes' ≡ passes → MetadataAgrees shape state passes' flusher k
   recorded-same {passes'} same = subst (λ (ps : List Pass). MetadataAgrees shape state ps flusher k) (sym same) was
 
-  module _ (i : ℕ) {passes' : List Pass} where
-    pub enter-recorded : (chunks : List (Option ℕ)) (regions regions' : List (Option Region)) → IsAt passes i (λ p. p.phase ≡ HasAsked) → (result : Result Unit Busy) → IfErr result (λ busy. IsKeptOut shape regions regions' i passes passes' busy.by)
-        → OnOk result (EntersBlock shape chunks regions regions' i passes passes') → MetadataAgrees shape state passes' flusher k
-    enter-recorded chunks regions regions' at (Ok v) busy entered =
-        let e = entered.enters in recorded-pass i _ e.there e.after (other-phase e.pass (phase-of passes i at e.pass e.there) asked-not) held-not
-    enter-recorded chunks regions regions' at (Err busy) out entered = recorded-same out.passes_same
+-- what a step has made of the passes
+passes-as : {r r' : RequestState} → r ≡ r' → r.passes ≡ r'.passes
+passes-as same = ap (λ (x : RequestState). x.passes) same
 
-    pub fetch-recorded : {base_flight base_flight' : List Ticket → Type 0} → IsAt passes i (λ p. p.phase ≡ Held) → FetchesIn shape i passes passes' base_flight base_flight' → MetadataAgrees shape state passes' flusher k
-    fetch-recorded {base_flight} {base_flight'} at (inl f) = let step = f.0 in recorded-pass i _ step.there step.after (other-phase step.pass (phase-of passes i at step.pass step.there) held-not) fetching-not
-    fetch-recorded {base_flight} {base_flight'} at (inr z) = let step = z.0 in recorded-pass i _ step.there step.after (other-phase step.pass (phase-of passes i at step.pass step.there) held-not) filled-not
+module _ {shape : Shape} {state : State} {flusher : Option ℕ} {k : KeeperState} (r r' : RequestState) (was : MetadataAgrees shape state r.passes flusher k) (i : ℕ) where
+  pub enter-recorded : (chunks : List (Option ℕ)) (regions regions' : List (Option Region)) → IsAt r.passes i (λ p. p.phase ≡ HasAsked) → (result : Result Unit Busy) → IfErr result (λ busy. IsKeptOut regions regions' i busy.by r r')
+      → OnOk result (EntersBlock chunks regions regions' i r r') → MetadataAgrees shape state r'.passes flusher k
+  enter-recorded chunks regions regions' at (Ok v) busy entered =
+      let e = entered.enters in recorded-pass was i _ e.there (passes-as e.after) (other-phase e.pass (phase-of r.passes i at e.pass e.there) asked-not) held-not
+  enter-recorded chunks regions regions' at (Err busy) out entered = recorded-same was (passes-as out.same)
 
-    pub settle_fetch-recorded : {answer : Settled} {base_flight base_flight' : List Ticket → Type 0} {base_tells : Type 0} {base : List Sector} → IsAt passes i (λ p. p.phase ≡ Fetching)
-        → FetchSettled answer shape i passes passes' base_flight base_flight' base_tells base → MetadataAgrees shape state passes' flusher k
+  seen-recorded : {phase : Phase} {content out out' : List Sector} → phase ≢ Flushing → IsAt r.passes i (λ p. p.phase ≡ phase) → Sees content i r r' out out' → MetadataAgrees shape state r'.passes flusher k
+  seen-recorded other at step =
+      recorded-pass was i _ step.there (passes-as step.after) (other-phase step.pass (phase-of r.passes i at step.pass step.there) other) (piece-not (nat_lt (step.pass.done + step.pass.piece) step.pass.count))
+
+  ends_read-recorded : (answer : Settled) (content : List Sector) (why : Fault) (out out' : List Sector) → IsAt r.passes i (λ p. p.phase ≡ Looking) → EndsRead answer content why i r r' out out' → MetadataAgrees shape state r'.passes flusher k
+  ends_read-recorded settled.Done content why out out' at ends = seen-recorded looking-not at ends
+  ends_read-recorded (settled.NotYet same) content why out out' at ends = recorded-same was (passes-as ends.0)
+  ends_read-recorded (settled.Failed number) content why out out' at ends =
+      let f = ends.0 in recorded-pass was i _ f.there (passes-as f.after) (other-phase f.pass (phase-of r.passes i at f.pass f.there) looking-not) ready-not
+
+module _ {shape : Shape} {state : State} {passes : List Pass} {flusher : Option ℕ} {k : KeeperState} (was : MetadataAgrees shape state passes flusher k) (i : ℕ) {disk : Shape} {fresh : List Bool} {passes' : List Pass} {entries entries' : List Entry} where
+  -- the base is called
+  module _ {B : Type 0} {h : base.Ghosts B} {b b' : B} where
+    pub fetch-recorded : IsAt passes i (λ p. p.phase ≡ Held) → FetchesBlock h i (requests disk fresh passes entries) (requests disk fresh passes' entries') b b' → MetadataAgrees shape state passes' flusher k
+    fetch-recorded at (inl f) = let step = f.0 in recorded-pass was i _ step.there (passes-as step.after) (other-phase step.pass (phase-of passes i at step.pass step.there) held-not) fetching-not
+    fetch-recorded at (inr z) = let step = z.0 in recorded-pass was i _ step.there (passes-as step.after) (other-phase step.pass (phase-of passes i at step.pass step.there) held-not) filled-not
+
+    pub settle_fetch-recorded : {answer : Settled} → IsAt passes i (λ p. p.phase ≡ Fetching) → FetchSettled h answer i (requests disk fresh passes entries) (requests disk fresh passes' entries') b b' → MetadataAgrees shape state passes' flusher k
     settle_fetch-recorded {answer} at step =
         let before = other-phase step.pass (phase-of passes i at step.pass step.there) fetching-not in
-        recorded-pass i _ step.there step.after before (fetched-not answer step.pass step.ticket shape.block step.content before)
+        recorded-pass was i _ step.there (passes-as step.after) before (fetched-not answer step.pass step.ticket disk.block step.content before)
 
-    pub look-recorded : {flight flight' : List Ticket → Type 0} {tells tells' : Type 0} {disk disk' : Disk} {last last' : ℕ} → IsAt passes i (λ p. p.phase ≡ Held)
-        → Looks shape i passes passes' flight flight' tells tells' disk disk' last last' → MetadataAgrees shape state passes' flusher k
-    look-recorded at step = recorded-pass i _ step.there step.after (other-phase step.pass (phase-of passes i at step.pass step.there) held-not) looking-not
+    pub base_look-recorded : IsAt passes i (λ p. p.phase ≡ Held) → LooksAtBase h i (requests disk fresh passes entries) (requests disk fresh passes' entries') b b' → MetadataAgrees shape state passes' flusher k
+    base_look-recorded at step = recorded-pass was i _ step.there (passes-as step.after) (other-phase step.pass (phase-of passes i at step.pass step.there) held-not) looking-not
 
-    pub base_look-recorded : {base_flight base_flight' : List Ticket → Type 0} → IsAt passes i (λ p. p.phase ≡ Held) → LooksAtBase shape i passes passes' base_flight base_flight' → MetadataAgrees shape state passes' flusher k
-    base_look-recorded at step = recorded-pass i _ step.there step.after (other-phase step.pass (phase-of passes i at step.pass step.there) held-not) looking-not
+  pub sees-recorded : {phase : Phase} {content out out' : List Sector} → phase ≢ Flushing → IsAt passes i (λ p. p.phase ≡ phase) → Sees content i (requests disk fresh passes entries) (requests disk fresh passes' entries') out out' → MetadataAgrees shape state passes' flusher k
+  sees-recorded = seen-recorded (requests disk fresh passes entries) (requests disk fresh passes' entries') was i
 
-    pub sees-recorded : {phase : Phase} {content : List Sector} {history history' : List Entry} {out out' : List Sector} → phase ≢ Flushing → IsAt passes i (λ p. p.phase ≡ phase)
-        → Sees content i passes passes' history history' out out' → MetadataAgrees shape state passes' flusher k
-    sees-recorded other at step = recorded-pass i _ step.there step.after (other-phase step.pass (phase-of passes i at step.pass step.there) other) (piece-not (nat_lt (step.pass.done + step.pass.piece) step.pass.count))
+  pub settle_base_look-recorded : {answer : Settled} {B : Type 0} {h : base.Ghosts B} {b b' : B} {out out' : List Sector} → IsAt passes i (λ p. p.phase ≡ Looking)
+      → BaseLookSettled h answer i (requests disk fresh passes entries) (requests disk fresh passes' entries') b b' out out' → MetadataAgrees shape state passes' flusher k
+  settle_base_look-recorded {answer} {out = out} {out' = out'} at step = ends_read-recorded (requests disk fresh passes entries) (requests disk fresh passes' entries') was i answer _ _ out out' at step.effect
 
-    ends_read-recorded : (answer : Settled) (p : Pass) (why : Fault) (content : List Sector) (history history' : List Entry) (out out' : List Sector) → IsAt passes i (λ p. p.phase ≡ Looking) → slice_get passes i ≡ Some p
-        → EndsRead answer p why content i passes passes' history history' out out' → MetadataAgrees shape state passes' flusher k
-    ends_read-recorded settled.Done p why content history history' out out' at there ends = sees-recorded looking-not at ends
-    ends_read-recorded (settled.NotYet same) p why content history history' out out' at there ends = recorded-same ends.0
-    ends_read-recorded (settled.Failed number) p why content history history' out out' at there ends = recorded-pass i _ there ends.0 (other-phase p (phase-of passes i at p there) looking-not) ready-not
+  -- the store is called
+  module _ {S : Type 0} {g : store.Ghosts S} {s s' : S} where
+    pub look-recorded : IsAt passes i (λ p. p.phase ≡ Held) → Looks g i (requests disk fresh passes entries) (requests disk fresh passes' entries') s s' → MetadataAgrees shape state passes' flusher k
+    look-recorded at step = recorded-pass was i _ step.there (passes-as step.after) (other-phase step.pass (phase-of passes i at step.pass step.there) held-not) looking-not
 
-    pub settle_look-recorded : {answer : Settled} {history history' : List Entry} {flight flight' : List Ticket → Type 0} {tells tells' : Type 0} {disk disk' : Disk} {last last' : ℕ} {out out' : List Sector} → IsAt passes i (λ p. p.phase ≡ Looking)
-        → LookSettled answer i passes passes' history history' flight flight' tells tells' disk disk' last last' out out' → MetadataAgrees shape state passes' flusher k
-    settle_look-recorded {answer} {history} {history'} {out = out} {out' = out'} at step = ends_read-recorded answer step.pass _ step.content history history' out out' at step.there step.effect
+    pub settle_look-recorded : {answer : Settled} {out out' : List Sector} → IsAt passes i (λ p. p.phase ≡ Looking) → LookSettled g answer i (requests disk fresh passes entries) (requests disk fresh passes' entries') s s' out out' → MetadataAgrees shape state passes' flusher k
+    settle_look-recorded {answer} {out} {out'} at step = ends_read-recorded (requests disk fresh passes entries) (requests disk fresh passes' entries') was i answer step.content _ out out' at step.effect
 
-    pub settle_base_look-recorded : {answer : Settled} {history history' : List Entry} {flight flight' : List Ticket → Type 0} {tells : Type 0} {base out out' : List Sector} → IsAt passes i (λ p. p.phase ≡ Looking)
-        → BaseLookSettled answer shape i passes passes' history history' flight flight' tells base out out' → MetadataAgrees shape state passes' flusher k
-    settle_base_look-recorded {answer} {history} {history'} {out = out} {out' = out'} at step = ends_read-recorded answer step.pass _ _ history history' out out' at step.there step.effect
+    pub issue-recorded : {content : List Sector} → (step : Issues g content i (requests disk fresh passes entries) (requests disk fresh passes' entries') s s') → step.pass.phase ≢ Flushing → MetadataAgrees shape state passes' flusher k
+    issue-recorded step before = recorded-pass was i _ step.there (passes-as step.after) before issuing-not
 
-    pub issue-recorded : {fresh : List Bool} {content : List Sector} {history history' : List Entry} {flight flight' : List Ticket → Type 0} {tells tells' : Type 0} {disk disk' : Disk} {last last' : ℕ}
-        → (step : Issues shape fresh content i passes passes' history history' flight flight' tells tells' disk disk' last last') → step.pass.phase ≢ Flushing → MetadataAgrees shape state passes' flusher k
-    issue-recorded step before = recorded-pass i _ step.there step.after before issuing-not
-
-    pub reply-recorded : {answer : Answer} {history history' : List Entry} → IsAt passes i (λ p. p.phase ≡ Ready) → Replies answer i passes passes' history history' → MetadataAgrees shape state passes' flusher k
-    reply-recorded at step = recorded-pass i _ step.there step.after (other-phase step.pass (phase-of passes i at step.pass step.there) ready-not) idle-not
+  pub reply-recorded : {answer : Answer} → IsAt passes i (λ p. p.phase ≡ Ready) → Replies answer i (requests disk fresh passes entries) (requests disk fresh passes' entries') → MetadataAgrees shape state passes' flusher k
+  reply-recorded at step = recorded-pass was i _ step.there (passes-as step.after) (other-phase step.pass (phase-of passes i at step.pass step.there) ready-not) idle-not
 
 -- A request gives chunks storage: the state's table is another, of the same size.
 tabled : (state : State) (table' : TableState) → IsSized state → length table'.chunks ≡ length state.table.chunks → table'.storage ≡ state.table.storage → IsSized (record state { table = table' })
@@ -160,11 +170,11 @@ pub ask-recorded : {shape : Shape} {state : State} {passes : List Pass} {flusher
     → MetadataAgrees shape state passes flusher k → IsAt passes i (λ p. p.phase ≡ Idle) → AskEnds result request events i (ask_state shape state.table passes history spare) (ask_state shape table' passes' history' spare') → MetadataAgrees shape (record state { table = table' }) passes' flusher k
 ask-recorded {table' = table'} {passes' = passes'} was at (inl none) = let same = none.2 in
     with-table table' (ap (λ (t : TableState). length t.chunks) same.table_same) (ap (λ (t : TableState). t.storage) same.table_same) (recorded-same was same.passes_same)
-ask-recorded {passes = passes} {i = i} {table' = table'} was at (inr (inl full)) = let e = full.3 in let step = e.asks in let before = other-phase step.pass (phase-of passes i at step.pass step.there) idle-not in
-    with-table table' (ap (λ (t : TableState). length t.chunks) e.table_same) (ap (λ (t : TableState). t.storage) e.table_same) (recorded-pass was i _ step.there step.after before before)
-ask-recorded {passes = passes} {request = request} {i = i} {table' = table'} was at (inr (inr asked)) = let e = asked.1 in let step = e.asks in
+ask-recorded {passes = passes} {i = i} {table' = table'} was at (inr (inl full)) = let e = full.3 in let step = e.asks [] in let before = other-phase step.pass (phase-of passes i at step.pass step.there) idle-not in
+    with-table table' (ap (λ (t : TableState). length t.chunks) e.table_same) (ap (λ (t : TableState). t.storage) e.table_same) (recorded-pass was i _ step.there (passes-as step.after) before before)
+ask-recorded {passes = passes} {request = request} {i = i} {table' = table'} was at (inr (inr asked)) = let e = asked.1 in let step = e.asks [] in
     with-table table' e.claims.chunks e.claims.storage
-    (recorded-pass was i _ step.there step.after (other-phase step.pass (phase-of passes i at step.pass step.there) idle-not) (other-phase (after_ask step.pass request _ _) (asked-phase step.pass request _ _) asked-not))
+    (recorded-pass was i _ step.there (passes-as step.after) (other-phase step.pass (phase-of passes i at step.pass step.there) idle-not) (other-phase (after_ask step.pass request _ _) (asked-phase step.pass request _ _) asked-not))
 
 -- A write that is done makes its block local, and owed.
 marked-sized : (state : State) (fresh' : Blocks) → IsSized state → fresh'.chunk ≡ state.fresh.chunk → length fresh'.bits ≡ length state.fresh.bits → IsSized (record state { fresh = fresh' })
@@ -205,23 +215,25 @@ module _ {shape : Shape} {state : State} {passes : List Pass} {flusher : Option 
     stale = kept.stale;
   })
 
-  ends_write-recorded : (answer : Settled) (p : Pass) (ticket : Ticket) (history history' : List Entry) → slice_get passes i ≡ Some p → p.block < length state.fresh.bits
-      → EndsWrite answer p ticket i state.fresh.bits fresh'.bits passes passes' history history' → k' ≡ keeper_after_write answer p.block k → MetadataAgrees shape (record state { fresh = fresh' }) passes' flusher k'
-  ends_write-recorded settled.Done p ticket history history' there inside ends after =
-      let kept = recorded-pass was i _ there ends.1 (other-phase p (phase-of passes i at p there) issuing-not) (piece-not (nat_lt (p.done + p.piece) p.count)) in
+  ends_write-recorded : {disk : Shape} {entries' : List Entry} (entries : List Entry) (answer : Settled) (p : Pass) (ticket : Ticket) → slice_get passes i ≡ Some p → p.block < length state.fresh.bits
+      → requests disk fresh'.bits passes' entries' ≡ after_write answer p ticket i (requests disk state.fresh.bits passes entries) → k' ≡ keeper_after_write answer p.block k → MetadataAgrees shape (record state { fresh = fresh' }) passes' flusher k'
+  ends_write-recorded entries settled.Done p ticket there inside same after =
+      let kept = recorded-pass was i _ there (ap (λ (r : RequestState). r.passes) same) (other-phase p (phase-of passes i at p there) issuing-not) (piece-not (nat_lt (p.done + p.piece) p.count)) in
+      let bits = ap (λ (r : RequestState). r.fresh) same in
       record {
-        attended = owing-attended p.block kept.attended inside ends.0 after;
-        sized = marked-sized state fresh' kept.sized chunk (ap (λ (xs : List Bool). length xs) ends.0 ∙ length-set' state.fresh.bits p.block true);
+        attended = owing-attended p.block kept.attended inside bits after;
+        sized = marked-sized state fresh' kept.sized chunk (ap (λ (xs : List Bool). length xs) bits ∙ length-set' state.fresh.bits p.block true);
         same = ap (λ (x : KeeperState). geometry_of x.header) after ∙ ap (λ (h : Header). geometry_of h) (owing-header p.block k) ∙ kept.same;
         stale = same-marks shape state.map (ap (λ (x : KeeperState). x.stale) after ∙ owing-stale p.block k) kept.stale;
       }
-  ends_write-recorded (settled.NotYet same) p ticket history history' there inside ends after = still-marked ends.0 after (recorded-same was ends.1)
-  ends_write-recorded (settled.Failed number) p ticket history history' there inside ends after =
-      still-marked ends.0 after (recorded-pass was i _ there ends.1 (other-phase p (phase-of passes i at p there) issuing-not) ready-not)
+  ends_write-recorded entries (settled.NotYet late) p ticket there inside same after =
+      still-marked (ap (λ (r : RequestState). r.fresh) same) after (recorded-same was (ap (λ (r : RequestState). r.passes) same))
+  ends_write-recorded entries (settled.Failed number) p ticket there inside same after =
+      still-marked (ap (λ (r : RequestState). r.fresh) same) after (recorded-pass was i _ there (ap (λ (r : RequestState). r.passes) same) (other-phase p (phase-of passes i at p there) issuing-not) ready-not)
 
-  pub settle_issue-recorded : {answer : Settled} {history history' : List Entry} {flight flight' : List Ticket → Type 0} {tells tells' : Type 0} {disk disk' : Disk} {last last' : ℕ}
-      → (step : WriteSettled answer i state.fresh.bits fresh'.bits passes passes' history history' flight flight' tells tells' disk disk' last last') → step.pass.block < length state.fresh.bits
+  pub settle_issue-recorded : {answer : Settled} {disk : Shape} {entries entries' : List Entry} {S : Type 0} {g : store.Ghosts S} {s s' : S}
+      → (step : WriteSettled g answer i (requests disk state.fresh.bits passes entries) (requests disk fresh'.bits passes' entries') s s') → step.pass.block < length state.fresh.bits
       → IsAt passes i (λ p. k' ≡ keeper_after_write answer p.block k) → MetadataAgrees shape (record state { fresh = fresh' }) passes' flusher k'
-  settle_issue-recorded {answer} {history} {history'} step inside after =
-      ends_write-recorded answer step.pass step.ticket history history' step.there inside step.effect
+  settle_issue-recorded {answer} {entries = entries} step inside after =
+      ends_write-recorded entries answer step.pass step.ticket step.there inside step.after
       (subst (λ (x : Pass). k' ≡ keeper_after_write answer x.block k) (some-inj (sym after.1 ∙ step.there)) after.2)

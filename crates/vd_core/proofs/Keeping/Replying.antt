@@ -7,7 +7,6 @@ use Rattle.vd_replay.specs.declared.state.State.{State}
 use Rattle.vd_law.specs.declared.entry.Room.{Room}
 use Rattle.vd_law.specs.declared.entry.Answer.{Answer}
 use Rattle.vd_law.specs.declared.entry.Answer.TheVariants.{Ok}
-use Rattle.vd_law.specs.Entries.{Entry}
 use Rattle.vd_law.specs.Histories.{HistoryState}
 use Rattle.vd_regions.specs.declared.regions.Region.{Region}
 use Rattle.vd_passes.specs.declared.shape.Shape.{Shape}
@@ -16,6 +15,7 @@ use Rattle.vd_passes.specs.declared.pass.Phase.TheVariants.{Ready}
 use Rattle.vd_passes.specs.declared.pass.Fault.{Fault}
 use Rattle.vd_passes.specs.declared.pass.Fault.TheVariants as fault
 use Rattle.vd_passes.specs.Passes.{HasOutcome, answer_by}
+use Rattle.vd_passes.specs.Requests.{RequestState}
 use Rattle.vd_passes.specs.Steps.{IsAt, Replies}
 use Rattle.vd_passes.proofs.Lists.{some-inj}
 use Rattle.vd_passes.proofs.Needing.{sum-part, room-reply, room-replied}
@@ -23,7 +23,7 @@ use Rattle.vd_passes.proofs.Holding.{phase-at, replies-regions}
 use Rattle.vd_passes.proofs.Asking.{replies-coherent, replies-faithful}
 use Rattle.vd_machine.specs.Adding.{AddsEntries}
 use Rattle.vd_machine.specs.Asking.{CanReply, IsOkWhereDone, room_after_reply}
-use Rattle.vd_core.specs.Kept.{RoomIsReserved, IsSoundCore, IsFaithfullyKept}
+use Rattle.vd_core.specs.Kept.{core_requests, RoomIsReserved, IsSoundCore, IsFaithfullyKept}
 use Rattle.vd_core.proofs.Reserving.{room-shared}
 use Rattle.vd_core.proofs.Keeping.Telling.{told-here}
 
@@ -54,18 +54,18 @@ module _ {shape : Shape} {state : State} {regions : List (Option Region)} {passe
   ready-is : {p : Pass} → slice_get passes i ≡ Some p → p.phase ≡ Ready
   ready-is {p} there = ap (λ (x : Pass). x.phase) (some-inj (sym there ∙ at.1)) ∙ at.2
 
-  pub reply-ok : {answer : Answer} {passes' : List Pass} {entries entries' : List Entry} → Replies answer i passes passes' entries entries' → IsAt passes i (IsOkWhereDone answer)
-  reply-ok {answer} {passes'} {entries} {entries'} step =
+  pub reply-ok : {answer : Answer} {r' : RequestState} → Replies answer i (core_requests shape state passes history) r' → IsAt passes i (IsOkWhereDone answer)
+  reply-ok {answer} step =
       let p = step.pass in
       (p, step.there, subst (λ (a : Answer). IsOkWhereDone a p) (sym step.is) (ok-where p _ p.fault ((kept.coherent.each i p step.there).ready (ready-is step.there))))
 
-  module _ {answer : Answer} {passes' : List Pass} {history' : HistoryState} (step : Replies answer i passes passes' history.log.entries history'.log.entries) where
+  module _ {answer : Answer} {passes' : List Pass} {history' : HistoryState} (step : Replies answer i (core_requests shape state passes history) (core_requests shape state passes' history')) where
     replied-roomy : {spare' : Room} → AddsEntries (g.events s ∷ []) 0 history history' → IsAt passes i (λ p. spare' ≡ room_after_reply p spare) → RoomIsReserved shape.block passes' history' spare' (g.events s)
     replied-roomy {spare'} extends left =
         let p = step.pass in let some = room-reply (kept.roomy.reserved i p step.there) (ready-is step.there) in
         let is : spare' ≡ room_after_reply p spare = left.2 ∙ ap (λ (x : Pass). room_after_reply x spare) (some-inj (sym left.1 ∙ step.there)) in
         let c = ap (λ (r : Room). r.events) is in let d = ap (λ (r : Room). r.sectors) is in
-        room-shared kept.roomy i step.there step.after extends (room-replied shape.block p) spare' (omega (arith, c, some)) (omega (arith, d)) (omega arith) (omega arith)
+        room-shared kept.roomy i step.there (ap (λ (r : RequestState). r.passes) step.after) extends (room-replied shape.block p) spare' (omega (arith, c, some)) (omega (arith, d)) (omega arith) (omega arith)
 
     pub reply-kept : {spare' : Room} → AddsEntries (g.events s ∷ []) 0 history history' → IsAt passes i (λ p. spare' ≡ room_after_reply p spare) → IsSoundCore g h shape state regions passes' history' spare' s b
     reply-kept {spare'} extends left = record {

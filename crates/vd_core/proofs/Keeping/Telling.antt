@@ -13,10 +13,11 @@ use Rattle.vd_table.specs.Tables.{TableState}
 use Rattle.vd_passes.specs.declared.shape.Shape.{Shape}
 use Rattle.vd_passes.specs.declared.pass.Pass.{Pass}
 use Rattle.vd_passes.specs.Places.{place_of}
+use Rattle.vd_passes.specs.Requests.{requests}
 use Rattle.vd_passes.specs.Coherent.{IsFaithful}
 use Rattle.vd_passes.specs.Following.{IsFollowed}
 use Rattle.vd_core.specs.Start.{ToldAtOpening, opening_at, IsStart}
-use Rattle.vd_core.specs.Kept.{LogAgrees, IsFaithfullyKept}
+use Rattle.vd_core.specs.Kept.{core_requests, LogAgrees, IsFaithfullyKept}
 use Rattle.vd_core.proofs.Starting.{HasGrown, since-more, opening-same}
 use Rattle.vd_format.specs.Background.{background_of}
 
@@ -36,8 +37,8 @@ logged-here logged opened followed = record { since = let since = logged.since i
 
 module _ {shape : Shape} {state : State} {table' : TableState} {fresh' : Blocks} {passes passes' : List Pass} {history history' : HistoryState} {S B : Type 0} {g : store.Ghosts S} {h : base.Ghosts B} {s : S} {b : B} where
   pub told-on : {s' : S} → IsFaithfullyKept g h shape state passes history s b → LogAgrees passes history (g.disk s) → HasGrown (g.disk s) (g.disk s') → history'.opened ≡ history.opened
-      → ((start : List Sector) → IsFaithful start (background_of (h.content b) shape.tracked) shape state.fresh.bits (place_of shape state.table.chunks) passes history.log.entries (g.disk s) (g.last s)
-      → IsFaithful start (background_of (h.content b) shape.tracked) shape fresh'.bits (place_of shape table'.chunks) passes' history'.log.entries (g.disk s') (g.last s'))
+      → ((start : List Sector) → IsFaithful g start (background_of (h.content b) shape.tracked) (core_requests shape state passes history) (place_of shape state.table.chunks) s
+      → IsFaithful g start (background_of (h.content b) shape.tracked) (requests shape fresh'.bits passes' history'.log.entries) (place_of shape table'.chunks) s')
       → IsFaithfullyKept g h shape (record state { table = table'; fresh = fresh' }) passes' history' s' b
   told-on was logged on opened next = record {
     base_size = was.base_size;
@@ -46,8 +47,8 @@ module _ {shape : Shape} {state : State} {table' : TableState} {fresh' : Blocks}
 
   -- the store is as it was
   pub told-here : IsFaithfullyKept g h shape state passes history s b → history'.opened ≡ history.opened
-      → ((start : List Sector) → IsFaithful start (background_of (h.content b) shape.tracked) shape state.fresh.bits (place_of shape state.table.chunks) passes history.log.entries (g.disk s) (g.last s)
-      → IsFaithful start (background_of (h.content b) shape.tracked) shape fresh'.bits (place_of shape table'.chunks) passes' history'.log.entries (g.disk s) (g.last s))
+      → ((start : List Sector) → IsFaithful g start (background_of (h.content b) shape.tracked) (core_requests shape state passes history) (place_of shape state.table.chunks) s
+      → IsFaithful g start (background_of (h.content b) shape.tracked) (requests shape fresh'.bits passes' history'.log.entries) (place_of shape table'.chunks) s)
       → IsFaithfullyKept g h shape (record state { table = table'; fresh = fresh' }) passes' history' s b
   told-here was opened next = record {
     base_size = was.base_size;
@@ -60,7 +61,7 @@ module _ {shape : Shape} {state : State} {passes : List Pass} {history : History
   faithful-base {b'} keeps tells was = let content = keeps.telling.content tells in record {
     base_size = ap length content ∙ was.base_size ∙ sym keeps.counts.sectors;
     faithful = λ start is.
-        subst (λ (xs : List Sector). IsFaithful start (background_of xs shape.tracked) shape state.fresh.bits (place_of shape state.table.chunks) passes history.log.entries (g.disk s) (g.last s)) (sym content)
+        subst (λ (xs : List Sector). IsFaithful g start (background_of xs shape.tracked) (core_requests shape state passes history) (place_of shape state.table.chunks) s) (sym content)
         (was.faithful start (subst (λ (xs : List Sector). IsStart (opening_at history.opened (g.disk s)) xs state.header start) content is));
   }
 

@@ -19,7 +19,7 @@ use Rattle.vd_safety.proofs.Asking.{ask-secured, ask_full-secured}
 use Rattle.vd_safety.proofs.Replying.{reply-secured}
 use Rattle.vd_machine.specs.Adding.{AddsEntries}
 use Rattle.vd_machine.specs.Asking.{ask_state, AskEnds}
-use Rattle.vd_core.specs.Kept.{IsSoundCore, IsFaithfullyKept, MetadataAgrees, IsSafelyKept}
+use Rattle.vd_core.specs.Kept.{core_requests, IsSoundCore, IsFaithfullyKept, MetadataAgrees, IsSafelyKept}
 use Rattle.vd_core.proofs.Securing.Carrying.{safely-here, around}
 use Rattle.vd_core.proofs.Securing.Issuing.{number-now}
 
@@ -43,15 +43,15 @@ module _ {shape : Shape} {state : State} {regions : List (Option Region)} {passe
       let ends = full.3 in
       subst (λ (t : TableState). IsSafelyKept g h (record state { table = t }) k flusher passes' history' s b) (sym ends.table_same)
       (safely-here (was now base_now) ends.extends.opened refl
-      (λ start held is secured. ask_full-secured (around kept recorded (told now base_now) start held is) secured history' at ends.asks (two-now history history' (g.events s) (g.disk s) ends.extends.numbers (runs now))))
+      (λ start held is secured. ask_full-secured (around kept recorded (told now base_now) start held is) secured history' at (ends.asks state.fresh.bits) (two-now history history' (g.events s) (g.disk s) ends.extends.numbers (runs now))))
   ask-safely {result} {request} {table'} {passes'} {history'} at (inr (inr asked)) runs now base_now =
       let ends = asked.1 in
       safely-here (was now base_now) ends.extends.opened refl
       (λ start held is secured. ask-secured (around kept recorded (told now base_now) start held is) secured history' at (record { kept = ends.claims.kept; storage = ends.claims.storage; one_to_one = ends.claims.one_to_one })
-      ends.asks (number-now history history' (g.events s) (g.disk s) ends.extends.numbers (runs now)))
+      (ends.asks state.fresh.bits) (number-now history history' (g.events s) (g.disk s) ends.extends.numbers (runs now)))
 
   -- A pass has its reply.
-  pub reply-safely : {answer : Answer} {passes' : List Pass} {history' : HistoryState} {count : ℕ} → IsAt passes i (λ p. p.phase ≡ Ready) → Replies answer i passes passes' history.log.entries history'.log.entries → AddsEntries (g.events s ∷ []) count history history'
+  pub reply-safely : {answer : Answer} {passes' : List Pass} {history' : HistoryState} {count : ℕ} → IsAt passes i (λ p. p.phase ≡ Ready) → Replies answer i (core_requests shape state passes history) (core_requests shape state passes' history') → AddsEntries (g.events s ∷ []) count history history'
       → (g.tells s → IsRunning (g.events s) (g.disk s)) → g.tells s → h.tells b → IsSafelyKept g h state k flusher passes' history' s b
   reply-safely {answer} {passes'} {history'} at step extends runs now base_now =
       safely-here (was now base_now) extends.opened refl

@@ -16,7 +16,7 @@ use Rattle.vd_replay.specs.declared.state.State.{State}
 use Rattle.vd_keeper.specs.Keeping.{KeeperState}
 use Rattle.vd_passes.specs.declared.shape.Shape.{Shape}
 use Rattle.vd_passes.specs.declared.pass.Pass.{Pass}
-use Rattle.vd_safety.specs.Mirrors.{opening_for, HasSafeMirror}
+use Rattle.vd_safety.specs.Mirrors.{core_state, opening_for, HasSafeMirror}
 use Rattle.vd_safety.proofs.Surroundings.{Surroundings, surroundings-of}
 use Rattle.vd_core.specs.Start.{ToldAtOpening, opening_at, IsStart, WasSafe}
 use Rattle.vd_core.specs.Kept.{IsSoundCore, IsFaithfullyKept, LogAgrees, MetadataAgrees, IsSafelyKept}
@@ -45,27 +45,27 @@ writes-inside log more opened sectors before added i a v since w = elim (cases_l
 module _ {state : State} {table' : TableState} {fresh' : List Bool} {k k' : KeeperState} {flusher flusher' : Option ℕ} {passes passes' : List Pass} {history history' : HistoryState} {S B : Type 0} {sg : store.Ghosts S} {bg : base.Ghosts B} {the_store : S} {the_base : B}
     (was : IsSafelyKept sg bg state k flusher passes history the_store the_base) where
   next-secured : (disk' : Disk) (base' : List Sector) → opening_at history'.opened disk' ≡ opening_at history.opened (sg.disk the_store) → history'.opened ≡ history.opened → base' ≡ bg.content the_base
-      → ((start : List Sector) (held : ℕ → Sector) → IsStart (opening_at history.opened (sg.disk the_store)) (bg.content the_base) state.header start → HasSafeMirror (opening_for state.header state.map (sg.disk the_store).start held (bg.content the_base) start history.opened) state.table state.fresh.bits k flusher passes history (sg.disk the_store).log
-      → HasSafeMirror (opening_for state.header state.map (sg.disk the_store).start held (bg.content the_base) start history.opened) table' fresh' k' flusher' passes' history' disk'.log)
+      → ((start : List Sector) (held : ℕ → Sector) → IsStart (opening_at history.opened (sg.disk the_store)) (bg.content the_base) state.header start → HasSafeMirror (opening_for state.header state.map (sg.disk the_store).start held (bg.content the_base) start history.opened) (core_state state.table state.fresh.bits k flusher passes history) (sg.disk the_store).log
+      → HasSafeMirror (opening_for state.header state.map (sg.disk the_store).start held (bg.content the_base) start history.opened) (core_state table' fresh' k' flusher' passes' history') disk'.log)
       → (start : List Sector) → IsStart (opening_at history'.opened disk') base' state.header start → WasSafe (opening_at history'.opened disk') state.header
-      → (held : ℕ → Sector) × HasSafeMirror (opening_for state.header state.map disk'.start held base' start history'.opened) table' fresh' k' flusher' passes' history' disk'.log
+      → (held : ℕ → Sector) × HasSafeMirror (opening_for state.header state.map disk'.start held base' start history'.opened) (core_state table' fresh' k' flusher' passes' history') disk'.log
   next-secured disk' base' same earlier content next start is safe =
       let is_before : IsStart (opening_at history.opened (sg.disk the_store)) (bg.content the_base) state.header start = subst (λ (o : ToldAtOpening). IsStart o (bg.content the_base) state.header start) same (subst (λ (xs : List Sector). IsStart (opening_at history'.opened disk') xs state.header start) content is) in
       let secured = was.secured start is_before (subst (λ (o : ToldAtOpening). WasSafe o state.header) same safe) in
       let held = secured.0 in let now = next start held is_before secured.1 in
       let begun : disk'.start ≡ (sg.disk the_store).start = ap (λ (o : ToldAtOpening). o.start) same in (
         held,
-        subst (λ (n : ℕ). HasSafeMirror (opening_for state.header state.map disk'.start held base' start n) table' fresh' k' flusher' passes' history' disk'.log) (sym earlier)
-            (subst (λ (xs : List Sector). HasSafeMirror (opening_for state.header state.map disk'.start held xs start history.opened) table' fresh' k' flusher' passes' history' disk'.log) (sym content)
-            (subst (λ (xs : List Sector). HasSafeMirror (opening_for state.header state.map xs held (bg.content the_base) start history.opened) table' fresh' k' flusher' passes' history' disk'.log) (sym begun) now)),
+        subst (λ (n : ℕ). HasSafeMirror (opening_for state.header state.map disk'.start held base' start n) (core_state table' fresh' k' flusher' passes' history') disk'.log) (sym earlier)
+            (subst (λ (xs : List Sector). HasSafeMirror (opening_for state.header state.map disk'.start held xs start history.opened) (core_state table' fresh' k' flusher' passes' history') disk'.log) (sym content)
+            (subst (λ (xs : List Sector). HasSafeMirror (opening_for state.header state.map xs held (bg.content the_base) start history.opened) (core_state table' fresh' k' flusher' passes' history') disk'.log) (sym begun) now)),
       )
 
 module _ {state : State} {table' : TableState} {fresh' : Blocks} {k k' : KeeperState} {flusher flusher' : Option ℕ} {passes passes' : List Pass} {history history' : HistoryState} {S B : Type 0} {sg : store.Ghosts S} {bg : base.Ghosts B} {the_store : S} {the_base : B}
     (was : IsSafelyKept sg bg state k flusher passes history the_store the_base) where
   -- the store is as it was
   pub safely-here : {the_base' : B} → history'.opened ≡ history.opened → bg.content the_base' ≡ bg.content the_base
-      → ((start : List Sector) (held : ℕ → Sector) → IsStart (opening_at history.opened (sg.disk the_store)) (bg.content the_base) state.header start → HasSafeMirror (opening_for state.header state.map (sg.disk the_store).start held (bg.content the_base) start history.opened) state.table state.fresh.bits k flusher passes history (sg.disk the_store).log
-      → HasSafeMirror (opening_for state.header state.map (sg.disk the_store).start held (bg.content the_base) start history.opened) table' fresh'.bits k' flusher' passes' history' (sg.disk the_store).log)
+      → ((start : List Sector) (held : ℕ → Sector) → IsStart (opening_at history.opened (sg.disk the_store)) (bg.content the_base) state.header start → HasSafeMirror (opening_for state.header state.map (sg.disk the_store).start held (bg.content the_base) start history.opened) (core_state state.table state.fresh.bits k flusher passes history) (sg.disk the_store).log
+      → HasSafeMirror (opening_for state.header state.map (sg.disk the_store).start held (bg.content the_base) start history.opened) (core_state table' fresh'.bits k' flusher' passes' history') (sg.disk the_store).log)
       → IsSafelyKept sg bg (record state { table = table'; fresh = fresh' }) k' flusher' passes' history' the_store the_base'
   safely-here {the_base'} earlier content next = record {
     size = was.size;
@@ -76,8 +76,8 @@ module _ {state : State} {table' : TableState} {fresh' : Blocks} {k k' : KeeperS
   -- the store has gone on, by entries that write to its sectors alone
   pub safely-on : {the_store' : S} → LogAgrees passes history (sg.disk the_store) → (on : HasGrown (sg.disk the_store) (sg.disk the_store')) → ((j a : ℕ) (v : Sector) → Writes on.0 j a v → a < sg.sectors the_store)
       → sg.sectors the_store' ≡ sg.sectors the_store → history'.opened ≡ history.opened
-      → ((start : List Sector) (held : ℕ → Sector) → IsStart (opening_at history.opened (sg.disk the_store)) (bg.content the_base) state.header start → HasSafeMirror (opening_for state.header state.map (sg.disk the_store).start held (bg.content the_base) start history.opened) state.table state.fresh.bits k flusher passes history (sg.disk the_store).log
-      → HasSafeMirror (opening_for state.header state.map (sg.disk the_store).start held (bg.content the_base) start history.opened) table' fresh'.bits k' flusher' passes' history' (sg.disk the_store').log)
+      → ((start : List Sector) (held : ℕ → Sector) → IsStart (opening_at history.opened (sg.disk the_store)) (bg.content the_base) state.header start → HasSafeMirror (opening_for state.header state.map (sg.disk the_store).start held (bg.content the_base) start history.opened) (core_state state.table state.fresh.bits k flusher passes history) (sg.disk the_store).log
+      → HasSafeMirror (opening_for state.header state.map (sg.disk the_store).start held (bg.content the_base) start history.opened) (core_state table' fresh'.bits k' flusher' passes' history') (sg.disk the_store').log)
       → IsSafelyKept sg bg (record state { table = table'; fresh = fresh' }) k' flusher' passes' history' the_store' the_base
   safely-on {the_store'} logged on added same_size earlier next = record {
     size = ap length on.1.start ∙ was.size ∙ sym same_size;
@@ -92,5 +92,5 @@ module _ {shape : Shape} {state : State} {regions : List (Option Region)} {passe
     (kept : IsSoundCore sg bg shape state regions passes history spare the_store the_base) (recorded : MetadataAgrees shape state passes flusher k)
     (told : IsFaithfullyKept sg bg shape state passes history the_store the_base)
     (start : List Sector) (held : ℕ → Sector) (is : IsStart (opening_at history.opened (sg.disk the_store)) (bg.content the_base) state.header start) where
-  pub around : Surroundings state.header (opening_for state.header state.map (sg.disk the_store).start held (bg.content the_base) start history.opened) shape state.table state.fresh.bits k flusher passes history.log.entries (bg.content the_base) (sg.last the_store)
+  pub around : Surroundings state.header (opening_for state.header state.map (sg.disk the_store).start held (bg.content the_base) start history.opened) shape (core_state state.table state.fresh.bits k flusher passes history) (bg.content the_base) (sg.last the_store)
   around = surroundings-of (record { format = refl; layout = refl; zeros = refl; same = recorded.same }) (λ s. refl) recorded.attended kept.coherent (told.faithful start is)

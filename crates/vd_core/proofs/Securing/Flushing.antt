@@ -10,7 +10,6 @@ use Rattle.vd_device.specs.declared.ticket.Kind.{Kind}
 use Rattle.vd_device.specs.declared.ticket.Kind.TheVariants.{Read, Write, Flush}
 use Rattle.vd_device.specs.declared.settled.Settled.{Settled}
 use Rattle.vd_device.specs.declared.settled.Settled.TheVariants as settled
-use Rattle.vd_device.specs.Disks.{Disk}
 use Rattle.vd_device.specs.Calls.{ask_read_entry, ask_flush_entry}
 use Rattle.vd_image.specs.Log.{Writes}
 use Rattle.vd_regions.specs.declared.regions.Region.{Region}
@@ -23,6 +22,7 @@ use Rattle.vd_keeper.specs.Moves.{after_adopt}
 use Rattle.vd_passes.specs.declared.shape.Shape.{Shape}
 use Rattle.vd_passes.specs.declared.pass.Pass.{Pass}
 use Rattle.vd_passes.specs.declared.pass.Phase.TheVariants.{Idle}
+use Rattle.vd_passes.specs.Requests.{RequestState}
 use Rattle.vd_passes.specs.Steps.{SubmitsMeta, meta_entry}
 use Rattle.vd_machine.specs.Flushing.{meta_state, BeginsFlush, IsWornOut, PutsNext, SyncsPuts, SettlesMeta, SealsFlush}
 use Rattle.vd_safety.proofs.Begins.{begin-secured, worn-secured}
@@ -34,7 +34,7 @@ use Rattle.vd_safety.proofs.Seals.{seal-secured}
 use Rattle.vd_safety.proofs.Adopts.{adopt-secured}
 use Rattle.vd_safety.proofs.Supplied.{flushing-of, flush-asked}
 use Rattle.vd_core.specs.Flushing.{flusher_after}
-use Rattle.vd_core.specs.Kept.{IsSoundCore, IsFaithfullyKept, LogAgrees, MetadataAgrees, IsSafelyKept}
+use Rattle.vd_core.specs.Kept.{core_requests, IsSoundCore, IsFaithfullyKept, LogAgrees, MetadataAgrees, IsSafelyKept}
 use Rattle.vd_core.proofs.Securing.Carrying.{safely-on, safely-here, around}
 use Rattle.vd_core.proofs.Securing.Issuing.{range-inside, none-written, settled-inside}
 
@@ -46,9 +46,9 @@ meta-inside Write t content low sectors (inl flush) fits j a v w = absurd cc
 meta-inside Write t content low sectors (inr write) fits j a v w = range-inside t content sectors (let within = write.1 in omega (arith, within, fits)) j a v w
 
 -- so does all of a submitted call
-submit-inside : {content : List Sector} {shape : Shape} {i : ℕ} {passes passes' : List Pass} {flight flight' : List Ticket → Type 0} {tells tells' : Type 0} {disk disk' : Disk} {last last' sectors : ℕ} → shape.storage_at ≤ sectors
-    → (step : SubmitsMeta content shape i passes passes' flight flight' tells tells' disk disk' last last') → (j a : ℕ) (v : Sector) → Writes (meta_entry step.ticket.kind step.ticket content ∷ []) j a v → a < sectors
-submit-inside {content} {shape} {sectors = sectors} low step = meta-inside step.ticket.kind step.ticket content shape.storage_at sectors
+submit-inside : {content : List Sector} {i : ℕ} {r r' : RequestState} {S : Type 0} {g : store.Ghosts S} {s s' : S} {sectors : ℕ} → r.shape.storage_at ≤ sectors
+    → (step : SubmitsMeta g content i r r' s s') → (j a : ℕ) (v : Sector) → Writes (meta_entry step.ticket.kind step.ticket content ∷ []) j a v → a < sectors
+submit-inside {content} {r = r} {sectors = sectors} low step = meta-inside step.ticket.kind step.ticket content r.shape.storage_at sectors
     (elim step.is_meta [ inl flush ↦ inl flush | inr write ↦ inr (write.0, (let within = write.1 in let count = step.count write.0 in omega (arith, within, count))) ]) low
 
 same-after : (answer : Settled) (flusher : Option ℕ) → settles.flusher_after answer flusher ≡ flusher_after answer flusher
@@ -61,11 +61,11 @@ module _ {shape : Shape} {state : State} {regions : List (Option Region)} {passe
     (told : g.tells s → h.tells b → IsFaithfullyKept g h shape state passes history s b) (logged : g.tells s → LogAgrees passes history (g.disk s))
     (was : g.tells s → h.tells b → IsSafelyKept g h state k flusher passes history s b) (i : ℕ) where
   -- A flush isn't begun, at the last generation.
-  pub worn-safely : {route : Route} {passes' : List Pass} → flusher ≡ None → IsWornOut route i k passes passes' → g.tells s → h.tells b → IsSafelyKept g h state k flusher passes' history s b
+  pub worn-safely : {route : Route} {passes' : List Pass} → flusher ≡ None → IsWornOut route i k (core_requests shape state passes history) (core_requests shape state passes' history) → g.tells s → h.tells b → IsSafelyKept g h state k flusher passes' history s b
   worn-safely none step now base_now = safely-here (was now base_now) refl refl (λ start held is secured. worn-secured step none secured)
 
   -- It is over.
-  pub seal-safely : {k' : KeeperState} {passes' : List Pass} → k.stage ≡ Seals → SealsFlush i k k' passes passes' → g.tells s → h.tells b → IsSafelyKept g h state k' None passes' history s b
+  pub seal-safely : {k' : KeeperState} {passes' : List Pass} → k.stage ≡ Seals → SealsFlush i (meta_state k (core_requests shape state passes history)) (meta_state k' (core_requests shape state passes' history)) → g.tells s → h.tells b → IsSafelyKept g h state k' None passes' history s b
   seal-safely stage step now base_now =
       safely-here (was now base_now) refl refl (λ start held is secured. seal-secured (flushing-of (around kept recorded (told now base_now) start held is) secured) step stage secured)
 
@@ -75,38 +75,38 @@ module _ {shape : Shape} {state : State} {regions : List (Option Region)} {passe
     (told : g.tells s → h.tells b → IsFaithfullyKept g h shape state passes history s b) (logged : g.tells s → LogAgrees passes history (g.disk s))
     (was : g.tells s → h.tells b → IsSafelyKept g h state k flusher passes history s b) (i : ℕ) {passes' : List Pass} {s' : S} where
   -- A flush is begun.
-  pub begin-safely : {route : Route} {k' : KeeperState} → flusher ≡ None → ((t : ℕ) → route ≡ Recycle t → t ≡ k.header.tracked) → BeginsFlush g route shape i (meta_state k passes) (meta_state k' passes') s s'
-      → g.sectors s' ≡ g.sectors s → g.tells s' → h.tells b → IsSafelyKept g h state k' (Some i) passes' history s' b
-  begin-safely none tracked step same now base_now =
-      let before = step.sends.told_before now in
-      safely-on (was before base_now) (logged before) (_, (step.sends.told now).0) (submit-inside (let inside = kept.storage.inside in omega (arith, inside)) step.sends) same refl
+  pub begin-safely : {route : Route} {k' : KeeperState} → flusher ≡ None → ((t : ℕ) → route ≡ Recycle t → t ≡ k.header.tracked) → BeginsFlush g route i (meta_state k (core_requests shape state passes history)) (meta_state k' (core_requests shape state passes' history)) s s'
+      → g.tells s' → h.tells b → IsSafelyKept g h state k' (Some i) passes' history s' b
+  begin-safely none tracked step now base_now =
+      let before = step.sends.call.takes.keeps.told_before now in
+      safely-on (was before base_now) (logged before) (_, step.sends.call.takes.told now) (submit-inside (let inside = kept.storage.inside in omega (arith, inside)) step.sends) step.sends.call.counts.sectors refl
       (λ start held is secured. let near = around kept recorded (told before base_now) start held is in
       begin-secured (flushing-of near secured) step none tracked
       (λ p there asked flush. flush-asked history.log.entries i p (kept.coherent.each i p there) asked flush) now secured)
 
   -- The next record, sector of the map or header is put.
-  pub put-safely : {k' : KeeperState} → k.stage ≡ Puts → PutsNext g state.table shape i (meta_state k passes) (meta_state k' passes') s s' → g.sectors s' ≡ g.sectors s
+  pub put-safely : {k' : KeeperState} → k.stage ≡ Puts → PutsNext g state.table i (meta_state k (core_requests shape state passes history)) (meta_state k' (core_requests shape state passes' history)) s s'
       → g.tells s' → h.tells b → IsSafelyKept g h state k' flusher passes' history s' b
-  put-safely stage step same now base_now =
-      let before = step.sends.told_before now in
-      safely-on (was before base_now) (logged before) (_, (step.sends.told now).0) (submit-inside (let inside = kept.storage.inside in omega (arith, inside)) step.sends) same refl
+  put-safely stage step now base_now =
+      let before = step.sends.call.takes.keeps.told_before now in
+      safely-on (was before base_now) (logged before) (_, step.sends.call.takes.told now) (submit-inside (let inside = kept.storage.inside in omega (arith, inside)) step.sends) step.sends.call.counts.sectors refl
       (λ start held is secured. put-secured (flushing-of (around kept recorded (told before base_now) start held is) secured) step stage now secured)
 
   -- What was put is flushed.
-  pub sync-safely : k.stage ≡ Syncs → SyncsPuts g shape i passes passes' s s' → g.sectors s' ≡ g.sectors s
+  pub sync-safely : k.stage ≡ Syncs → SyncsPuts g i (core_requests shape state passes history) (core_requests shape state passes' history) s s'
       → g.tells s' → h.tells b → IsSafelyKept g h state k flusher passes' history s' b
-  sync-safely stage step same now base_now =
-      let before = step.sends.told_before now in
-      safely-on (was before base_now) (logged before) (_, (step.sends.told now).0) (submit-inside (let inside = kept.storage.inside in omega (arith, inside)) step.sends) same refl
+  sync-safely stage step now base_now =
+      let before = step.sends.call.takes.keeps.told_before now in
+      safely-on (was before base_now) (logged before) (_, step.sends.call.takes.told now) (submit-inside (let inside = kept.storage.inside in omega (arith, inside)) step.sends) step.sends.call.counts.sectors refl
       (λ start held is secured. sync-secured (flushing-of (around kept recorded (told before base_now) start held is) secured) step stage now secured)
 
   -- A call of it is settled.
-  pub settle_meta-safely : {answer : Settled} {k' : KeeperState} → SettlesMeta g answer i (meta_state k passes) (meta_state k' passes') s s' → g.sectors s' ≡ g.sectors s
+  pub settle_meta-safely : {answer : Settled} {k' : KeeperState} → SettlesMeta g answer i (meta_state k (core_requests shape state passes history)) (meta_state k' (core_requests shape state passes' history)) s s'
       → g.tells s' → h.tells b → IsSafelyKept g h state k' (flusher_after answer flusher) passes' history s' b
-  settle_meta-safely {answer} {k'} step same now base_now =
-      let before = step.settles.told_before now in
+  settle_meta-safely {answer} {k'} step now base_now =
+      let before = step.settles.call.takes.keeps.told_before now in
       subst (λ (f : Option ℕ). IsSafelyKept g h state k' f passes' history s' b) (same-after answer flusher)
-      (safely-on (was before base_now) (logged before) (_, (step.settles.told now).grows) (settled-inside answer step.settles.ticket _ (g.sectors s)) same refl
+      (safely-on (was before base_now) (logged before) (_, step.settles.call.takes.told now) (settled-inside answer step.settles.ticket _ (g.sectors s)) step.settles.call.counts.sectors refl
       (λ start held is secured. settle_meta-secured (flushing-of (around kept recorded (told before base_now) start held is) secured) step now secured))
 
 module _ {shape : Shape} {state : State} {passes : List Pass} {history : HistoryState} {S B : Type 0} {g : store.Ghosts S} {h : base.Ghosts B} {s : S} {b : B} {flusher : Option ℕ} {k : KeeperState}

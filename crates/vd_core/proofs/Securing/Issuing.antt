@@ -3,7 +3,6 @@ use Rattle.std.proofs.Common.{◌≡◌, ℕ, zero, suc, ◌+◌, ◌-◌, ◌*�
 use Rattle.std.specs.Prelude.{slice_range}
 use Rattle.vd_device.specs.declared.store.Store as store
 use Rattle.vd_device.specs.declared.base.Base as base
-use Rattle.vd_device.specs.Stores.{KeepsStore}
 use Rattle.vd_bits.specs.Blocks.{Blocks}
 use Rattle.vd_law.specs.declared.entry.Sector.{Sector}
 use Rattle.vd_law.specs.declared.entry.Room.{Room}
@@ -24,6 +23,7 @@ use Rattle.vd_keeper.specs.Keeping.{KeeperState}
 use Rattle.vd_passes.specs.declared.shape.Shape.{Shape}
 use Rattle.vd_passes.specs.declared.pass.Pass.{Pass}
 use Rattle.vd_passes.specs.declared.pass.Phase.TheVariants.{Issuing}
+use Rattle.vd_passes.specs.Requests.{RequestState, requests}
 use Rattle.vd_passes.specs.Steps.{IsAt, CanWrite, HasAskedWrite, Issues, WriteSettled}
 use Rattle.vd_passes.proofs.Laying.{length-laid}
 use Rattle.vd_passes.proofs.Lists.{some-inj}
@@ -33,7 +33,7 @@ use Rattle.vd_safety.proofs.Issuing.{issue-secured, part-long}
 use Rattle.vd_machine.specs.Adding.{AddsEntries}
 use Rattle.vd_machine.specs.Issuing.{IsWritable, keeper_after_write}
 use Rattle.vd_machine.specs.Outcomes.{numbers_of}
-use Rattle.vd_core.specs.Kept.{IsSoundCore, IsFaithfullyKept, LogAgrees, MetadataAgrees, IsSafelyKept}
+use Rattle.vd_core.specs.Kept.{core_requests, IsSoundCore, IsFaithfullyKept, LogAgrees, MetadataAgrees, IsSafelyKept}
 use Rattle.vd_core.proofs.Keeping.Issuing.{writing-at}
 use Rattle.vd_core.proofs.Securing.Carrying.{safely-on, around}
 
@@ -93,17 +93,17 @@ module _ {shape : Shape} {state : State} {regions : List (Option Region)} {passe
     (told : g.tells s → h.tells b → IsFaithfullyKept g h shape state passes history s b) (logged : g.tells s → LogAgrees passes history (g.disk s))
     (was : g.tells s → h.tells b → IsSafelyKept g h state k flusher passes history s b) (i : ℕ) where
   -- the piece, or the block, lies in the store
-  issued-inside : {content : List Sector} {passes' : List Pass} {history' : List Entry} {s' : S}
+  issued-inside : {content : List Sector} {r' : RequestState} {s' : S}
       → IsAt passes i (IsWritable shape state.fresh.bits) → HasAskedWrite history.log.entries i content
-      → (step : Issues shape state.fresh.bits content i passes passes' history.log.entries history' (g.flight s) (g.flight s') (g.tells s) (g.tells s') (g.disk s) (g.disk s') (g.last s) (g.last s')) → step.ticket.first + length step.stored ≤ (g.sectors s)
+      → (step : Issues g content i (core_requests shape state passes history) r' s s') → step.ticket.first + length step.stored ≤ (g.sectors s)
   issued-inside {content} at asked step =
       let p = step.pass in
       let can = can-write-asked kept.coherent i content asked (writing-at passes i at) in
       let same : can.0 ≡ p = some-inj (sym can.1 ∙ step.there) in
-      let ready : CanWrite shape (g.sectors s) (g.depth s) (g.flight s) p = subst (λ (q : Pass). CanWrite shape (g.sectors s) (g.depth s) (g.flight s) q) same can.2.0 in
+      let ready : CanWrite g shape s p = subst (λ (q : Pass). CanWrite g shape s q) same can.2.0 in
       let long : length content ≡ p.count = subst (λ (q : Pass). length content ≡ q.count) same can.2.1 in
-      let piece = ready.piece in
-      let from = piece.from in let to = piece.to in let room = ready.room in let few = piece.no_more in
+      let piece = ready.read.piece in
+      let from = piece.from in let to = piece.to in let room = ready.read.room in let few = piece.no_more in
       let part = part-long content p.done p.piece (omega (arith, few, long)) in
       elim step.given.way [
         | inl held ↦ (let size = ap length held.0 ∙ part in let first = held.4 in omega (arith, from, to, room, size, first))
@@ -117,21 +117,21 @@ module _ {shape : Shape} {state : State} {regions : List (Option Region)} {passe
   -- A piece is issued.
   pub issue-safely : {content : List Sector} {passes' : List Pass} {history' : HistoryState} {s' : S}
       → IsAt passes i (IsWritable shape state.fresh.bits) → HasAskedWrite history.log.entries i content
-      → Issues shape state.fresh.bits content i passes passes' history.log.entries history'.log.entries (g.flight s) (g.flight s') (g.tells s) (g.tells s') (g.disk s) (g.disk s') (g.last s) (g.last s') → IsAt passes i (λ p. AddsEntries (g.events s ∷ []) p.piece history history')
-      → (g.tells s → IsRunning (g.events s) (g.disk s)) → KeepsStore g s s' → g.tells s' → h.tells b → IsSafelyKept g h state k flusher passes' history' s' b
-  issue-safely {content} {passes'} {history'} at asked step extends runs stays now base_now =
-      let before = step.told_before now in
-      safely-on (was before base_now) (logged before) (_, (step.told now).0) (range-inside step.ticket step.stored (g.sectors s) (issued-inside at asked step)) stays.counts.sectors extends.2.opened
+      → Issues g content i (core_requests shape state passes history) (core_requests shape state passes' history') s s' → IsAt passes i (λ p. AddsEntries (g.events s ∷ []) p.piece history history')
+      → (g.tells s → IsRunning (g.events s) (g.disk s)) → g.tells s' → h.tells b → IsSafelyKept g h state k flusher passes' history' s' b
+  issue-safely {content} {passes'} {history'} at asked step extends runs now base_now =
+      let before = step.call.takes.keeps.told_before now in
+      safely-on (was before base_now) (logged before) (_, step.call.takes.told now) (range-inside step.ticket step.stored (g.sectors s) (issued-inside at asked step)) step.call.counts.sectors extends.2.opened
       (λ start held is secured. issue-secured history' (around kept recorded (told before base_now) start held is) (writing-at passes i at) asked step
       (extends.2.numbers ∙ ap (λ (n : ℕ). history.numbers ++ n ∷ []) (runs before)) now secured)
 
   -- Its end is settled.
   pub settle_issue-safely : {answer : Settled} {fresh' : Blocks} {k' : KeeperState} {passes' : List Pass} {history' : HistoryState} {s' : S}
-      → IsAt passes i (λ p. p.phase ≡ Issuing) → WriteSettled answer i state.fresh.bits fresh'.bits passes passes' history.log.entries history'.log.entries (g.flight s) (g.flight s') (g.tells s) (g.tells s') (g.disk s) (g.disk s') (g.last s) (g.last s')
-      → AddsEntries (numbers_of answer (g.events s')) 0 history history' → IsAt passes i (λ p. k' ≡ keeper_after_write answer p.block k) → (g.tells s' → (history' ≡ history) ⊎ IsRunning (g.events s') (g.disk s')) → KeepsStore g s s'
+      → IsAt passes i (λ p. p.phase ≡ Issuing) → WriteSettled g answer i (core_requests shape state passes history) (requests shape fresh'.bits passes' history'.log.entries) s s'
+      → AddsEntries (numbers_of answer (g.events s')) 0 history history' → IsAt passes i (λ p. k' ≡ keeper_after_write answer p.block k) → (g.tells s' → (history' ≡ history) ⊎ IsRunning (g.events s') (g.disk s'))
       → g.tells s' → h.tells b → IsSafelyKept g h (record state { fresh = fresh' }) k' flusher passes' history' s' b
-  settle_issue-safely {answer} {fresh'} {k'} {passes'} {history'} {s'} at step extends owed runs stays now base_now =
-      let before = step.told_before now in
-      safely-on (was before base_now) (logged before) (_, (step.told now).grows) (settled-inside answer step.ticket [] (g.sectors s)) stays.counts.sectors extends.opened
+  settle_issue-safely {answer} {fresh'} {k'} {passes'} {history'} {s'} at step extends owed runs now base_now =
+      let before = step.call.takes.keeps.told_before now in
+      safely-on (was before base_now) (logged before) (_, step.call.takes.told now) (settled-inside answer step.ticket [] (g.sectors s)) step.call.counts.sectors extends.opened
       (λ start held is secured. settle_issue-secured answer history' (around kept recorded (told before base_now) start held is) at step (owed.0, owed.1, owed-as answer owed.0.block k k' owed.2)
       (numbered-as answer history history' (g.events s') (g.disk s') extends.numbers (runs now)) now secured)

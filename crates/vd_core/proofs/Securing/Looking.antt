@@ -2,8 +2,6 @@
 use Rattle.std.proofs.Common.{◌≡◌, ℕ, ◌⊎◌, List, [], ◌∷◌, ◌++◌, length, refl, inr, Option}
 use Rattle.vd_device.specs.declared.store.Store as store
 use Rattle.vd_device.specs.declared.base.Base as base
-use Rattle.vd_device.specs.Stores.{KeepsStore}
-use Rattle.vd_device.specs.Bases.{KeepsBase}
 use Rattle.vd_law.specs.declared.entry.Sector.{Sector}
 use Rattle.vd_law.specs.declared.entry.Room.{Room}
 use Rattle.vd_law.specs.Histories.{HistoryState}
@@ -22,7 +20,7 @@ use Rattle.vd_safety.proofs.Looking.{IsReadNumberedAfter, look-secured, settle_l
 use Rattle.vd_safety.proofs.Others.{base_look-secured}
 use Rattle.vd_machine.specs.Adding.{AddsEntries}
 use Rattle.vd_machine.specs.Outcomes.{read_numbers_of}
-use Rattle.vd_core.specs.Kept.{IsSoundCore, IsFaithfullyKept, LogAgrees, MetadataAgrees, IsSafelyKept}
+use Rattle.vd_core.specs.Kept.{core_requests, IsSoundCore, IsFaithfullyKept, LogAgrees, MetadataAgrees, IsSafelyKept}
 use Rattle.vd_core.proofs.Securing.Carrying.{safely-on, safely-here, around}
 use Rattle.vd_core.proofs.Securing.Issuing.{none-written, settled-inside, number-now}
 
@@ -38,45 +36,45 @@ module _ {shape : Shape} {state : State} {regions : List (Option Region)} {passe
     (was : g.tells s → h.tells b → IsSafelyKept g h state k flusher passes history s b) (i : ℕ) where
   -- A pass looks in the store.
   pub look-safely : {passes' : List Pass} {s' : S}
-      → IsAt passes i (λ p. p.phase ≡ Held) → Looks shape i passes passes' (g.flight s) (g.flight s') (g.tells s) (g.tells s') (g.disk s) (g.disk s') (g.last s) (g.last s') → KeepsStore g s s'
+      → IsAt passes i (λ p. p.phase ≡ Held) → Looks g i (core_requests shape state passes history) (core_requests shape state passes' history) s s'
       → g.tells s' → h.tells b → IsSafelyKept g h state k flusher passes' history s' b
-  look-safely {passes'} at step stays now base_now =
-      let before = step.told_before now in
-      safely-on (was before base_now) (logged before) (_, (step.told now).0) (λ j a v w. absurd (none-written (ask_read_entry step.ticket) (λ b u covers. covers) j a v w)) stays.counts.sectors refl
+  look-safely at step now base_now =
+      let before = step.call.takes.keeps.told_before now in
+      safely-on (was before base_now) (logged before) (_, step.call.takes.told now) (λ j a v w. absurd (none-written (ask_read_entry step.ticket) (λ b u covers. covers) j a v w)) step.call.counts.sectors refl
       (λ start held is secured. look-secured (around kept recorded (told before base_now) start held is) at step now secured)
 
   -- It settles that look.
   pub settle_look-safely : {answer : Settled} {passes' : List Pass} {history' : HistoryState} {out out' : List Sector} {s' : S} {count : ℕ}
-      → IsAt passes i (λ p. p.phase ≡ Looking) → LookSettled answer i passes passes' history.log.entries history'.log.entries (g.flight s) (g.flight s') (g.tells s) (g.tells s') (g.disk s) (g.disk s') (g.last s) (g.last s') out out'
-      → AddsEntries (read_numbers_of answer (g.events s')) count history history' → (g.tells s' → (history' ≡ history) ⊎ IsRunning (g.events s') (g.disk s')) → KeepsStore g s s'
+      → IsAt passes i (λ p. p.phase ≡ Looking) → LookSettled g answer i (core_requests shape state passes history) (core_requests shape state passes' history') s s' out out'
+      → AddsEntries (read_numbers_of answer (g.events s')) count history history' → (g.tells s' → (history' ≡ history) ⊎ IsRunning (g.events s') (g.disk s'))
       → g.tells s' → h.tells b → IsSafelyKept g h state k flusher passes' history' s' b
-  settle_look-safely {answer} {passes'} {history'} {s' = s'} at step extends runs stays now base_now =
-      let before = step.told_before now in
-      safely-on (was before base_now) (logged before) (_, (step.told now).grows) (settled-inside answer step.ticket _ (g.sectors s)) stays.counts.sectors extends.opened
+  settle_look-safely {answer} {passes'} {history'} {s' = s'} at step extends runs now base_now =
+      let before = step.call.takes.keeps.told_before now in
+      safely-on (was before base_now) (logged before) (_, step.call.takes.told now) (settled-inside answer step.ticket _ (g.sectors s)) step.call.counts.sectors extends.opened
       (λ start held is secured. settle_look-secured answer history' (around kept recorded (told before base_now) start held is) at step
       (read-numbered-as answer history history' (g.events s') (g.disk s') extends.numbers (runs now)) now secured)
 
   -- It looks in the base.
   pub base_look-safely : {passes' : List Pass} {b' : B}
-      → IsAt passes i (λ p. p.phase ≡ Held) → LooksAtBase shape i passes passes' (h.flight b) (h.flight b') → KeepsBase h b b'
+      → IsAt passes i (λ p. p.phase ≡ Held) → LooksAtBase h i (core_requests shape state passes history) (core_requests shape state passes' history) b b'
       → g.tells s → h.tells b' → IsSafelyKept g h state k flusher passes' history s b'
-  base_look-safely {passes'} at step stays now base_now =
-      let before = stays.telling.told_before base_now in
+  base_look-safely at step now base_now =
+      let stays = step.call.keeps in let before = stays.telling.told_before base_now in
       safely-here (was now before) refl (stays.telling.content base_now)
       (λ start held is secured. base_look-secured (around kept recorded (told now before) start held is) secured at step)
 
   -- It settles that look.
   pub settle_base_look-safely : {answer : Settled} {passes' : List Pass} {history' : HistoryState} {out out' : List Sector} {count : ℕ} {b' : B}
-      → IsAt passes i (λ p. p.phase ≡ Looking) → BaseLookSettled answer shape i passes passes' history.log.entries history'.log.entries (h.flight b) (h.flight b') (h.tells b') (h.content b') out out'
-      → AddsEntries (read_numbers_of answer (g.events s)) count history history' → (g.tells s → (history' ≡ history) ⊎ IsRunning (g.events s) (g.disk s)) → KeepsBase h b b'
+      → IsAt passes i (λ p. p.phase ≡ Looking) → BaseLookSettled h answer i (core_requests shape state passes history) (core_requests shape state passes' history') b b' out out'
+      → AddsEntries (read_numbers_of answer (g.events s)) count history history' → (g.tells s → (history' ≡ history) ⊎ IsRunning (g.events s) (g.disk s))
       → g.tells s → h.tells b' → IsSafelyKept g h state k flusher passes' history' s b'
-  settle_base_look-safely {answer} {passes'} {history'} at step extends runs stays now base_now =
-      let before = stays.telling.told_before base_now in
+  settle_base_look-safely {answer} {passes'} {history'} at step extends runs now base_now =
+      let stays = step.call.keeps in let before = stays.telling.told_before base_now in
       safely-here (was now before) extends.opened (stays.telling.content base_now)
       (λ start held is secured. settle_base_look-secured answer history' (around kept recorded (told now before) start held is) at step (read-numbered-as answer history history' (g.events s) (g.disk s) extends.numbers (runs now)) secured)
 
   -- It sees zeros.
-  pub zeros-safely : {passes' : List Pass} {history' : HistoryState} {out out' : List Sector} {count : ℕ} → IsAt passes i (λ p. p.phase ≡ Held) → SeesZeros shape i passes passes' history.log.entries history'.log.entries out out'
+  pub zeros-safely : {passes' : List Pass} {history' : HistoryState} {out out' : List Sector} {count : ℕ} → IsAt passes i (λ p. p.phase ≡ Held) → SeesZeros i (core_requests shape state passes history) (core_requests shape state passes' history') out out'
       → AddsEntries (g.events s ∷ []) count history history' → (g.tells s → IsRunning (g.events s) (g.disk s)) → g.tells s → h.tells b → IsSafelyKept g h state k flusher passes' history' s b
   zeros-safely {passes'} {history'} at step extends runs now base_now =
       safely-here (was now base_now) extends.opened refl

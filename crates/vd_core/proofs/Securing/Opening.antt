@@ -31,7 +31,7 @@ use Rattle.vd_replay.specs.States.{IsState, IsWholeState, StateSays}
 use Rattle.vd_keeper.specs.Keeping.{KeeperState}
 use Rattle.vd_passes.specs.declared.shape.Shape.{Shape}
 use Rattle.vd_passes.specs.declared.pass.Pass.{Pass}
-use Rattle.vd_safety.specs.Mirrors.{opening_for, HasSafeMirror}
+use Rattle.vd_safety.specs.Mirrors.{core_state, opening_for, HasSafeMirror}
 use Rattle.vd_safety.proofs.Opening.{IsStart as IsMadeFrom, opened-secured}
 use Rattle.vd_core.specs.Start.{opening_at, IsStart, WasSafe, image_at}
 use Rattle.vd_core.specs.Opening.{AreNew, disk_shape, empty_history, new_keeping}
@@ -112,7 +112,7 @@ opened-safely g h x y s whole version {passes} {count} {block} {events} room new
   inside = λ i a v since w. absurd (let below = writes_below disk.log i a v w in omega (arith, since, below, all));
   secured = λ start is safe. (
     image_of disk.held,
-    subst (λ (n : ℕ). HasSafeMirror (opening_for s.header s.map disk.start (image_of disk.held) (h.content y) start n) s.table s.fresh.bits (new_keeping s) None passes (empty_history room events) disk.log) (sym all)
+    subst (λ (n : ℕ). HasSafeMirror (opening_for s.header s.map disk.start (image_of disk.held) (h.content y) start n) (core_state s.table s.fresh.bits (new_keeping s) None passes (empty_history room events)) disk.log) (sym all)
         (opened-secured s disk.start disk.held (h.content y) start disk.log passes (empty_history room events) (made-from s whole version disk events all honest says (h.content y) start is safe (held_long ∙ sym long) flushed.0 flushed.1)
         (λ i p there. (new.each i p there).phase) refl refl),
   );

@@ -27,7 +27,8 @@ use Rattle.vd_passes.specs.declared.shape.Shape.{Shape}
 use Rattle.vd_passes.specs.declared.pass.Pass.{Pass}
 use Rattle.vd_passes.specs.declared.pass.Fault.{Fault}
 use Rattle.vd_passes.specs.declared.pass.Fault.TheVariants as fault
-use Rattle.vd_passes.specs.Steps.{Issues, EndsWrite, WriteSettled, EndsRead, LookSettled, BaseLookSettled}
+use Rattle.vd_passes.specs.Requests.{RequestState, requests}
+use Rattle.vd_passes.specs.Steps.{Issues, after_write, WriteSettled, EndsRead, LookSettled, BaseLookSettled}
 use Rattle.vd_safety.specs.Mirrors.{opening_for}
 use Rattle.vd_safety.proofs.Words.{IsHarmless, secured-rising, stopped-crash-safe}
 use Rattle.vd_machine.specs.Adding.{AddsEntries}
@@ -44,26 +45,29 @@ use Rattle.vd_format.specs.Background.{zero_sector, base_at}
 pub later-still : {block : ℕ} {passes : List Pass} {history : HistoryState} {spare : Room} {S : Type 0} {g : store.Ghosts S} {s s' : S} → RoomIsReserved block passes history spare (g.events s) → KeepsStore g s s' → last_number history.opened history.numbers ≤ g.events s'
 later-still roomy keeps = let later = roomy.later in let rise = keeps.telling.events in omega (arith, later, rise)
 
+entries-as : {r r' : RequestState} → r ≡ r' → r.entries ≡ r'.entries
+entries-as same = ap (λ (x : RequestState). x.entries) same
+
 -- ---- the history grows
 
-module _ {h : Header} {base start : List Sector} {disk : Disk} where
+module _ {h : Header} {behind start : List Sector} {disk : Disk} where
   -- by one harmless entry
   pub one-more : {history history' : HistoryState} {e : Entry} {n : ℕ} → IsHarmless disk.log e n → history'.log.entries ≡ history.log.entries ++ e ∷ [] → history'.numbers ≡ history.numbers ++ n ∷ [] → history'.opened ≡ history.opened
-      → last_number history.opened history.numbers ≤ n → IsStillSafe h base start disk history → IsStillSafe h base start disk history'
+      → last_number history.opened history.numbers ≤ n → IsStillSafe h behind start disk history → IsStillSafe h behind start disk history'
   one-more {history} {history'} {e} {n} harmless entries numbers opened later was = record {
     each = let a = ap length numbers in let b = ap length entries in let c = length_push history.numbers n in let d = length_push history.log.entries e in let w = was.each in omega (arith, a, b, c, d, w);
     rising = subst (λ (o : ℕ). IsRising o history'.numbers) (sym opened) (subst (IsRising history.opened) (sym numbers) (rising-push history.opened history.numbers n was.rising later));
-    crash_safe = stopped-crash-safe (format_of h) (layout_of h) (base_at zero_sector base) zero_sector disk.start disk.log start history history' e n harmless entries numbers opened was.each was.rising later was.crash_safe;
+    crash_safe = stopped-crash-safe (format_of h) (layout_of h) (base_at zero_sector behind) zero_sector disk.start disk.log start history history' e n harmless entries numbers opened was.each was.rising later was.crash_safe;
   }
 
   -- by one entry that is numbered above the log's length
   pub late-one : {history history' : HistoryState} {n sectors : ℕ} (e : Entry) → AddsEntries (n ∷ []) sectors history history' → history'.log.entries ≡ history.log.entries ++ e ∷ [] → last_number history.opened history.numbers ≤ n
-      → length disk.log < n → IsStillSafe h base start disk history → IsStillSafe h base start disk history'
+      → length disk.log < n → IsStillSafe h behind start disk history → IsStillSafe h behind start disk history'
   late-one e extends entries later late was = one-more (inl late) entries extends.numbers extends.opened later was
 
   -- by two such entries
   pub late-two : {history history' : HistoryState} {n sectors : ℕ} (a b : Entry) → AddsEntries (n ∷ n ∷ []) sectors history history' → history'.log.entries ≡ history.log.entries ++ a ∷ b ∷ [] → last_number history.opened history.numbers ≤ n
-      → length disk.log < n → IsStillSafe h base start disk history → IsStillSafe h base start disk history'
+      → length disk.log < n → IsStillSafe h behind start disk history → IsStillSafe h behind start disk history'
   late-two {history} {history'} {n} a b extends entries later late was =
       let mid : HistoryState = record { log = record { entries = history.log.entries ++ a ∷ []; left = history.log.left; room = history.log.room }; numbers = history.numbers ++ n ∷ []; opened = history.opened } in
       let last = last_number-push history.opened history.numbers n in
@@ -71,7 +75,7 @@ module _ {h : Header} {base start : List Sector} {disk : Disk} where
       (one-more {history = history} {history' = mid} (inl late) refl refl refl later was)
 
   -- by none
-  pub none-more : {history history' : HistoryState} {sectors : ℕ} → AddsEntries [] sectors history history' → history'.log.entries ≡ history.log.entries → IsStillSafe h base start disk history → IsStillSafe h base start disk history'
+  pub none-more : {history history' : HistoryState} {sectors : ℕ} → AddsEntries [] sectors history history' → history'.log.entries ≡ history.log.entries → IsStillSafe h behind start disk history → IsStillSafe h behind start disk history'
   none-more {history} {history'} extends entries was =
       let numbers : history'.numbers ≡ history.numbers = extends.numbers ∙ append-nil history.numbers in
       let moments : (k : ℕ) → entries_up_to k history' ≡ entries_up_to k history = λ k. ap (λ (ns : List ℕ). take (count_up_to k ns) history'.log.entries) numbers ∙ ap (take (count_up_to k history.numbers)) entries in
@@ -85,48 +89,47 @@ module _ {h : Header} {base start : List Sector} {disk : Disk} where
         };
       }
 
-  -- as a write's piece is issued
-  pub issue-still : {fresh : List Bool} {content : List Sector} {i last last' n sectors : ℕ} {passes passes' : List Pass} {history history' : HistoryState} {flight flight' : List Ticket → Type 0} {tells tells' : Type 0} {old new : Disk} {shape : Shape}
-      → Issues shape fresh content i passes passes' history.log.entries history'.log.entries flight flight' tells tells' old new last last' → AddsEntries (n ∷ []) sectors history history' → last_number history.opened history.numbers ≤ n
-      → IsStillSafe h base start disk history → IsStillSafe h base start disk history'
-  issue-still step extends later was = one-more (inr (λ id is. cc)) step.event extends.numbers extends.opened later was
-
   -- as the write ends
-  write-ends : (answer : Settled) (pass : Pass) (ticket : Ticket) (i : ℕ) (fresh fresh' : List Bool) (passes passes' : List Pass) {n sectors : ℕ} {history history' : HistoryState} → EndsWrite answer pass ticket i fresh fresh' passes passes' history.log.entries history'.log.entries
-      → AddsEntries (numbers_of answer n) sectors history history' → last_number history.opened history.numbers ≤ n → length disk.log < n → IsStillSafe h base start disk history → IsStillSafe h base start disk history'
-  write-ends Done pass ticket i fresh fresh' passes passes' ends extends later late was = late-one _ extends ends.2 later late was
-  write-ends (NotYet same) pass ticket i fresh fresh' passes passes' ends extends later late was = none-more extends ends.2 was
-  write-ends (Failed number) pass ticket i fresh fresh' passes passes' ends extends later late was = late-one _ extends ends.2 later late was
-
-  pub write-still : {answer : Settled} {i n last last' sectors : ℕ} {fresh fresh' : List Bool} {passes passes' : List Pass} {history history' : HistoryState} {flight flight' : List Ticket → Type 0} {tells tells' : Type 0} {old new : Disk}
-      → WriteSettled answer i fresh fresh' passes passes' history.log.entries history'.log.entries flight flight' tells tells' old new last last' → AddsEntries (numbers_of answer n) sectors history history' → last_number history.opened history.numbers ≤ n → length disk.log < n
-      → IsStillSafe h base start disk history → IsStillSafe h base start disk history'
-  write-still {answer} {i} {fresh = fresh} {fresh'} {passes} {passes'} step = write-ends answer step.pass step.ticket i fresh fresh' passes passes' step.effect
+  write-ends : {n sectors : ℕ} {history history' : HistoryState} (i : ℕ) (shape : Shape) (fresh : List Bool) (passes : List Pass) (answer : Settled) (pass : Pass) (ticket : Ticket)
+      → history'.log.entries ≡ (after_write answer pass ticket i (requests shape fresh passes history.log.entries)).entries → AddsEntries (numbers_of answer n) sectors history history'
+      → last_number history.opened history.numbers ≤ n → length disk.log < n → IsStillSafe h behind start disk history → IsStillSafe h behind start disk history'
+  write-ends i shape fresh passes Done pass ticket entries extends later late was = late-one _ extends entries later late was
+  write-ends i shape fresh passes (NotYet same) pass ticket entries extends later late was = none-more extends entries was
+  write-ends i shape fresh passes (Failed number) pass ticket entries extends later late was = late-one _ extends entries later late was
 
   -- as a read ends
-  read-ends : (answer : Settled) (pass : Pass) (why : Fault) (content : List Sector) (i : ℕ) (passes passes' : List Pass) (out out' : List Sector) {n sectors : ℕ} {history history' : HistoryState} → EndsRead answer pass why content i passes passes' history.log.entries history'.log.entries out out'
-      → AddsEntries (read_numbers_of answer n) sectors history history' → last_number history.opened history.numbers ≤ n → length disk.log < n → IsStillSafe h base start disk history → IsStillSafe h base start disk history'
-  read-ends Done pass why content i passes passes' out out' ends extends later late was = late-one _ extends ends.event later late was
-  read-ends (NotYet same) pass why content i passes passes' out out' ends extends later late was = none-more extends ends.1 was
-  read-ends (Failed number) pass why content i passes passes' out out' ends extends later late was = none-more extends ends.1 was
+  read-ends : {n sectors : ℕ} {history history' : HistoryState} (i : ℕ) (shape shape' : Shape) (fresh fresh' : List Bool) (passes passes' : List Pass) (answer : Settled) (content : List Sector) (why : Fault) (out out' : List Sector)
+      → EndsRead answer content why i (requests shape fresh passes history.log.entries) (requests shape' fresh' passes' history'.log.entries) out out' → AddsEntries (read_numbers_of answer n) sectors history history'
+      → last_number history.opened history.numbers ≤ n → length disk.log < n → IsStillSafe h behind start disk history → IsStillSafe h behind start disk history'
+  read-ends i shape shape' fresh fresh' passes passes' Done content why out out' ends extends later late was = late-one _ extends (entries-as ends.after) later late was
+  read-ends i shape shape' fresh fresh' passes passes' (NotYet same) content why out out' ends extends later late was = none-more extends (entries-as ends.0) was
+  read-ends i shape shape' fresh fresh' passes passes' (Failed number) content why out out' ends extends later late was = none-more extends (entries-as ends.0.after) was
 
-  pub look-still : {answer : Settled} {i n last last' sectors : ℕ} {passes passes' : List Pass} {history history' : HistoryState} {flight flight' : List Ticket → Type 0} {tells tells' : Type 0} {old new : Disk} {out out' : List Sector}
-      → LookSettled answer i passes passes' history.log.entries history'.log.entries flight flight' tells tells' old new last last' out out' → AddsEntries (read_numbers_of answer n) sectors history history' → last_number history.opened history.numbers ≤ n → length disk.log < n
-      → IsStillSafe h base start disk history → IsStillSafe h base start disk history'
-  look-still {answer} {i} {passes = passes} {passes'} {out = out} {out'} step = read-ends answer step.pass (fault.Store step.ticket.number) step.content i passes passes' out out' step.effect
+  module _ {i n sectors : ℕ} {shape shape' : Shape} {fresh fresh' : List Bool} {passes passes' : List Pass} {history history' : HistoryState} where
+    -- as a write's piece is issued
+    pub issue-still : {content : List Sector} {S : Type 0} {g : store.Ghosts S} {s s' : S} → Issues g content i (requests shape fresh passes history.log.entries) (requests shape' fresh' passes' history'.log.entries) s s'
+        → AddsEntries (n ∷ []) sectors history history' → last_number history.opened history.numbers ≤ n → IsStillSafe h behind start disk history → IsStillSafe h behind start disk history'
+    issue-still step extends later was = one-more (inr (λ id is. cc)) (entries-as step.after) extends.numbers extends.opened later was
 
-  pub base_look-still : {answer : Settled} {shape : Shape} {i n sectors : ℕ} {passes passes' : List Pass} {history history' : HistoryState} {flight flight' : List Ticket → Type 0} {tells : Type 0} {content out out' : List Sector}
-      → BaseLookSettled answer shape i passes passes' history.log.entries history'.log.entries flight flight' tells content out out' → AddsEntries (read_numbers_of answer n) sectors history history' → last_number history.opened history.numbers ≤ n → length disk.log < n
-      → IsStillSafe h base start disk history → IsStillSafe h base start disk history'
-  base_look-still {answer} {i = i} {passes = passes} {passes'} {out = out} {out'} step =
-      read-ends answer step.pass (fault.Base step.ticket.number) (step.content ++ replicate (step.pass.piece - step.ticket.count) zero_sector) i passes passes' out out' step.effect
+    pub write-still : {answer : Settled} {S : Type 0} {g : store.Ghosts S} {s s' : S} → WriteSettled g answer i (requests shape fresh passes history.log.entries) (requests shape' fresh' passes' history'.log.entries) s s'
+        → AddsEntries (numbers_of answer n) sectors history history' → last_number history.opened history.numbers ≤ n → length disk.log < n → IsStillSafe h behind start disk history → IsStillSafe h behind start disk history'
+    write-still {answer} step = write-ends i shape fresh passes answer step.pass step.ticket (entries-as step.after)
+
+    pub look-still : {answer : Settled} {S : Type 0} {g : store.Ghosts S} {s s' : S} {out out' : List Sector} → LookSettled g answer i (requests shape fresh passes history.log.entries) (requests shape' fresh' passes' history'.log.entries) s s' out out'
+        → AddsEntries (read_numbers_of answer n) sectors history history' → last_number history.opened history.numbers ≤ n → length disk.log < n → IsStillSafe h behind start disk history → IsStillSafe h behind start disk history'
+    look-still {answer} {out = out} {out'} step = read-ends i shape shape' fresh fresh' passes passes' answer step.content (fault.Store step.ticket.number) out out' step.effect
+
+    pub base_look-still : {answer : Settled} {B : Type 0} {bg : base.Ghosts B} {b b' : B} {out out' : List Sector} → BaseLookSettled bg answer i (requests shape fresh passes history.log.entries) (requests shape' fresh' passes' history'.log.entries) b b' out out'
+        → AddsEntries (read_numbers_of answer n) sectors history history' → last_number history.opened history.numbers ≤ n → length disk.log < n → IsStillSafe h behind start disk history → IsStillSafe h behind start disk history'
+    base_look-still {answer} {out = out} {out'} step =
+        read-ends i shape shape' fresh fresh' passes passes' answer (step.content ++ replicate (step.pass.piece - step.ticket.count) zero_sector) (fault.Base step.ticket.number) out out' step.effect
 
   -- as a request is asked, or answered at once
   pub ask-still : {result : Option Answer} {request : Asked} {shape : Shape} {i events : ℕ} {table table' : TableState} {passes passes' : List Pass} {history history' : HistoryState} {spare spare' : Room} → AskEnds result request events i (ask_state shape table passes history spare) (ask_state shape table' passes' history' spare')
-      → last_number history.opened history.numbers ≤ events → length disk.log < events → IsStillSafe h base start disk history → IsStillSafe h base start disk history'
-  ask-still (inl none) later late was = subst (IsStillSafe h base start disk) (sym none.2.history_same) was
-  ask-still (inr (inl full)) later late was = late-two _ _ full.3.extends full.3.asks.event later late was
-  ask-still (inr (inr asked)) later late was = late-one _ asked.1.extends asked.1.asks.event later late was
+      → last_number history.opened history.numbers ≤ events → length disk.log < events → IsStillSafe h behind start disk history → IsStillSafe h behind start disk history'
+  ask-still (inl none) later late was = subst (IsStillSafe h behind start disk) (sym none.2.history_same) was
+  ask-still (inr (inl full)) later late was = late-two _ _ full.3.extends (entries-as (full.3.asks []).after) later late was
+  ask-still (inr (inr asked)) later late was = late-one _ asked.1.extends (entries-as (asked.1.asks []).after) later late was
 
 -- ---- the store stands
 

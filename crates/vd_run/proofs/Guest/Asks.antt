@@ -11,6 +11,7 @@ use Rattle.vd_law.specs.Histories.{HistoryState}
 use Rattle.vd_table.specs.Tables.{TableState}
 use Rattle.vd_passes.specs.declared.shape.Shape.{Shape}
 use Rattle.vd_passes.specs.declared.pass.Pass.{Pass}
+use Rattle.vd_passes.specs.Requests.{RequestState}
 use Rattle.vd_passes.specs.Steps.{HasAskedWrite}
 use Rattle.vd_core.proofs.Serving.{write-stays}
 use Rattle.vd_core.specs.declared.outcome.Step.{Step}
@@ -78,8 +79,8 @@ module _ {request : Asked} {shape shape' : Shape} {events : ℕ} {table table' :
   full-serves full =
       let needed = some-needed shape.block request in
       let more_events = ap (λ (r : Room). r.events) full.left_after in let more_sectors = ap (λ (r : Room). r.sectors) full.left_after in record {
-        asked = ap (λ (es : List Entry). requests_in es 1) full.asks.event ∙ flat_map-append (asked_by 1) history.log.entries _;
-        alone = λ before. subst (AllByRecursion (IsAskOf 1)) (sym full.asks.event) (each_append (IsAskOf 1) history.log.entries _ before (refl, (tt, tt)));
+        asked = ap (λ (r : RequestState). requests_in r.entries 1) (full.asks []).after ∙ flat_map-append (asked_by 1) history.log.entries _;
+        alone = λ before. subst (AllByRecursion (IsAskOf 1)) (sym (ap (λ (r : RequestState). r.entries) (full.asks []).after)) (each_append (IsAskOf 1) history.log.entries _ before (refl, (tt, tt)));
         events_left = omega (arith, more_events, needed.0);
         sectors_left = omega (arith, more_sectors, needed.1);
       }
@@ -87,8 +88,8 @@ module _ {request : Asked} {shape shape' : Shape} {events : ℕ} {table table' :
   asked-serves : EndsAsked request events 1 (ask_state shape table passes history left) (ask_state shape' table' passes' history' left') → Serves request shape.block history.log.entries history'.log.entries left left'
   asked-serves asked =
       let more_events = ap (λ (r : Room). r.events) asked.left_after in let more_sectors = ap (λ (r : Room). r.sectors) asked.left_after in record {
-        asked = ap (λ (es : List Entry). requests_in es 1) asked.asks.event ∙ flat_map-append (asked_by 1) history.log.entries _;
-        alone = λ before. subst (AllByRecursion (IsAskOf 1)) (sym asked.asks.event) (each_append (IsAskOf 1) history.log.entries _ before (refl, tt));
+        asked = ap (λ (r : RequestState). requests_in r.entries 1) (asked.asks []).after ∙ flat_map-append (asked_by 1) history.log.entries _;
+        alone = λ before. subst (AllByRecursion (IsAskOf 1)) (sym (ap (λ (r : RequestState). r.entries) (asked.asks []).after)) (each_append (IsAskOf 1) history.log.entries _ before (refl, tt));
         events_left = omega (arith, more_events);
         sectors_left = omega (arith, more_sectors);
       }

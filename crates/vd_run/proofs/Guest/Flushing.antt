@@ -8,6 +8,7 @@ use Rattle.vd_law.specs.Entries.{Flush, Entry, Ask, Reply}
 use Rattle.vd_law.specs.Histories.{HistoryState}
 use Rattle.vd_table.specs.Tables.{TableState}
 use Rattle.vd_keeper.specs.Keeping.{KeeperState}
+use Rattle.vd_passes.specs.Requests.{RequestState}
 use Rattle.vd_passes.specs.declared.shape.Shape.{Shape}
 use Rattle.vd_passes.specs.declared.pass.Pass.{Pass}
 use Rattle.vd_passes.specs.declared.pass.Phase.TheVariants.{Idle}
@@ -53,20 +54,20 @@ module _ {pass : ℕ} {passes passes' : List Pass} {shape shape' : Shape} {event
   flush-asked (inl (exceeds, is, same)) room still resting = too-much exceeds room
   flush-asked (inr (inl (needed, m, is, full))) room still resting = cc
   flush-asked (inr (inr (none, asked))) room still resting =
-      let asks = asked.asks in let after = after_ask asks.pass Flush _ _ in
+      let asks = asked.asks [] in let after = after_ask asks.pass Flush _ _ in
       let more_events = ap (λ (r : Room). r.events) asked.left_after in let more_sectors = ap (λ (r : Room). r.sectors) asked.left_after in (
         record {
-          two = ap length asks.after ∙ length-set' passes pass after ∙ resting.two;
-          others = λ j q other there. elim (at-set passes pass j after asks.pass q asks.there (subst (λ (ps : List Pass). slice_get ps j ≡ Some q) asks.after there)) [
+          two = ap (λ (r : RequestState). length r.passes) asks.after ∙ length-set' passes pass after ∙ resting.two;
+          others = λ j q other there. elim (at-set passes pass j after asks.pass q asks.there (subst (λ (ps : List Pass). slice_get ps j ≡ Some q) (ap (λ (r : RequestState). r.passes) asks.after) there)) [
             | inl own ↦ absurd (other own.0)
             | inr old ↦ resting.idle j q old.1
           ];
           at = after;
-          there = subst (λ (ps : List Pass). slice_get ps pass ≡ Some after) (sym asks.after) (get-set-same passes pass after asks.pass asks.there);
+          there = subst (λ (ps : List Pass). slice_get ps pass ≡ Some after) (sym (ap (λ (r : RequestState). r.passes) asks.after)) (get-set-same passes pass after asks.pass asks.there);
           busy = λ e. cc;
           flush = refl;
           nobody = λ j other is. (let none = resting.free in cc);
-          asked = asks.event;
+          asked = ap (λ (r : RequestState). r.entries) asks.after;
         },
         omega (arith, more_events),
         omega (arith, more_sectors),

@@ -11,6 +11,7 @@ use Rattle.vd_table.specs.Tables.{TableState}
 use Rattle.vd_passes.specs.declared.shape.Shape.{Shape}
 use Rattle.vd_passes.specs.declared.pass.Pass.{Pass}
 use Rattle.vd_passes.specs.declared.pass.Phase.TheVariants.{Idle}
+use Rattle.vd_passes.specs.Requests.{RequestState}
 use Rattle.vd_passes.specs.Steps.{IsAt, HasAskedWrite}
 use Rattle.vd_passes.specs.Passes.{has_region, after_ask}
 use Rattle.vd_passes.proofs.Lists.{some-inj, get-set-same, at-set, length-set'}
@@ -111,9 +112,9 @@ module _ {shape shape' : Shape} {events : ℕ} {table table' : TableState} {pass
     free = still ∙ resting.free;
   }
   answered result some (inr (inl (needed, free, is, full))) still resting =
-      let asks = full.asks in let after = record asks.pass { call = asks.pass.call + 1 } in record {
-        two = ap length asks.after ∙ length-set' passes 1 after ∙ resting.two;
-        idle = λ j q there. elim (at-set passes 1 j after asks.pass q asks.there (subst (λ (ps : List Pass). slice_get ps j ≡ Some q) asks.after there)) [
+      let asks = full.asks [] in let after = record asks.pass { call = asks.pass.call + 1 } in record {
+        two = ap (λ (r : RequestState). length r.passes) asks.after ∙ length-set' passes 1 after ∙ resting.two;
+        idle = λ j q there. elim (at-set passes 1 j after asks.pass q asks.there (subst (λ (ps : List Pass). slice_get ps j ≡ Some q) (ap (λ (r : RequestState). r.passes) asks.after) there)) [
           | inl own ↦ ap (λ (p : Pass). p.phase) own.1 ∙ resting.idle 1 asks.pass asks.there
           | inr old ↦ resting.idle j q old.1
         ];
@@ -126,10 +127,10 @@ module _ {shape shape' : Shape} {events : ℕ} {table table' : TableState} {pass
   asked-write result first content none (inl (exceeds, is, same)) still resting = let told = ap is_some is in cc
   asked-write result first content none (inr (inl (needed, free, is, full))) still resting = let told = ap is_some is in cc
   asked-write result first content none (inr (inr (is, asked))) still resting =
-      let asks = asked.asks in (busy-with asks.pass (after_ask asks.pass (Write first content) _ _) true (length content) asks.there asks.after ((λ e. cc), refl, refl, refl) still resting, asks-write asks)
+      let asks = asked.asks [] in (busy-with asks.pass (after_ask asks.pass (Write first content) _ _) true (length content) asks.there (ap (λ (r : RequestState). r.passes) asks.after) ((λ e. cc), refl, refl, refl) still resting, asks-write asks)
 
   pub asked-read : (result : Option Answer) (first count : ℕ) → is_some result ≡ false → AskEnds result (Read first count) events 1 (ask_state shape table passes history left) (ask_state shape' table' passes' history' left') → flusher' ≡ flusher → IsResting passes flusher → IsBusy false count passes' flusher'
   asked-read result first count none (inl (exceeds, is, same)) still resting = let told = ap is_some is in cc
   asked-read result first count none (inr (inl (needed, free, is, full))) still resting = let told = ap is_some is in cc
   asked-read result first count none (inr (inr (is, asked))) still resting =
-      let asks = asked.asks in busy-with asks.pass (after_ask asks.pass (Read first count) _ _) false count asks.there asks.after ((λ e. cc), refl, refl, refl) still resting
+      let asks = asked.asks [] in busy-with asks.pass (after_ask asks.pass (Read first count) _ _) false count asks.there (ap (λ (r : RequestState). r.passes) asks.after) ((λ e. cc), refl, refl, refl) still resting

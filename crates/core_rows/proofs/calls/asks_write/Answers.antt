@@ -1,6 +1,6 @@
 use Rattle.std.proofs.Common.{◌≡◌}
 use Rattle.vd_law.specs.Entries.{Write}
-use Rattle.core_rows.proofs.Runs.{asked-phase, asked-write, ask-others, ask-said}
+use Rattle.core_rows.proofs.Runs.{as-many-asked, asked-phase, asked-write, ask-others, ask-said}
 use Rattle.core_rows.proofs.calls.asks_write.Goals as goal
 
 pub returns-in-None-clause-asked : goal.returns-in-None-clause-asked
@@ -20,3 +20,9 @@ returns-in-Some-clause-others g c = ask-others c.ask.result (Write 8 c.args.cont
 
 pub returns-in-Some-clause-said : goal.returns-in-Some-clause-said
 returns-in-Some-clause-said g c other said apart = ask-said c.ask.result (Write 8 c.args.content.now) c.ask.ensures.ends other said apart
+
+pub returns-in-None-clause-passes : goal.returns-in-None-clause-passes
+returns-in-None-clause-passes g c = as-many-asked c.ask.result (Write 8 c.args.content.now) c.ask.ensures.ends
+
+pub returns-in-Some-clause-passes : goal.returns-in-Some-clause-passes
+returns-in-Some-clause-passes g c = as-many-asked c.ask.result (Write 8 c.args.content.now) c.ask.ensures.ends

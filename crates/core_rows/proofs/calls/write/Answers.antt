@@ -6,6 +6,9 @@ use Rattle.core_rows.proofs.calls.write.Goals as goal
 pub returns-in-Some-clause-idle : goal.returns-in-Some-clause-idle
 returns-in-Some-clause-idle g c = answered-idle c.in-Some.answer (Write c.args.first c.args.content.now) c.in-Some.ensures.ends c.requires.idle
 
+pub returns-in-Some-clause-passes : goal.returns-in-Some-clause-passes
+returns-in-Some-clause-passes g c = as-many-asked c.ask.result (Write c.args.first c.args.content.now) c.ask.ensures.ends
+
 pub loop-init : goal.loop-init
 loop-init g c = let asked = asked-write c.ask.result c.args.first c.args.content.now c.in_default.not-Some c.ask.ensures.ends in (asked.0, asked.1, same-shape c.ask.ensures.others, as-many-asked c.ask.result (Write c.args.first c.args.content.now) c.ask.ensures.ends)
 

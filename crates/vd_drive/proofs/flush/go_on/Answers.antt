@@ -4,18 +4,17 @@ use Rattle.vd_keeper.specs.declared.stage.Stage.TheVariants.{Rest, DataFlush, Br
 use Rattle.vd_passes.specs.declared.pass.Pass.{Pass}
 use Rattle.vd_machine.proofs.Members.{same-member}
 use Rattle.vd_machine.proofs.Attended.{at-stage-of}
-use Rattle.vd_law.specs.Histories.{HistoryState}
 use Rattle.vd_core.specs.View.{View}
 use Rattle.vd_core.proofs.Opened.{store-untouched}
-use Rattle.vd_core.proofs.Views.{same-history, same-left}
+use Rattle.vd_core.proofs.Views.{same-left}
 use Rattle.vd_drive.proofs.FlushSteps.{drives-as, settles-drives, puts-drives, syncs-drives, seals-drives}
 use Rattle.vd_drive.proofs.flush.go_on.Goals as goal
 
 pub returns-then-is_waiting-clause-drives : goal.returns-then-is_waiting-clause-drives
 returns-then-is_waiting-clause-drives g c =
     let old = c.args.core.now in let s = c.settle_meta.ensures.settled in let others = c.settle_meta.ensures.others in
-    drives-as s.1 (ap (λ (h : HistoryState). h.log.entries) (same-history others)) (same-left others)
-    (settles-drives old.history.log.entries old.spare c.requires.attended s.0 s.4 s.2)
+    drives-as s.1 refl (same-left others)
+    (settles-drives old.spare c.requires.attended s.0 s.4 s.2)
 
 pub unreachable-requires : goal.unreachable-requires
 unreachable-requires g c =
@@ -30,20 +29,20 @@ unreachable-requires g c =
 pub returns-in-Puts-clause-drives : goal.returns-in-Puts-clause-drives
 returns-in-Puts-clause-drives g c =
     let old = c.args.core.now in let others = c.put.ensures.others in
-    drives-as refl (ap (λ (h : HistoryState). h.log.entries) (same-history others)) (same-left others)
-    (puts-drives old.history.log.entries old.spare c.requires.attended (sym c.stage.ensures ∙ c.in-Puts.is) (ap (λ (v : View _ _). v.flusher) others) c.put.ensures.puts)
+    drives-as refl refl (same-left others)
+    (puts-drives old.spare c.requires.attended (sym c.stage.ensures ∙ c.in-Puts.is) (ap (λ (v : View _ _). v.flusher) others) c.put.ensures.puts)
 
 pub returns-in-Syncs-clause-drives : goal.returns-in-Syncs-clause-drives
 returns-in-Syncs-clause-drives g c =
     let old = c.args.core.now in let others = c.sync.ensures.others in
-    drives-as refl (ap (λ (h : HistoryState). h.log.entries) (same-history others)) (same-left others)
-    (syncs-drives old.history.log.entries old.spare c.requires.attended (sym c.stage.ensures ∙ c.in-Syncs.is) (ap (λ (v : View _ _). v.keeping) others) (ap (λ (v : View _ _). v.flusher) others) c.sync.ensures.syncs)
+    drives-as refl refl (same-left others)
+    (syncs-drives old.spare c.requires.attended (sym c.stage.ensures ∙ c.in-Syncs.is) (ap (λ (v : View _ _). v.keeping) others) (ap (λ (v : View _ _). v.flusher) others) c.sync.ensures.syncs)
 
 pub returns-in-Seals-clause-drives : goal.returns-in-Seals-clause-drives
 returns-in-Seals-clause-drives g c =
     let old = c.args.core.now in let others = c.seal.ensures.others in
-    drives-as refl (ap (λ (h : HistoryState). h.log.entries) (same-history others)) (same-left others)
-    (seals-drives old.history.log.entries old.spare c.requires.attended (sym c.stage.ensures ∙ c.in-Seals.is) (ap (λ (v : View _ _). v.flusher) others) c.seal.ensures.seals)
+    drives-as refl refl (same-left others)
+    (seals-drives old.spare c.requires.attended (sym c.stage.ensures ∙ c.in-Seals.is) (ap (λ (v : View _ _). v.flusher) others) c.seal.ensures.seals)
 
 pub returns-in-Seals-clause-keeps : goal.returns-in-Seals-clause-keeps
 returns-in-Seals-clause-keeps g c = store-untouched g.S.Store c.args.core.now.store c.seal.new.self.store (ap (λ (v : View _ _). v.store) c.seal.ensures.others) c.requires.told

@@ -11,7 +11,7 @@ returns-in_default g c =
         after = refl;
         kind = done.ticket.kind_is;
         count = done.ticket.count_is;
-        way = inl (held, refl, refl, (let from = c.requires.ready.piece.from in let first = done.ticket.first_is in omega (arith, from, first)));
+        way = inl (held, refl, refl, (let from = c.requires.ready.read.piece.from in let first = done.ticket.first_is in omega (arith, from, first)));
         call = record { next = done.next; rises = done.rises; flight = done.flight; counts = done.counts; takes = done.takes };
       }
       | inr filled ↦ absurd (c.in_default.not-Filled filled)

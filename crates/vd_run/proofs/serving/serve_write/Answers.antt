@@ -13,6 +13,9 @@ ask-requires-clause-phase g c = rests-at 1 (lit< tt) c.requires.can.resting
 pub returns-then-is_some-clause-resting : goal.returns-then-is_some-clause-resting
 returns-then-is_some-clause-resting g c = answered c.ask.result (sym c.is_some.ensures ∙ c.if-is_some.true) c.ask.ensures.ends (ask-flusher c.args.core.now c.ask.new.self c.ask.ensures.others) c.requires.can.resting
 
+pub returns-then-is_some-clause-serves : goal.returns-then-is_some-clause-serves
+returns-then-is_some-clause-serves g c = ask-serves c.ask.result c.requires.can.room c.ask.ensures.ends
+
 pub returns-then-is_some-clause-keeps : goal.returns-then-is_some-clause-keeps
 returns-then-is_some-clause-keeps g c = ask-store c.args.core.now c.ask.new.self c.ask.ensures.others (patient_store g.S.Store) c.ask.ensures.told
 

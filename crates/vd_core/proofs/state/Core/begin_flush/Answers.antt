@@ -10,6 +10,7 @@ use Rattle.vd_passes.proofs.Stopping.{takes-stood}
 use Rattle.vd_machine.proofs.Members.{read-there, picked}
 use Rattle.vd_machine.proofs.Submitting.{numbered}
 use Rattle.vd_machine.proofs.Sending.{begins-flush, is-worn-out}
+use Rattle.vd_core.specs.Kept.{core_requests}
 use Rattle.vd_core.proofs.Keeping.FlushingReady.{asked-flush, flush-place, begin-recorded, worn-recorded}
 use Rattle.vd_core.proofs.Keeping.Flushing.{submit-kept, submit-told, submit-accounted, submit-logged, end-kept, end-told, end-accounted, end-logged}
 use Rattle.vd_core.proofs.Securing.Flushing.{begin-safely, worn-safely}
@@ -30,7 +31,7 @@ invariant_of-self g c =
     let at = rw (sym c.self.view_is) at c.requires.phase in let known = c.if-not-begin.ensures in
     let free = asked-flush c.self.invariant.0 c.self.invariant.4 c.args.pass at in
     let same = known.unchanged refl in
-    let worn = is-worn-out c.index_mut.result.now c.end_flush.new.self c.index_mut.ensures.value {route = c.args.route} {k = c.self.inside.keeper} c.header.result.generation free
+    let worn = is-worn-out {r = core_requests c.self.inside.shape c.self.inside.state c.self.inside.passes.items c.self.inside.history} c.index_mut.result.now c.end_flush.new.self c.index_mut.ensures.value {route = c.args.route} {k = c.self.inside.keeper} c.header.result.generation free
     (not-false (is_worn_out c.args.route c.self.inside.keeper) (sym known.worn)) (ap (λ (h : Header). h.generation) (c.header.ensures.header ∙ ap (λ (k : KeeperState). k.header) same)) c.end_flush.ensures in
     rw same (
       end-kept c.self.invariant.0 c.args.pass worn.ends,
@@ -48,7 +49,7 @@ returns-then-not-begin-clause-worn g c =
     let at = rw (sym c.self.view_is) at c.requires.phase in let known = c.if-not-begin.ensures in
     let free = asked-flush c.self.invariant.0 c.self.invariant.4 c.args.pass at in
     let same = known.unchanged refl in
-    let worn = is-worn-out c.index_mut.result.now c.end_flush.new.self c.index_mut.ensures.value {route = c.args.route} {k = c.self.inside.keeper} c.header.result.generation free
+    let worn = is-worn-out {r = core_requests c.self.inside.shape c.self.inside.state c.self.inside.passes.items c.self.inside.history} c.index_mut.result.now c.end_flush.new.self c.index_mut.ensures.value {route = c.args.route} {k = c.self.inside.keeper} c.header.result.generation free
     (not-false (is_worn_out c.args.route c.self.inside.keeper) (sym known.worn)) (ap (λ (h : Header). h.generation) (c.header.ensures.header ∙ ap (λ (k : KeeperState). k.header) same)) c.end_flush.ensures in
     rw (same, sym c.self.view_is) (λ is. (c.in_default.is, worn, refl))
 
@@ -72,18 +73,18 @@ invariant_of-self-2 g c =
     let at = rw (sym c.self.view_is) at c.requires.phase in let tracked = rw (sym c.self.view_is) at c.requires.tracked in
     let known = c.if-not-begin.ensures in let got = c.submit_flush-ticket.ensures in let q = c.index_mut-2.result.now in let value = c.index_mut-2.ensures.value in
     let free = asked-flush c.self.invariant.0 c.self.invariant.4 c.args.pass at in
-    let begun = begins-flush g.S.Store q c.begin_meta.new.self c.submit_flush-ticket.result c.self.inside.store c.submit_flush-ticket.new.self value c.begin_meta.ensures {route = c.args.route} {shape = c.self.inside.shape} {k = c.self.inside.keeper}
+    let begun = begins-flush g.S.Store {r = core_requests c.self.inside.shape c.self.inside.state c.self.inside.passes.items c.self.inside.history} q c.begin_meta.new.self c.submit_flush-ticket.result c.self.inside.store c.submit_flush-ticket.new.self value c.begin_meta.ensures {route = c.args.route} {k = c.self.inside.keeper}
     free got.kind (record { next = got.next; rises = got.rises; flight = got.flight; counts = got.counts; takes = got.takes }) (not-true (is_worn_out c.args.route c.self.inside.keeper) (sym known.worn)) (known.begun refl) in
     let step = begun.sends in
     let number = numbered c.self.inside.passes.items c.args.pass q c.begin_meta.new.self c.submit_flush-ticket.result (g.S.Store.last c.self.inside.store) (g.S.Store.last c.submit_flush-ticket.new.self)
     (read-there c.self.inside.passes.items c.args.pass free.0 q free.1 value) c.begin_meta.ensures got.next.number got.next.last in (
       submit-kept c.self.invariant.0 c.args.pass step (record { counts = got.counts; telling = got.takes.keeps }),
       submit-told c.self.invariant.0 c.args.pass step c.self.invariant.3 c.self.invariant.1,
-      submit-accounted c.self.invariant.2 step number got.counts.faults,
+      submit-accounted c.self.invariant.2 step number,
       submit-logged step c.self.invariant.3,
       begin-recorded c.self.invariant.4 c.in_default.is tracked begun,
-      begin-safely c.self.invariant.0 c.self.invariant.4 c.self.invariant.1 c.self.invariant.3 c.self.invariant.5 c.args.pass c.in_default.is tracked begun got.counts.sectors,
-      stopped-on c.self.invariant.5 c.self.invariant.6 got.takes.keeps.recorded_before (takes-stood g.S.Store _ _ _ begun.submits.takes) refl (λ late start before. before),
+      begin-safely c.self.invariant.0 c.self.invariant.4 c.self.invariant.1 c.self.invariant.3 c.self.invariant.5 c.args.pass c.in_default.is tracked begun,
+      stopped-on c.self.invariant.5 c.self.invariant.6 got.takes.keeps.recorded_before (takes-stood g.S.Store _ _ _ step.call.takes) refl (λ late start before. before),
       got.takes.keeps.state,
     )
 
@@ -91,8 +92,8 @@ pub returns-clause-going : goal.returns-clause-going
 returns-clause-going g c =
     let at = rw (sym c.self.view_is) at c.requires.phase in let known = c.if-not-begin.ensures in let got = c.submit_flush-ticket.ensures in
     let free = asked-flush c.self.invariant.0 c.self.invariant.4 c.args.pass at in
-    let begun = begins-flush g.S.Store c.index_mut-2.result.now c.begin_meta.new.self c.submit_flush-ticket.result c.self.inside.store c.submit_flush-ticket.new.self c.index_mut-2.ensures.value c.begin_meta.ensures
-    {route = c.args.route} {shape = c.self.inside.shape} {k = c.self.inside.keeper} free got.kind (record { next = got.next; rises = got.rises; flight = got.flight; counts = got.counts; takes = got.takes })
+    let begun = begins-flush g.S.Store {r = core_requests c.self.inside.shape c.self.inside.state c.self.inside.passes.items c.self.inside.history} c.index_mut-2.result.now c.begin_meta.new.self c.submit_flush-ticket.result c.self.inside.store c.submit_flush-ticket.new.self c.index_mut-2.ensures.value c.begin_meta.ensures
+    {route = c.args.route} {k = c.self.inside.keeper} free got.kind (record { next = got.next; rises = got.rises; flight = got.flight; counts = got.counts; takes = got.takes })
     (not-true (is_worn_out c.args.route c.self.inside.keeper) (sym known.worn)) (known.begun refl) in
     rw (sym c.self.view_is) (λ is. (c.in_default.is, refl, begun))
 

@@ -1,7 +1,7 @@
 use Rattle.std.proofs.Common.{◌≡◌, true, sym, arith}
 use Rattle.vd_passes.specs.declared.pass.Pass.{Pass}
 use Rattle.vd_passes.specs.Passes.{has_region}
-use Rattle.vd_machine.proofs.Picked.{read-there, at-same}
+use Rattle.vd_machine.proofs.Members.{read-there, at-same}
 use Rattle.vd_core.proofs.Keeping.Looking.{holder-fits}
 use Rattle.vd_core.proofs.state.Core.is_fresh.Goals as goal
 

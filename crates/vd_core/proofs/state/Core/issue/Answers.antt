@@ -18,11 +18,11 @@ invariant_of-self g c =
     let at = rw (sym c.self.view_is) at c.requires.phase in let asked = rw (sym c.self.view_is) at c.requires.content in let done = c.issue_piece.ensures in (
       issue-kept c.self.invariant.0 c.args.pass c.args.content.now at asked done.issues done.extends done.keeps,
       issue-told c.self.invariant.0 c.args.pass c.args.content.now at asked done.issues done.extends.2.opened c.self.invariant.3 c.self.invariant.1,
-      issue-accounted c.self.invariant.2 c.args.pass done.issues done.number done.keeps.counts.faults,
-      λ told. let before = done.issues.told_before told in let was = c.self.invariant.3 before in let adds = (done.issues.told told).0 in
-          logged-on was (_, adds) done.extends.2.opened (issues-followed was.followed (writing-at c.self.inside.passes.items c.args.pass at) done.issues done.extends.2.numbers (done.running before) adds),
+      issue-accounted c.self.invariant.2 c.args.pass done.issues done.number,
+      λ told. let before = done.issues.call.takes.keeps.told_before told in let was = c.self.invariant.3 before in
+          logged-on was (_, done.issues.call.takes.told told) done.extends.2.opened (issues-followed was.followed (writing-at c.self.inside.passes.items c.args.pass at) done.issues done.extends.2.numbers (done.running before) (done.issues.call.takes.told told)),
       issue-recorded c.self.invariant.4 c.args.pass done.issues (issuer-not c.self.inside.passes.items c.args.pass at done.issues.pass done.issues.there),
-      issue-safely c.self.invariant.0 c.self.invariant.4 c.self.invariant.1 c.self.invariant.3 c.self.invariant.5 c.args.pass at asked done.issues done.extends done.running done.keeps,
+      issue-safely c.self.invariant.0 c.self.invariant.4 c.self.invariant.1 c.self.invariant.3 c.self.invariant.5 c.args.pass at asked done.issues done.extends done.running,
       stopped-on c.self.invariant.5 c.self.invariant.6 done.keeps.telling.recorded_before done.stopped done.extends.2.opened (λ late start. issue-still done.issues done.extends.2 c.self.invariant.0.roomy.later),
       done.keeps.telling.state,
     )

@@ -8,7 +8,7 @@ use Rattle.vd_passes.proofs.BlamingSteps.{looks-base_numbered, base_looks-store_
 use Rattle.vd_device.proofs.Keeping.{keeps-same, base-keeps-same}
 use Rattle.vd_machine.specs.Adding.{AddsEntries}
 use Rattle.vd_core.specs.Looking.{IsReader}
-use Rattle.vd_machine.proofs.Picked.{read-there, at-same}
+use Rattle.vd_machine.proofs.Members.{read-there, at-same}
 use Rattle.vd_core.proofs.Views.{same-history, same-store, same-base}
 use Rattle.vd_core.proofs.Keeping.Looking.{holder-fits}
 use Rattle.vd_core.proofs.state.Core.look.Goals as goal

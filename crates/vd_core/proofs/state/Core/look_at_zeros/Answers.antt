@@ -1,5 +1,7 @@
-use Rattle.std.proofs.Common.{sym}
+use Rattle.std.proofs.Common.{sym, ap}
+use Rattle.vd_passes.specs.Requests.{RequestState}
 use Rattle.vd_passes.proofs.TracingSteps.{sees_zeros-followed}
+use Rattle.vd_core.specs.Kept.{core_requests}
 use Rattle.vd_core.proofs.Keeping.Accounting.{zeros-accounted}
 use Rattle.vd_core.proofs.Keeping.Devices.{region-within}
 use Rattle.vd_core.proofs.Keeping.Looking.{can-see-zeros, zeros-seen, zeros-kept, zeros-told}
@@ -21,15 +23,15 @@ free-requires g c =
 
 pub invariant_of-self : goal.invariant_of-self
 invariant_of-self g c =
-    let at = rw (sym c.self.view_is) at c.requires.phase in let seen = c.see_zeros.ensures.sees in
-    let step = zeros-seen (at.0, at.1, at.2.2) seen in (
-      zeros-kept c.self.invariant.0 c.args.pass (at.0, at.1, (at.2.0, at.2.1)) step (seen.0, seen.1, seen.2.1) c.free.ensures.held,
-      zeros-told c.self.invariant.0 c.args.pass (at.0, at.1, (at.2.0, at.2.1)) step seen.2.1.opened c.self.invariant.1,
+    let at = rw (sym c.self.view_is) at c.requires.phase in let told = c.see_zeros.ensures.sees in let seen = told.2.1 in
+    let step = zeros-seen {r = core_requests c.self.inside.shape c.self.inside.state c.self.inside.passes.items c.self.inside.history} (at.0, at.1, at.2.2) (told.0, told.1, told.2.0 c.self.inside.shape c.self.inside.state.fresh.bits) in (
+      zeros-kept c.self.invariant.0 c.args.pass (at.0, at.1, (at.2.0, at.2.1)) step (told.0, told.1, seen) c.free.ensures.held,
+      zeros-told c.self.invariant.0 c.args.pass (at.0, at.1, (at.2.0, at.2.1)) step seen.opened c.self.invariant.1,
       zeros-accounted c.self.invariant.0.coherent c.self.invariant.2 c.args.pass (at.0, at.1, at.2.0.phase) step,
-      λ told. let was = c.self.invariant.3 told in
-          logged-here was seen.2.1.opened (sees_zeros-followed c.self.invariant.0.coherent (g.S.Store.events c.self.inside.store) was.followed (at.0, at.1, at.2.0.phase) step seen.2.1.numbers),
+      λ now. let was = c.self.invariant.3 now in
+          logged-here was seen.opened (sees_zeros-followed c.self.invariant.0.coherent (g.S.Store.events c.self.inside.store) was.followed (at.0, at.1, at.2.0.phase) step seen.numbers),
       sees-recorded c.self.invariant.4 c.args.pass held-not (at.0, at.1, at.2.0.phase) step.sees,
-      zeros-safely c.self.invariant.0 c.self.invariant.4 c.self.invariant.1 c.self.invariant.3 c.self.invariant.5 c.args.pass (at.0, at.1, at.2.0.phase) step seen.2.1 c.see_zeros.ensures.running,
-      stopped-same c.self.invariant.6 seen.2.1.opened (λ late start. late-one _ seen.2.1 step.sees.event c.self.invariant.0.roomy.later late),
+      zeros-safely c.self.invariant.0 c.self.invariant.4 c.self.invariant.1 c.self.invariant.3 c.self.invariant.5 c.args.pass (at.0, at.1, at.2.0.phase) step seen c.see_zeros.ensures.running,
+      stopped-same c.self.invariant.6 seen.opened (λ late start. late-one _ seen (ap (λ (r : RequestState). r.entries) step.sees.after) c.self.invariant.0.roomy.later late),
       c.self.invariant.7,
     )

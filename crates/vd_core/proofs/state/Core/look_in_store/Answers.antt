@@ -15,16 +15,16 @@ look_at_store-requires g c =
 
 pub invariant_of-self : goal.invariant_of-self
 invariant_of-self g c =
-    let at = rw (sym c.self.view_is) at c.requires.phase in let done = c.look_at_store.ensures in (
-      look-kept c.self.invariant.0 c.args.pass at done.looks done.keeps,
-      look-told c.self.invariant.0 c.args.pass at done.looks c.self.invariant.3 c.self.invariant.1,
-      look-accounted c.self.invariant.2 c.args.pass done.looks done.number done.keeps.counts.faults,
-      λ told. let was = c.self.invariant.3 (done.looks.told_before told) in let adds = (done.looks.told told).0 in logged-on was (_, adds) refl (looks-followed was.followed (at.0, at.1, at.2.0.phase) done.looks adds),
-      look-recorded c.self.invariant.4 c.args.pass (at.0, at.1, at.2.0.phase) done.looks,
-      look-safely c.self.invariant.0 c.self.invariant.4 c.self.invariant.1 c.self.invariant.3 c.self.invariant.5 c.args.pass (at.0, at.1, at.2.0.phase) done.looks done.keeps,
+    let at = rw (sym c.self.view_is) at c.requires.phase in let done = c.look_at_store.ensures in let step = done.looks c.self.inside.state.fresh.bits c.self.inside.history.log.entries in (
+      look-kept c.self.invariant.0 c.args.pass at step done.keeps,
+      look-told c.self.invariant.0 c.args.pass at step c.self.invariant.3 c.self.invariant.1,
+      look-accounted c.self.invariant.2 c.args.pass step done.number,
+      λ told. let was = c.self.invariant.3 (step.call.takes.keeps.told_before told) in logged-on was (_, step.call.takes.told told) refl (looks-followed was.followed (at.0, at.1, at.2.0.phase) step (step.call.takes.told told)),
+      look-recorded c.self.invariant.4 c.args.pass (at.0, at.1, at.2.0.phase) step,
+      look-safely c.self.invariant.0 c.self.invariant.4 c.self.invariant.1 c.self.invariant.3 c.self.invariant.5 c.args.pass (at.0, at.1, at.2.0.phase) step,
       stopped-on c.self.invariant.5 c.self.invariant.6 done.keeps.telling.recorded_before done.stopped refl (λ late start before. before),
       done.keeps.telling.state,
     )
 
 pub returns-clause-looks : goal.returns-clause-looks
-returns-clause-looks g c = rw (sym c.self.view_is) c.look_at_store.ensures.looks
+returns-clause-looks g c = rw (sym c.self.view_is) (c.look_at_store.ensures.looks c.self.inside.state.fresh.bits c.self.inside.history.log.entries)

@@ -64,11 +64,11 @@ invariant_of-self g c =
     (read-there c.self.inside.passes.items c.args.pass free.0 c.index_mut.result.now free.1 c.index_mut.ensures.value) c.begin_meta.ensures got.next.number got.next.last in (
       submit-kept c.self.invariant.0 c.args.pass step (record { counts = got.counts; telling = got.takes.keeps }),
       submit-told c.self.invariant.0 c.args.pass step c.self.invariant.3 c.self.invariant.1,
-      submit-accounted c.self.invariant.2 step number got.counts.faults,
+      submit-accounted c.self.invariant.2 step number,
       submit-logged step c.self.invariant.3,
       put-recorded c.self.invariant.4 stage puts,
-      put-safely c.self.invariant.0 c.self.invariant.4 c.self.invariant.1 c.self.invariant.3 c.self.invariant.5 c.args.pass stage puts got.counts.sectors,
-      stopped-on c.self.invariant.5 c.self.invariant.6 got.takes.keeps.recorded_before (takes-stood g.S.Store _ _ _ puts.submits.takes) refl (λ late start before. before),
+      put-safely c.self.invariant.0 c.self.invariant.4 c.self.invariant.1 c.self.invariant.3 c.self.invariant.5 c.args.pass stage puts,
+      stopped-on c.self.invariant.5 c.self.invariant.6 got.takes.keeps.recorded_before (takes-stood g.S.Store _ _ _ step.call.takes) refl (λ late start before. before),
       got.takes.keeps.state,
     )
 

@@ -23,15 +23,15 @@ release-requires g c =
 
 pub invariant_of-self : goal.invariant_of-self
 invariant_of-self g c =
-    let at = rw (sym c.self.view_is) at c.requires.phase in let done = c.settle_base_look-outcome.ensures in
+    let at = rw (sym c.self.view_is) at c.requires.phase in let done = c.settle_base_look-outcome.ensures in let step = done.settled.2 c.self.inside.state.fresh.bits in
     let after = c.release.ensures.regions ∙ ap (λ (o : Outcome). regions_after_end o c.args.pass c.self.inside.regions) done.settled.1 in (
-      settle_base_look-kept c.self.invariant.0 c.args.pass (at.0, at.1, at.2.0) done.settled.2 done.keeps done.settled.3 after,
-      settle_base_look-told c.self.invariant.0 c.args.pass (at.0, at.1, at.2.0) done.settled.2 done.keeps done.settled.3.2.opened c.self.invariant.1,
-      settle_base_look-accounted c.self.invariant.0.coherent c.self.invariant.2 c.args.pass (g.B.Base.late c.self.inside.base) (g.B.Base.late c.settle_base_look-outcome.new.base) done.settled.2 done.number done.settled.4,
+      settle_base_look-kept c.self.invariant.0 c.args.pass (at.0, at.1, at.2.0) step done.settled.3 after,
+      settle_base_look-told c.self.invariant.0 c.args.pass (at.0, at.1, at.2.0) step done.settled.3.2.opened c.self.invariant.1,
+      settle_base_look-accounted c.self.invariant.0.coherent c.self.invariant.2 c.args.pass step,
       λ told. let was = c.self.invariant.3 told in
-          logged-here was done.settled.3.2.opened (base_look_settled-followed c.self.invariant.0.coherent (g.S.Store.events c.self.inside.store) was.followed (at.0, at.1, at.2.0) done.settled.2 done.settled.3.2.numbers),
-      settle_base_look-recorded c.self.invariant.4 c.args.pass (at.0, at.1, at.2.0) done.settled.2,
-      settle_base_look-safely c.self.invariant.0 c.self.invariant.4 c.self.invariant.1 c.self.invariant.3 c.self.invariant.5 c.args.pass (at.0, at.1, at.2.0) done.settled.2 done.settled.3.2 done.running done.keeps,
-      stopped-here (stopped-same c.self.invariant.6 done.settled.3.2.opened (λ late start. base_look-still done.settled.2 done.settled.3.2 c.self.invariant.0.roomy.later late)) done.keeps,
+          logged-here was done.settled.3.2.opened (base_look_settled-followed c.self.invariant.0.coherent (g.S.Store.events c.self.inside.store) was.followed (at.0, at.1, at.2.0) step done.settled.3.2.numbers),
+      settle_base_look-recorded c.self.invariant.4 c.args.pass (at.0, at.1, at.2.0) step,
+      settle_base_look-safely c.self.invariant.0 c.self.invariant.4 c.self.invariant.1 c.self.invariant.3 c.self.invariant.5 c.args.pass (at.0, at.1, at.2.0) step done.settled.3.2 done.running,
+      stopped-here (stopped-same c.self.invariant.6 done.settled.3.2.opened (λ late start. base_look-still step done.settled.3.2 c.self.invariant.0.roomy.later late)) done.keeps,
       c.self.invariant.7,
     )

@@ -23,14 +23,14 @@ release_failed-requires g c =
 
 pub invariant_of-self : goal.invariant_of-self
 invariant_of-self g c =
-    let at = rw (sym c.self.view_is) at c.requires.phase in let done = c.settle_block-outcome.ensures in
+    let at = rw (sym c.self.view_is) at c.requires.phase in let done = c.settle_block-outcome.ensures in let step = done.settled.2 c.self.inside.state.fresh.bits c.self.inside.history.log.entries in
     let released = c.release_failed.ensures.regions ∙ ap (λ (o : Outcome). regions_after_failure o c.args.pass c.self.inside.regions) done.settled.1 in (
-      settle_fetch-kept c.self.invariant.0 c.args.pass at done.settled.2 done.keeps c.release_failed.new.regions released,
-      settle_fetch-told c.self.invariant.0 c.args.pass at done.settled.2 done.keeps c.self.invariant.1,
-      settle_fetch-accounted c.self.invariant.2 c.args.pass (g.B.Base.late c.self.inside.base) (g.B.Base.late c.settle_block-outcome.new.base) done.settled.2 done.number done.settled.3,
-      λ told. let was = c.self.invariant.3 told in logged-here was refl (fetch_settled-followed was.followed at done.settled.2),
-      settle_fetch-recorded c.self.invariant.4 c.args.pass at done.settled.2,
-      settle_fetch-safely c.self.invariant.0 c.self.invariant.4 c.self.invariant.1 c.self.invariant.5 c.args.pass at done.settled.2 done.keeps,
+      settle_fetch-kept c.self.invariant.0 c.args.pass at step c.release_failed.new.regions released,
+      settle_fetch-told c.self.invariant.0 c.args.pass at step c.self.invariant.1,
+      settle_fetch-accounted c.self.invariant.2 c.args.pass step,
+      λ told. let was = c.self.invariant.3 told in logged-here was refl (fetch_settled-followed was.followed at step),
+      settle_fetch-recorded c.self.invariant.4 c.args.pass at step,
+      settle_fetch-safely c.self.invariant.0 c.self.invariant.4 c.self.invariant.1 c.self.invariant.5 c.args.pass at step,
       stopped-here c.self.invariant.6 done.keeps,
       c.self.invariant.7,
     )

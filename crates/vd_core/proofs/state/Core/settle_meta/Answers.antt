@@ -1,4 +1,4 @@
-use Rattle.std.proofs.Common.{◌≡◌, ◌<◌, ◌⊎◌, ◌∙◌, sym, refl, ap, subst, inl, inr, length, arith, slice_set, Some}
+use Rattle.std.proofs.Common.{◌≡◌, ◌<◌, ◌⊎◌, ◌∙◌, sym, refl, ap, subst, inl, inr, length, arith, List, slice_set, Some}
 use Rattle.std.proofs.lemmas.List.{nil_from_length}
 use Rattle.std.proofs.lemmas.Option.{slice_get_within}
 use Rattle.vd_device.specs.declared.ticket.Ticket.{Ticket}
@@ -8,6 +8,8 @@ use Rattle.vd_device.specs.Tickets.{IsInFlight, reads_of, sectors_read}
 use Rattle.vd_passes.specs.declared.pass.Pass.{Pass}
 use Rattle.vd_passes.specs.declared.pass.Fault.TheVariants as fault
 use Rattle.vd_passes.specs.Passes.{after_fault}
+use Rattle.vd_passes.specs.Requests.{with_pass}
+use Rattle.vd_core.specs.Kept.{core_requests}
 use Rattle.vd_passes.proofs.Lists.{some-inj, length-set'}
 use Rattle.vd_passes.proofs.Stopping.{takes-stood}
 use Rattle.vd_machine.proofs.Members.{read-there, read-back, picked, set-twice}
@@ -82,17 +84,17 @@ invariant_of-self g c =
     let at = rw (sym c.self.view_is) at c.requires.phase in let away = away-call c.self.invariant.0 c.self.invariant.4 c.args.pass at in
     let passes = c.self.inside.passes.items in let i = c.args.pass in let q = c.index_mut.result.now in let taken = c.take_ticket-ticket.ensures in
     let done = c.in-Done.ensures in let there = read-there passes i away.0 q away.1 c.index_mut.ensures.value in
-    let settled = settles-meta g.S.Store (Done) {k = c.self.inside.keeper} q c.take_ticket-ticket.result c.settle.new.out c.self.inside.store c.settle.new.self there
+    let settled = settles-meta g.S.Store (Done) {r = core_requests c.self.inside.shape c.self.inside.state passes c.self.inside.history} {k = c.self.inside.keeper} q c.take_ticket-ticket.result c.settle.new.out c.self.inside.store c.settle.new.self there
     (ap (λ (x : Pass). x.phase) (sym (picked passes i away q c.index_mut.ensures.value)) ∙ away.2.0) taken.ticket (nil_from_length c.settle.new.out c.settle.auto.out)
     (record { settles = done.settles; cause = done.cause; last = done.last; counts = done.counts; takes = done.takes; gives = done.gives; undone = done.undone })
-    (ap (λ (x : Pass). slice_set passes i x) taken.rest) (c.settled.ensures.done refl) in
+    (ap (λ (x : Pass). with_pass i x (core_requests c.self.inside.shape c.self.inside.state passes c.self.inside.history)) taken.rest) (c.settled.ensures.done refl) in
     let step = settled.settles in (
       settle_meta-kept c.self.invariant.0 i step (record { counts = done.counts; telling = done.takes.keeps }),
       settle_meta-told c.self.invariant.0 i step c.self.invariant.3 c.self.invariant.1,
-      settle_meta-accounted c.self.invariant.2 (g.S.Store.late c.self.inside.store) (g.S.Store.late c.settle.new.self) step done.cause,
+      settle_meta-accounted c.self.invariant.2 step,
       settle_meta-logged c.self.invariant.0 i step c.self.invariant.3,
       settle_meta-recorded (Done) c.self.invariant.4 settled,
-      settle_meta-safely c.self.invariant.0 c.self.invariant.4 c.self.invariant.1 c.self.invariant.3 c.self.invariant.5 i settled done.counts.sectors,
+      settle_meta-safely c.self.invariant.0 c.self.invariant.4 c.self.invariant.1 c.self.invariant.3 c.self.invariant.5 i settled,
       stopped-on c.self.invariant.5 c.self.invariant.6 done.takes.keeps.recorded_before (takes-stood g.S.Store _ _ _ done.takes) refl (λ late start before. before),
       done.takes.keeps.state,
     )
@@ -102,10 +104,10 @@ returns-in-Done-clause-settled g c =
     let at = rw (sym c.self.view_is) at c.requires.phase in let away = away-call c.self.invariant.0 c.self.invariant.4 c.args.pass at in
     let passes = c.self.inside.passes.items in let i = c.args.pass in let q = c.index_mut.result.now in let taken = c.take_ticket-ticket.ensures in
     let done = c.in-Done.ensures in let there = read-there passes i away.0 q away.1 c.index_mut.ensures.value in
-    let settled = settles-meta g.S.Store (Done) {k = c.self.inside.keeper} q c.take_ticket-ticket.result c.settle.new.out c.self.inside.store c.settle.new.self there
+    let settled = settles-meta g.S.Store (Done) {r = core_requests c.self.inside.shape c.self.inside.state passes c.self.inside.history} {k = c.self.inside.keeper} q c.take_ticket-ticket.result c.settle.new.out c.self.inside.store c.settle.new.self there
     (ap (λ (x : Pass). x.phase) (sym (picked passes i away q c.index_mut.ensures.value)) ∙ away.2.0) taken.ticket (nil_from_length c.settle.new.out c.settle.auto.out)
     (record { settles = done.settles; cause = done.cause; last = done.last; counts = done.counts; takes = done.takes; gives = done.gives; undone = done.undone })
-    (ap (λ (x : Pass). slice_set passes i x) taken.rest) (c.settled.ensures.done refl) in
+    (ap (λ (x : Pass). with_pass i x (core_requests c.self.inside.shape c.self.inside.state passes c.self.inside.history)) taken.rest) (c.settled.ensures.done refl) in
     rw (sym c.self.view_is) (Done, refl, settled, done.cause, refl)
 
 pub invariant_of-self-in-NotYet : goal.invariant_of-self-in-NotYet
@@ -115,17 +117,17 @@ invariant_of-self-in-NotYet g c =
     let late = c.in-NotYet.ensures in let there = read-there passes i away.0 q away.1 c.index_mut.ensures.value in
     let back = read-back passes i c.take_ticket-ticket.new.self q c.index_mut-in-NotYet.result.now (read-there passes i away.0 q away.1 c.index_mut.ensures.value) c.index_mut-in-NotYet.ensures.value in
     let put = c.put_ticket.ensures ∙ ap (λ (x : Pass). record x { ticket = Some c.in-NotYet.ticket }) back in
-    let settled = settles-meta g.S.Store (NotYet c.in-NotYet.ticket) {k = c.self.inside.keeper} q c.take_ticket-ticket.result c.settle.new.out c.self.inside.store c.settle.new.self there
+    let settled = settles-meta g.S.Store (NotYet c.in-NotYet.ticket) {r = core_requests c.self.inside.shape c.self.inside.state passes c.self.inside.history} {k = c.self.inside.keeper} q c.take_ticket-ticket.result c.settle.new.out c.self.inside.store c.settle.new.self there
     (ap (λ (x : Pass). x.phase) (sym (picked passes i away q c.index_mut.ensures.value)) ∙ away.2.0) taken.ticket late.settles.1
     (record { settles = late.settles; cause = late.cause; last = late.last; counts = late.counts; takes = late.takes; gives = late.gives; undone = late.undone })
-    (set-twice passes i c.take_ticket-ticket.new.self c.put_ticket.new.self ∙ ap (λ (x : Pass). slice_set passes i x) (put-back q c.take_ticket-ticket.new.self c.put_ticket.new.self c.take_ticket-ticket.result c.in-NotYet.ticket taken.rest taken.ticket late.settles.0 put)) (refl) in
+    (ap (λ (ps : List Pass). record (core_requests c.self.inside.shape c.self.inside.state passes c.self.inside.history) { passes = ps }) (set-twice passes i c.take_ticket-ticket.new.self c.put_ticket.new.self ∙ ap (λ (x : Pass). slice_set passes i x) (put-back q c.take_ticket-ticket.new.self c.put_ticket.new.self c.take_ticket-ticket.result c.in-NotYet.ticket taken.rest taken.ticket late.settles.0 put))) (refl) in
     let step = settled.settles in (
       settle_meta-kept c.self.invariant.0 i step (record { counts = late.counts; telling = late.takes.keeps }),
       settle_meta-told c.self.invariant.0 i step c.self.invariant.3 c.self.invariant.1,
-      settle_meta-accounted c.self.invariant.2 (g.S.Store.late c.self.inside.store) (g.S.Store.late c.settle.new.self) step late.cause,
+      settle_meta-accounted c.self.invariant.2 step,
       settle_meta-logged c.self.invariant.0 i step c.self.invariant.3,
       settle_meta-recorded (NotYet c.in-NotYet.ticket) c.self.invariant.4 settled,
-      settle_meta-safely c.self.invariant.0 c.self.invariant.4 c.self.invariant.1 c.self.invariant.3 c.self.invariant.5 i settled late.counts.sectors,
+      settle_meta-safely c.self.invariant.0 c.self.invariant.4 c.self.invariant.1 c.self.invariant.3 c.self.invariant.5 i settled,
       stopped-on c.self.invariant.5 c.self.invariant.6 late.takes.keeps.recorded_before (takes-stood g.S.Store _ _ _ late.takes) refl (λ late start before. before),
       late.takes.keeps.state,
     )
@@ -137,10 +139,10 @@ returns-in-NotYet-clause-settled g c =
     let late = c.in-NotYet.ensures in let there = read-there passes i away.0 q away.1 c.index_mut.ensures.value in
     let back = read-back passes i c.take_ticket-ticket.new.self q c.index_mut-in-NotYet.result.now (read-there passes i away.0 q away.1 c.index_mut.ensures.value) c.index_mut-in-NotYet.ensures.value in
     let put = c.put_ticket.ensures ∙ ap (λ (x : Pass). record x { ticket = Some c.in-NotYet.ticket }) back in
-    let settled = settles-meta g.S.Store (NotYet c.in-NotYet.ticket) {k = c.self.inside.keeper} q c.take_ticket-ticket.result c.settle.new.out c.self.inside.store c.settle.new.self there
+    let settled = settles-meta g.S.Store (NotYet c.in-NotYet.ticket) {r = core_requests c.self.inside.shape c.self.inside.state passes c.self.inside.history} {k = c.self.inside.keeper} q c.take_ticket-ticket.result c.settle.new.out c.self.inside.store c.settle.new.self there
     (ap (λ (x : Pass). x.phase) (sym (picked passes i away q c.index_mut.ensures.value)) ∙ away.2.0) taken.ticket late.settles.1
     (record { settles = late.settles; cause = late.cause; last = late.last; counts = late.counts; takes = late.takes; gives = late.gives; undone = late.undone })
-    (set-twice passes i c.take_ticket-ticket.new.self c.put_ticket.new.self ∙ ap (λ (x : Pass). slice_set passes i x) (put-back q c.take_ticket-ticket.new.self c.put_ticket.new.self c.take_ticket-ticket.result c.in-NotYet.ticket taken.rest taken.ticket late.settles.0 put)) (refl) in
+    (ap (λ (ps : List Pass). record (core_requests c.self.inside.shape c.self.inside.state passes c.self.inside.history) { passes = ps }) (set-twice passes i c.take_ticket-ticket.new.self c.put_ticket.new.self ∙ ap (λ (x : Pass). slice_set passes i x) (put-back q c.take_ticket-ticket.new.self c.put_ticket.new.self c.take_ticket-ticket.result c.in-NotYet.ticket taken.rest taken.ticket late.settles.0 put))) (refl) in
     rw (sym c.self.view_is) (NotYet c.in-NotYet.ticket, refl, settled, late.cause, refl)
 
 pub invariant_of-self-in-Failed : goal.invariant_of-self-in-Failed
@@ -150,17 +152,17 @@ invariant_of-self-in-Failed g c =
     let failed = c.in-Failed.ensures in let there = read-there passes i away.0 q away.1 c.index_mut.ensures.value in
     let back = read-back passes i c.take_ticket-ticket.new.self q c.index_mut-in-Failed.result.now (read-there passes i away.0 q away.1 c.index_mut.ensures.value) c.index_mut-in-Failed.ensures.value in
     let gone = c.fail.ensures ∙ ap (λ (x : Pass). after_fault (fault.Store c.in-Failed.number) x) back in
-    let settled = settles-meta g.S.Store (Failed c.in-Failed.number) {k = c.self.inside.keeper} q c.take_ticket-ticket.result c.settle.new.out c.self.inside.store c.settle.new.self there
+    let settled = settles-meta g.S.Store (Failed c.in-Failed.number) {r = core_requests c.self.inside.shape c.self.inside.state passes c.self.inside.history} {k = c.self.inside.keeper} q c.take_ticket-ticket.result c.settle.new.out c.self.inside.store c.settle.new.self there
     (ap (λ (x : Pass). x.phase) (sym (picked passes i away q c.index_mut.ensures.value)) ∙ away.2.0) taken.ticket failed.settles.1
     (record { settles = failed.settles; cause = failed.cause; last = failed.last; counts = failed.counts; takes = failed.takes; gives = failed.gives; undone = failed.undone })
-    (set-twice passes i c.take_ticket-ticket.new.self c.fail.new.self ∙ ap (λ (x : Pass). slice_set passes i x) (call-failed q c.take_ticket-ticket.new.self c.fail.new.self c.take_ticket-ticket.result.number c.in-Failed.number taken.rest failed.settles.0 gone)) (c.settled-in-Failed.ensures.failed refl) in
+    (ap (λ (ps : List Pass). record (core_requests c.self.inside.shape c.self.inside.state passes c.self.inside.history) { passes = ps }) (set-twice passes i c.take_ticket-ticket.new.self c.fail.new.self ∙ ap (λ (x : Pass). slice_set passes i x) (call-failed q c.take_ticket-ticket.new.self c.fail.new.self c.take_ticket-ticket.result.number c.in-Failed.number taken.rest failed.settles.0 gone))) (c.settled-in-Failed.ensures.failed refl) in
     let step = settled.settles in (
       settle_meta-kept c.self.invariant.0 i step (record { counts = failed.counts; telling = failed.takes.keeps }),
       settle_meta-told c.self.invariant.0 i step c.self.invariant.3 c.self.invariant.1,
-      settle_meta-accounted c.self.invariant.2 (g.S.Store.late c.self.inside.store) (g.S.Store.late c.settle.new.self) step failed.cause,
+      settle_meta-accounted c.self.invariant.2 step,
       settle_meta-logged c.self.invariant.0 i step c.self.invariant.3,
       settle_meta-recorded (Failed c.in-Failed.number) c.self.invariant.4 settled,
-      settle_meta-safely c.self.invariant.0 c.self.invariant.4 c.self.invariant.1 c.self.invariant.3 c.self.invariant.5 i settled failed.counts.sectors,
+      settle_meta-safely c.self.invariant.0 c.self.invariant.4 c.self.invariant.1 c.self.invariant.3 c.self.invariant.5 i settled,
       stopped-on c.self.invariant.5 c.self.invariant.6 failed.takes.keeps.recorded_before (takes-stood g.S.Store _ _ _ failed.takes) refl (λ late start before. before),
       failed.takes.keeps.state,
     )
@@ -172,8 +174,8 @@ returns-in-Failed-clause-settled g c =
     let failed = c.in-Failed.ensures in let there = read-there passes i away.0 q away.1 c.index_mut.ensures.value in
     let back = read-back passes i c.take_ticket-ticket.new.self q c.index_mut-in-Failed.result.now (read-there passes i away.0 q away.1 c.index_mut.ensures.value) c.index_mut-in-Failed.ensures.value in
     let gone = c.fail.ensures ∙ ap (λ (x : Pass). after_fault (fault.Store c.in-Failed.number) x) back in
-    let settled = settles-meta g.S.Store (Failed c.in-Failed.number) {k = c.self.inside.keeper} q c.take_ticket-ticket.result c.settle.new.out c.self.inside.store c.settle.new.self there
+    let settled = settles-meta g.S.Store (Failed c.in-Failed.number) {r = core_requests c.self.inside.shape c.self.inside.state passes c.self.inside.history} {k = c.self.inside.keeper} q c.take_ticket-ticket.result c.settle.new.out c.self.inside.store c.settle.new.self there
     (ap (λ (x : Pass). x.phase) (sym (picked passes i away q c.index_mut.ensures.value)) ∙ away.2.0) taken.ticket failed.settles.1
     (record { settles = failed.settles; cause = failed.cause; last = failed.last; counts = failed.counts; takes = failed.takes; gives = failed.gives; undone = failed.undone })
-    (set-twice passes i c.take_ticket-ticket.new.self c.fail.new.self ∙ ap (λ (x : Pass). slice_set passes i x) (call-failed q c.take_ticket-ticket.new.self c.fail.new.self c.take_ticket-ticket.result.number c.in-Failed.number taken.rest failed.settles.0 gone)) (c.settled-in-Failed.ensures.failed refl) in
+    (ap (λ (ps : List Pass). record (core_requests c.self.inside.shape c.self.inside.state passes c.self.inside.history) { passes = ps }) (set-twice passes i c.take_ticket-ticket.new.self c.fail.new.self ∙ ap (λ (x : Pass). slice_set passes i x) (call-failed q c.take_ticket-ticket.new.self c.fail.new.self c.take_ticket-ticket.result.number c.in-Failed.number taken.rest failed.settles.0 gone))) (c.settled-in-Failed.ensures.failed refl) in
     rw (sym c.self.view_is) (Failed c.in-Failed.number, refl, settled, failed.cause, refl)

@@ -23,10 +23,10 @@ unreachable-requires g c =
 pub returns-in-Going-clause-drives : goal.returns-in-Going-clause-drives
 returns-in-Going-clause-drives g c =
     let at = c.requires.busy in let old = c.args.core.now in let phase = sym (c.phase.ensures.phase at.0 at.1) ∙ c.in-Asked.is in let others = c.begin_flush.ensures.others in
-    drives-as refl (ap (λ (h : HistoryState). h.log.entries) (same-history others)) (same-left others) (elim c.in-Going.is [
-      | inl going ↦ (let b = c.begin_flush.ensures.going going in begins-drives old.history.log.entries old.spare b.0 b.1 b.2)
+    drives-as refl refl (same-left others) (elim c.in-Going.is [
+      | inl going ↦ (let b = c.begin_flush.ensures.going going in begins-drives old.spare b.0 b.1 b.2)
       | inr worn ↦ (let w = c.begin_flush.ensures.worn worn in
-          worn-drives old.history.log.entries old.spare w.0 (ap (λ (v : View _ _). v.flusher) w.2) (ap (λ (v : View _ _). v.keeping) w.2) w.1)
+          worn-drives old.spare w.0 (ap (λ (v : View _ _). v.flusher) w.2) (ap (λ (v : View _ _). v.keeping) w.2) w.1)
     ])
 
 pub returns-in-Busy-clause-drives : goal.returns-in-Busy-clause-drives

@@ -3,6 +3,7 @@ use Rattle.vd_law.specs.Histories.{HistoryState}
 use Rattle.vd_law.specs.declared.entry.Room.{Room}
 use Rattle.vd_passes.specs.Passes.{writes_in}
 use Rattle.vd_core.proofs.Views.{same-history, same-left}
+use Rattle.vd_passes.specs.Requests.{RequestState}
 use Rattle.vd_core.specs.View.{View}
 use Rattle.vd_core.proofs.Leaving.{kept-out}
 use Rattle.vd_core.proofs.Opened.{store-untouched}
@@ -24,13 +25,13 @@ unreachable-requires g c =
 
 pub returns-in-Ok-clause-drives : goal.returns-in-Ok-clause-drives
 returns-in-Ok-clause-drives g c =
-    let at = c.requires.busy in let phase = sym (c.phase.ensures.phase at.0 at.1) ∙ c.in-Asked.is in let same = same-history c.enter.ensures.others in let left = same-left c.enter.ensures.others in
-    drives-as refl (ap (λ (h : HistoryState). h.log.entries) same) left (enters-drives c.args.core.now.history.log.entries c.args.core.now.spare at.0 at.1 phase c.in-Ok.ensures.enters.enters)
+    let at = c.requires.busy in let phase = sym (c.phase.ensures.phase at.0 at.1) ∙ c.in-Asked.is in let left = same-left c.enter.ensures.others in
+    drives-as refl refl left (enters-drives c.args.core.now.spare at.0 at.1 phase c.in-Ok.ensures.enters.enters)
 
 pub returns-in-Err-clause-drives : goal.returns-in-Err-clause-drives
 returns-in-Err-clause-drives g c =
     let at = c.requires.busy in let out = c.in-Err.ensures.busy in let same = same-history c.enter.ensures.others in let left = same-left c.enter.ensures.others in
-    drives-as refl (ap (λ (h : HistoryState). h.log.entries) same) left (still-drives c.in-Err.busy.by c.args.core.now.shape.block c.args.core.now.history.log.entries c.args.core.now.spare at.0 at.1 out.passes_same)
+    drives-as refl (ap (λ (h : HistoryState). h.log.entries) same) left (still-drives c.in-Err.busy.by c.args.core.now.shape.block c.args.core.now.history.log.entries c.args.core.now.spare at.0 at.1 (ap (λ (r : RequestState). r.passes) out.same))
 
 pub returns-in-Err-clause-busy : goal.returns-in-Err-clause-busy
 returns-in-Err-clause-busy g c = kept-out c.in-Err.ensures.busy

@@ -1,4 +1,5 @@
 use Rattle.std.proofs.Common.{◌∙◌, sym, ap, refl, inl, inr, arith}
+use Rattle.vd_passes.specs.Requests.{RequestState}
 use Rattle.vd_core.specs.View.{View}
 use Rattle.vd_core.proofs.Opened.{store-untouched}
 use Rattle.vd_drive.proofs.Untouched.{base-untouched}
@@ -20,13 +21,13 @@ unreachable-requires g c =
 
 pub returns-in-Ok-clause-drives : goal.returns-in-Ok-clause-drives
 returns-in-Ok-clause-drives g c =
-    let at = c.requires.busy in let phase = sym (c.phase.ensures.phase at.0 at.1) ∙ c.in-Asked.is in let same = same-history c.enter.ensures.others in let left = same-left c.enter.ensures.others in
-    drives-as refl (ap (λ (h : HistoryState). h.log.entries) same) left (enters-drives c.args.core.now.history.log.entries c.args.core.now.spare at.0 at.1 phase c.in-Ok.ensures.enters.enters)
+    let at = c.requires.busy in let phase = sym (c.phase.ensures.phase at.0 at.1) ∙ c.in-Asked.is in let left = same-left c.enter.ensures.others in
+    drives-as refl refl left (enters-drives c.args.core.now.spare at.0 at.1 phase c.in-Ok.ensures.enters.enters)
 
 pub returns-in-Err-clause-drives : goal.returns-in-Err-clause-drives
 returns-in-Err-clause-drives g c =
     let at = c.requires.busy in let out = c.in-Err.ensures.busy in let same = same-history c.enter.ensures.others in let left = same-left c.enter.ensures.others in
-    drives-as refl (ap (λ (h : HistoryState). h.log.entries) same) left (still-drives c.in-Err.busy.by c.args.core.now.shape.block c.args.core.now.history.log.entries c.args.core.now.spare at.0 at.1 out.passes_same)
+    drives-as refl (ap (λ (h : HistoryState). h.log.entries) same) left (still-drives c.in-Err.busy.by c.args.core.now.shape.block c.args.core.now.history.log.entries c.args.core.now.spare at.0 at.1 (ap (λ (r : RequestState). r.passes) out.same))
 
 pub returns-in-Err-clause-busy : goal.returns-in-Err-clause-busy
 returns-in-Err-clause-busy g c = kept-out c.in-Err.ensures.busy
@@ -39,14 +40,14 @@ returns-then-is_whole-clause-drives g c =
 pub returns-else-is_whole-clause-drives : goal.returns-else-is_whole-clause-drives
 returns-else-is_whole-clause-drives g c =
     let at = c.requires.busy in let phase = sym (c.phase.ensures.phase at.0 at.1) ∙ c.in-Held.is in let stands = c.phase.ensures.stands at.0 at.1 in
-    let same = same-history c.fetch.ensures.others in let left = same-left c.fetch.ensures.others in
-    drives-as refl (ap (λ (h : HistoryState). h.log.entries) same) left (fetches-drives c.args.core.now.history.log.entries c.args.core.now.spare at.0 at.1 phase at.2.1 stands c.fetch.ensures.fetches)
+    let left = same-left c.fetch.ensures.others in
+    drives-as refl refl left (fetches-drives c.args.core.now.spare at.0 at.1 phase at.2.1 stands c.fetch.ensures.fetches)
 
 pub returns-in-Fetching-clause-drives : goal.returns-in-Fetching-clause-drives
 returns-in-Fetching-clause-drives g c =
     let at = c.requires.busy in let phase = sym (c.phase.ensures.phase at.0 at.1) ∙ c.in-Fetching.is in let stands = c.phase.ensures.stands at.0 at.1 in
-    let s = c.settle_fetch.ensures.settled in let same = same-history c.settle_fetch.ensures.others in let left = same-left c.settle_fetch.ensures.others in
-    drives-as s.1 (ap (λ (h : HistoryState). h.log.entries) same) left (fetch_settled-drives c.args.core.now.history.log.entries c.args.core.now.spare s.0 at.0 at.1 phase stands s.2)
+    let s = c.settle_fetch.ensures.settled in let left = same-left c.settle_fetch.ensures.others in
+    drives-as s.1 refl left (fetch_settled-drives c.args.core.now.spare s.0 at.0 at.1 phase stands s.2)
 
 pub returns-in-Filled-clause-drives : goal.returns-in-Filled-clause-drives
 returns-in-Filled-clause-drives g c =
