@@ -74,7 +74,8 @@ pub fn devices_of<R: Files<File = File> + AllocGlobal>(
         IfOk result (λ devices. (devices.0 ≡ unused_file true devices.0.sectors) × (devices.1 ≡ unused_file true devices.1.sectors)) }
     ensures made { IsTrue (names_devices (map string_bytes words.now) (is_some made)) →
         IfOk result (λ devices. (sectors : ℕ) → made ≡ Some sectors → devices.0.sectors ≡ sectors) }
-    ensures none { IsFalse (names_devices (map string_bytes words.now) (is_some made)) → IsOkAnd result (λ devices. (devices.0 ≡ unused_file false 0) × (devices.1 ≡ unused_file false 0)) }
+    ensures none { IsFalse (names_devices (map string_bytes words.now) (is_some made)) →
+        IsOkAnd result (λ devices. (devices.0 ≡ unused_file false 0) × (devices.1 ≡ unused_file false 0)) }
 {
     match words {
         [command, store, base, ..] if is_over_files(command.as_str(), made.is_some()) => {

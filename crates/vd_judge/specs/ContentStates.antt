@@ -1,5 +1,5 @@
 -- What the code's states of a sector stand for.
-use Rattle.std.specs.Prelude.{IsTrue, ◌↔◌, drop, ◌≡◌, ℕ, Bool, false, not, ◌&&◌, ◌||◌, List, [], ◌∷◌, ◌++◌, length, Option, None, is_some, if◌then◌else◌}
+use Rattle.std.specs.Prelude.{IsTrue, ◌↔◌, drop, ◌≡◌, ℕ, max, Bool, false, not, ◌&&◌, ◌||◌, List, [], ◌∷◌, ◌++◌, length, Option, None, is_some, if◌then◌else◌}
 use Rattle.std.specs.Option.{option_map}
 use Rattle.vd_law.specs.declared.entry.Sector.{Sector}
 use Rattle.vd_law.specs.declared.entry.CallId.{CallId}
@@ -9,8 +9,9 @@ use Rattle.std.specs.List.{Contains}
 use Rattle.vd_judge.specs.declared.contents.Search.{Search}
 use Rattle.vd_judge.specs.declared.contents.Change as change
 use Rattle.vd_judge.specs.declared.contents.Change.TheVariants as changes
-use Rattle.vd_law.specs.Entries.{Issue, same_call, Past, nothing, ◌▸◌}
-use Rattle.vd_law.specs.Contents.{sector_in, issued_contents, Open, open_write, versions}
+use Rattle.vd_law.specs.Entries.{Entry, Issue, call_of, same_call, Past, nothing, ◌▸◌}
+use Rattle.vd_law.specs.Calls.{before_ask}
+use Rattle.vd_law.specs.Contents.{sector_in, issued_contents, Open, open_write, could_after, last_done, firm_after, versions}
 
 abbrev pub open_of : OpenWrite → Open
 open_of w = record { call = w.call; number = w.number; content = w.content.now }
@@ -31,6 +32,14 @@ abbrev pub contents_after_change : change.Change → List Sector → List Sector
 contents_after_change changes.Same contents = contents
 contents_after_change (changes.More v) contents = contents ++ v.now ∷ []
 contents_after_change (changes.Only v) contents = v.now ∷ []
+
+-- e makes this of what sector s could hold after p
+abbrev pub IsChangeBy : Past → Entry → ℕ → change.Change → Type 0
+IsChangeBy p e s change = (start : List Sector) → could_after start (p ▸ e) s ≡ contents_after_change change (could_after start p s)
+
+-- e makes what was done before its Ask firm, as the good end of a flush does, or nothing
+abbrev pub MakesFirm : Past → Entry → Bool → Type 0
+MakesFirm p e firms = (s : ℕ) → firm_after (p ▸ e) s ≡ (if firms then max (firm_after p s) (last_done (before_ask p (call_of e)) s) else firm_after p s)
 
 -- whether a call that has an Issue on the sector in q, and isn't this one, has it open after p
 abbrev pub some_open : Past → CallId → ℕ → Past → Bool

@@ -1,12 +1,12 @@
 //! What the events of a log say of one sector. These are slow and plain, and take no memory.
 
-ghost use Rattle.std.specs.Prelude.{◌≡◌, ℕ, Some, max, slice_get, if◌then◌else◌, ◌+◌, ◌^◌, ◌<◌, ◌≤◌, ◌↔◌, IsTrue, false, List, length, take, is_some};
+ghost use Rattle.std.specs.Prelude.{◌≡◌, ℕ, Some, slice_get, if◌then◌else◌, ◌+◌, ◌^◌, ◌<◌, ◌≤◌, ◌↔◌, IsTrue, false, List, length, take, is_some};
 ghost use Rattle.std.specs.Option.{option_copied, option_map, option_to_list};
 ghost use Rattle.std.specs.List.{list_any, Contains};
-ghost use Rattle.vd_law.specs.Entries.{entry_of, call_of, same_call, Past, nothing, ◌▸◌, past};
+ghost use Rattle.vd_law.specs.Entries.{entry_of, same_call, Past, nothing, ◌▸◌, past};
 ghost use Rattle.vd_law.specs.Calls.{before_ask};
-ghost use Rattle.vd_law.specs.Contents.{sector_in, open_write, open_writes, is_of_another, could_after, last_done, firm_after};
-ghost use Rattle.vd_judge.specs.ContentStates.{open_of, track_of, count_and_open, open_after_end, contents_after_change, some_open, IsSearch};
+ghost use Rattle.vd_law.specs.Contents.{sector_in, open_write, open_writes, is_of_another, last_done, firm_after};
+ghost use Rattle.vd_judge.specs.ContentStates.{open_of, track_of, count_and_open, open_after_end, contents_after_change, IsChangeBy, MakesFirm, some_open, IsSearch};
 
 use crate::calls::{is_same, progress};
 use vd_law::entry::{Answer, CallId, Event, Request, Sector, call_of, is_same_sector};
@@ -118,7 +118,8 @@ pub fn open_write(log: &Log, k: u64, id: CallId, s: u64) -> Option<OpenWrite<'_>
 
 fn is_open_of_another(log: &Log, k: u64, event: Event<'_>, id: CallId, s: u64) -> bool
     requires { k ≤ length log.now.entries }
-    ensures { (q : Past) → some_open (past (take k log.now.entries)) id s q ≡ false → result ≡ some_open (past (take k log.now.entries)) id s (q ▸ entry_of event.entry) }
+    ensures { (q : Past) → some_open (past (take k log.now.entries)) id s q ≡ false →
+        result ≡ some_open (past (take k log.now.entries)) id s (q ▸ entry_of event.entry) }
 {
     match event {
         Event::Issue {
@@ -149,7 +150,7 @@ pub fn another_open(log: &Log, k: u64, id: CallId, s: u64) -> bool
 
 pub fn change_by<'a>(log: &'a Log, i: u64, event: Event<'a>, s: u64) -> Change<'a>
     requires { i ≤ length log.now.entries }
-    ensures { (start : List Sector) → could_after start (past (take i log.now.entries) ▸ entry_of event.entry) s ≡ contents_after_change result (could_after start (past (take i log.now.entries)) s) }
+    ensures { IsChangeBy (past (take i log.now.entries)) (entry_of event.entry) s result }
 {
     match event {
         Event::Issue {
@@ -180,7 +181,8 @@ pub fn change_by<'a>(log: &'a Log, i: u64, event: Event<'a>, s: u64) -> Change<'
 
 /// Whether a sector is among the contents after a change, where `found` says whether it was before.
 pub fn found_after(found: bool, change: Change<'_>, v: &Sector) -> bool
-    ensures { (contents : List Sector) → (IsTrue found ↔ Contains contents v.now) → (IsTrue result ↔ Contains (contents_after_change change.entry contents) v.now) }
+    ensures { (contents : List Sector) → (IsTrue found ↔ Contains contents v.now) →
+        (IsTrue result ↔ Contains (contents_after_change change.entry contents) v.now) }
 {
     match change {
         Change::Same => found,
@@ -243,7 +245,7 @@ fn ask_place(log: &Log, k: u64, id: CallId) -> u64
 
 fn is_flushed(log: &Log, i: u64, event: Event<'_>) -> bool
     requires { i ≤ length log.now.entries }
-    ensures { (s : ℕ) → let p = past (take i log.now.entries) in firm_after (p ▸ entry_of event.entry) s ≡ (if result then max (firm_after p s) (last_done (before_ask p (call_of (entry_of event.entry))) s) else firm_after p s) }
+    ensures { MakesFirm (past (take i log.now.entries)) (entry_of event.entry) result }
 {
     match event {
         Event::Reply { id, answer } => match answer {
@@ -297,7 +299,8 @@ pub fn search_start(x: &Sector, firm: u64, v: &Sector) -> Search
 
 pub fn search_with(search: Search, event: Event<'_>, s: u64, firm: u64, v: &Sector) -> Search
     requires { search.number + 1 < 2 ^ 64 }
-    ensures search { (start : List Sector) (p : Past) → length (option_to_list (slice_get start s)) ≡ 1 → IsSearch start p s firm v.now search → IsSearch start (p ▸ entry_of event.entry) s firm v.now result }
+    ensures search { (start : List Sector) (p : Past) → length (option_to_list (slice_get start s)) ≡ 1 →
+        IsSearch start p s firm v.now search → IsSearch start (p ▸ entry_of event.entry) s firm v.now result }
     ensures bound { result.number ≤ search.number + 1 }
 {
     match event {

@@ -279,7 +279,8 @@ pub fn is_alone(log: &Log, i: u64, event: Event<'_>, size: u64) -> bool
 fn could_all<F: Flat>(log: &Log, start: &F, i: u64, first: u64, content: &[Sector]) -> bool
     requires known { i ≤ length log.now.entries }
     requires inside { first + length content.now ≤ length (F.disk start.now) }
-    ensures { IsTrue result ↔ ((s : ℕ) (v : Sector) → sector_in first content.now s ≡ Some v → Contains (could_after (F.disk start.now) (past (take i log.now.entries)) s) v) }
+    ensures { IsTrue result ↔ ((s : ℕ) (v : Sector) → sector_in first content.now s ≡ Some v →
+        Contains (could_after (F.disk start.now) (past (take i log.now.entries)) s) v) }
 {
     let _size = start.sectors();
     for k in 0..content.len() {

@@ -1,13 +1,7 @@
 -- A keeper that has begun a flush, and one that goes on.
-use Rattle.std.proofs.Common.{◌≡◌, ◌≢◌, ◌⊎◌, ⊎_elim, inl, inr, ℕ, ◌+◌, ◌-◌, ◌*◌, ◌/◌, ◌<◌, ◌≤◌, nat_eq, Bool, true, false, not, cond, List, [], ◌∷◌, length, get_or, drop, replicate, Option, Some, None, sym, refl, ap, ◌∙◌, arith, subst}
-use Rattle.std.specs.Prelude.{◌||◌, ◌&&◌, filter, nat_lt, is_some}
-use Rattle.std.specs.List.{slice_get, list_any, range_with_len}
-use Rattle.std.proofs.lemmas.Bool.{cases_lt, false≢true, false_from_ne_true, cond-true, cond-false, lt-ltb, le-ltb, not_from_true, not_from_false, not-true}
-use Rattle.std.proofs.lemmas.List.{length-replicate, length-drop, nil_from_length, drop_all}
-use Rattle.vd_bits.specs.Blocks.{Blocks}
-use Rattle.vd_bits.specs.Marks.{NoneFrom, count_true}
-use Rattle.vd_format.specs.declared.header.Header.{Header}
-use Rattle.vd_format.specs.Layouts.{blocks_of, chunks_of}
+use Rattle.std.proofs.Common.{◌≡◌, ◌⊎◌, inl, inr, ℕ, ◌-◌, ◌≤◌, Bool, true, false, not, cond, List, length, replicate, sym, refl, ap, ◌∙◌, arith, subst}
+use Rattle.std.specs.Prelude.{◌&&◌, nat_lt}
+use Rattle.vd_format.specs.Layouts.{blocks_of}
 use Rattle.vd_keeper.specs.declared.keeper.Keeper.TheInside.{Inside}
 use Rattle.vd_keeper.specs.declared.stage.Stage.{Stage}
 use Rattle.vd_keeper.specs.declared.stage.Stage.TheVariants.{Rest, DataFlush, Puts, Syncs, Seals, Broken}
@@ -15,15 +9,14 @@ use Rattle.vd_keeper.specs.declared.stage.Way as way
 use Rattle.vd_keeper.specs.declared.stage.Way.TheVariants as ways
 use Rattle.vd_keeper.specs.declared.stage.Route as route
 use Rattle.vd_keeper.specs.declared.stage.Route.TheVariants as routes
-use Rattle.vd_keeper.specs.Keeping.{KeeperState, AreDisjoint, no_marks, pages_of}
-use Rattle.vd_keeper.specs.Entries.{union_of, chunks_with, has_block}
-use Rattle.vd_keeper.specs.Flushes.{IsKeeping, IsPossible, records_for, is_recycle, last_generation}
+use Rattle.vd_keeper.specs.Keeping.{KeeperState, no_marks, pages_of}
+use Rattle.vd_keeper.specs.Entries.{union_of, chunks_with}
+use Rattle.vd_keeper.specs.Flushes.{IsKeeping, IsPossible}
 use Rattle.vd_keeper.specs.Moves.{way_of, is_worn_out, after_begin, marked_with, pages_with, none_of, after_call, after_data, after_put, after_sync, after_break}
-use Rattle.vd_keeper.specs.Sets.{IsNextChunk, chunks_from, chunk_count, has_any, marks_of, empty_of}
+use Rattle.vd_keeper.specs.Sets.{chunks_from}
 use Rattle.vd_keeper.specs.KeeperFields.{keeper_state, IsKeeper}
-use Rattle.vd_keeper.proofs.Rows.{get_or-either, length-either, either-nothing, nothing-either, get_or-nothing}
-use Rattle.vd_keeper.proofs.Owed.{not-there, either-left}
-use Rattle.vd_keeper.proofs.Flushed.{chunks-with, count-is, is-possible, begun-kept}
+use Rattle.vd_keeper.proofs.Rows.{either-nothing, nothing-either}
+use Rattle.vd_keeper.proofs.Flushed.{chunks-with, is-possible, begun-kept}
 
 -- nothing of a flush at rest
 module _ (i : Inside) (kept : IsKeeper i) (rest : (i.stage ≡ Rest) ⊎ (i.stage ≡ Broken)) where

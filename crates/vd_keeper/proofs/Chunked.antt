@@ -1,22 +1,18 @@
 -- The blocks of a chunk, and what changes them.
-use Rattle.std.proofs.Common.{◌≡◌, ◌⊎◌, ⊎_elim, inl, inr, ℕ, suc, ◌+◌, ◌-◌, ◌*◌, ◌/◌, ◌%◌, ◌^◌, ◌<◌, ◌≤◌, nat_eq, Bool, true, false, not, cond, List, ◌++◌, length, map, get_or, set, take, drop, replicate, Some, sym, refl, ap, ◌∙◌, arith, length-set, length-take, length-drop, get_or-set_same, get_or-set_other, get_or-take, get_or-drop, bit_and, bit_or}
+use Rattle.std.proofs.Common.{◌≡◌, inl, inr, ℕ, ◌+◌, ◌-◌, ◌*◌, ◌^◌, ◌<◌, nat_eq, Bool, true, false, not, cond, List, length, map, get_or, take, drop, sym, refl, ap, ◌∙◌, arith, length-take, length-drop, get_or-take, get_or-drop, bit_and, bit_or}
 use Rattle.std.specs.Prelude.{◌||◌, ◌&&◌, min, max}
 use Rattle.std.specs.Int.{bit_at, w64}
-use Rattle.std.specs.List.{slice_get, list_any, range_with_len}
-use Rattle.std.proofs.Math.Nat.{mul-le-mul_left, div-add-mod, mul_comm}
-use Rattle.std.proofs.lemmas.Bool.{cases_lt, cases_eq, cases_Bool, or_parts, false≢true}
-use Rattle.std.proofs.lemmas.List.{same_lists, ext_get_or, get_or_past, length-replicate}
-use Rattle.std.proofs.lemmas.List.Folds.{list_any_at}
-use Rattle.std.proofs.lemmas.List.FromFn.{length-map-range_with_len, get_or-map-range_with_len}
-use Rattle.std.proofs.lemmas.Nat.{or_lt, and_le_l}
+use Rattle.std.specs.List.{range_with_len}
+use Rattle.std.proofs.lemmas.Bool.{cases_lt}
+use Rattle.std.proofs.lemmas.List.FromFn.{get_or-map-range_with_len}
+use Rattle.std.proofs.lemmas.Nat.{or_lt}
 use Rattle.std.proofs.lemmas.Nat.Bits.{bit_at_or, bit_at_and, bit_at_not, bit_at-lt, bit_at-zero}
 use Rattle.std.proofs.lemmas.Simd.{bit_mask_l, mask_l-lt}
 use Rattle.vd_bits.specs.Blocks.{Blocks, bits_in, with_mask}
 use Rattle.vd_bits.specs.Masks.{mask_of, bits_of}
 use Rattle.vd_bits.proofs.Chunks.{length-bits_of}
-use Rattle.vd_keeper.specs.Entries.{union_of}
-use Rattle.vd_keeper.specs.Sets.{HasMore, LacksChunk, Adopted, IsOutsideChunk, chunk_count, has_any, marks_of}
-use Rattle.vd_keeper.proofs.Rows.{length-spliced, spliced-inside, spliced-outside, within, same_rows}
+use Rattle.vd_keeper.specs.Sets.{HasMore, LacksChunk, IsOutsideChunk}
+use Rattle.vd_keeper.proofs.Rows.{length-spliced, spliced-inside, spliced-outside}
 
 pub length-bits_in : (b : Blocks) (n : ℕ) → length (bits_in b n) ≡ min b.chunk (length b.bits - n * b.chunk)
 length-bits_in b n = omega (arith, length-take b.chunk (drop (n * b.chunk) b.bits), length-drop (n * b.chunk) b.bits)

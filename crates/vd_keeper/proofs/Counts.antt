@@ -1,14 +1,13 @@
 -- Numbers by which a keeper chooses.
-use Rattle.std.proofs.Common.{◌≡◌, ◌⊎◌, ⊎_elim, inl, inr, ℕ, suc, ◌+◌, ◌-◌, ◌*◌, ◌/◌, ◌%◌, ◌<◌, ◌≤◌, nat_eq, Bool, true, false, not, cond, List, [], ◌∷◌, length, get_or, drop, Option, Some, None, sym, refl, ap, ◌∙◌, arith}
+use Rattle.std.proofs.Common.{◌≡◌, ◌⊎◌, ⊎_elim, ℕ, suc, ◌+◌, ◌-◌, ◌*◌, ◌/◌, ◌<◌, ◌≤◌, Bool, true, false, not, cond, List, [], ◌∷◌, length, get_or, drop, Option, Some, None, sym, refl, ap, ◌∙◌, arith}
 use Rattle.std.specs.Prelude.{◌||◌, ◌&&◌, nat_lt, is_some, IfSome, IsNone, ◌↔◌}
 use Rattle.std.specs.List.{list_any}
-use Rattle.std.proofs.lemmas.Bool.{and_parts, cases_eq, cases_lt, cond-false, cond-true, eq-eqb, false_from_ne_true, false≢true, le-ltb, lt-ltb, ltb-true, ne_eqb, not-true, not_from_false, not_from_true}
+use Rattle.std.proofs.lemmas.Bool.{cases_lt, cond-false, cond-true, false_from_ne_true, false≢true, le-ltb, lt-ltb, ltb-true, not-true, not_from_false, not_from_true}
 use Rattle.std.proofs.lemmas.List.{length-drop, nil_from_length, get_or_past}
 use Rattle.std.proofs.lemmas.List.Sums.{sum_by-cons}
 use Rattle.vd_bits.specs.Blocks.{Blocks}
-use Rattle.vd_bits.specs.Marks.{NoneFrom, count_true}
+use Rattle.vd_bits.specs.Marks.{count_true}
 use Rattle.vd_keeper.specs.declared.keeper.Keeper.TheInside.{Inside}
-use Rattle.vd_keeper.specs.declared.stage.Stage.{Stage}
 use Rattle.vd_keeper.specs.declared.stage.Stage.TheVariants.{Rest, Puts, Syncs, Broken}
 use Rattle.vd_keeper.specs.declared.stage.Way as way
 use Rattle.vd_keeper.specs.declared.stage.Way.TheVariants as ways
@@ -18,7 +17,7 @@ use Rattle.vd_keeper.specs.Keeping.{KeeperState}
 use Rattle.vd_keeper.specs.Entries.{union_of, chunks_with}
 use Rattle.vd_keeper.specs.Flushes.{records_for, is_recycle}
 use Rattle.vd_keeper.specs.Moves.{HasPutDue, way_of, none_of, after_put}
-use Rattle.vd_keeper.specs.Sets.{IsNextChunk, chunks_from, chunk_count, has_any, marks_of}
+use Rattle.vd_keeper.specs.Sets.{IsNextChunk, chunks_from, chunk_count, marks_of}
 use Rattle.vd_keeper.specs.KeeperFields.{keeper_state, IsKeeper}
 use Rattle.vd_keeper.proofs.NextChunks.{any-none, all-none, none-from-blocks, skip-chunks, past-chunks, found-none, length-marks_of, block-chunk}
 use Rattle.vd_keeper.proofs.Pouring.{unmarked-place}

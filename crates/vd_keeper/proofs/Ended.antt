@@ -9,18 +9,18 @@ use Rattle.vd_format.specs.declared.header.Header.{Header}
 use Rattle.vd_format.specs.Headers.{IsValid}
 use Rattle.vd_format.specs.Layouts.{blocks_of, chunks_of}
 use Rattle.vd_keeper.specs.declared.keeper.Keeper.TheInside.{Inside}
-use Rattle.vd_keeper.specs.declared.stage.Stage.TheVariants.{Rest, DataFlush, Puts, Syncs, Seals, Broken}
+use Rattle.vd_keeper.specs.declared.stage.Stage.TheVariants.{Rest, Puts, Syncs, Seals, Broken}
 use Rattle.vd_keeper.specs.declared.stage.Way as way
 use Rattle.vd_keeper.specs.declared.stage.Way.TheVariants as ways
-use Rattle.vd_keeper.specs.Keeping.{KeeperState, AreDisjoint, no_marks, pages_of}
+use Rattle.vd_keeper.specs.Keeping.{KeeperState, no_marks, pages_of}
 use Rattle.vd_keeper.specs.Entries.{union_of, chunks_with}
 use Rattle.vd_keeper.specs.Flushes.{IsKeeping, IsPossible, is_recycle, last_generation}
 use Rattle.vd_keeper.specs.Moves.{difference_of, after_break, after_seal, next_header}
 use Rattle.vd_keeper.specs.Sets.{chunks_from, chunk_count, has_any, empty_of}
 use Rattle.vd_keeper.specs.KeeperFields.{keeper_state, IsKeeper}
-use Rattle.vd_keeper.proofs.Rows.{get_or-either, get_or-without, length-either, length-without, either-nothing, get_or-nothing, same_rows, within}
+use Rattle.vd_keeper.proofs.Rows.{get_or-either, get_or-without, length-either, length-without, either-nothing, get_or-nothing, same_rows}
 use Rattle.vd_keeper.proofs.NextChunks.{none-from-blocks, skip-chunks, past-chunks}
-use Rattle.vd_keeper.proofs.Owed.{is-true, not-there, either-cases, either-left, without-parts, there}
+use Rattle.vd_keeper.proofs.Owed.{not-there, either-cases, without-parts, there}
 use Rattle.vd_keeper.proofs.Flushed.{chunks-with, is-possible}
 use Rattle.vd_keeper.proofs.Begun.{none-put-elsewhere}
 

@@ -1,20 +1,17 @@
 -- The entries of a flush, and collecting the facts of a record.
-use Rattle.std.proofs.Common.{◌≡◌, ◌≢◌, ◌⊎◌, ⊎_elim, inl, inr, ℕ, zero, suc, ◌+◌, ◌-◌, ◌*◌, ◌/◌, ◌^◌, ◌<◌, ◌≤◌, nat_eq, Bool, true, false, cond, List, [], ◌∷◌, ◌++◌, length, map, take, drop, Option, Some, None, sym, refl, ap, ◌∙◌, arith, subst, bit_or, length-append}
-use Rattle.std.specs.List.{slice_get, range_with_len}
-use Rattle.std.proofs.lemmas.Bool.{cond-true, cond-false, eq-eqb, ne_eqb}
+use Rattle.std.proofs.Common.{◌≡◌, ℕ, zero, suc, ◌+◌, ◌-◌, ◌<◌, ◌≤◌, nat_eq, false, cond, List, [], ◌∷◌, ◌++◌, length, map, take, drop, Option, sym, refl, ap, ◌∙◌, arith, bit_or, length-append}
+use Rattle.std.specs.List.{slice_get}
+use Rattle.std.proofs.lemmas.Bool.{cond-false, ne_eqb}
 use Rattle.std.proofs.lemmas.List.{append_assoc, append-nil, take_all, drop_all}
 use Rattle.vd_bits.specs.Blocks.{Blocks, bits_in}
 use Rattle.vd_bits.specs.Masks.{mask_of}
 use Rattle.vd_format.specs.declared.header.Header.{Header}
-use Rattle.vd_format.specs.declared.map.Entry.{Entry}
 use Rattle.vd_format.specs.declared.journal.Fact2.{Fact2}
-use Rattle.vd_format.specs.Layouts.{blocks_of, chunks_of}
 use Rattle.vd_table.specs.Tables.{TableState}
-use Rattle.vd_keeper.specs.Entries.{union_of, map_entry, fact_of, storage_number}
+use Rattle.vd_keeper.specs.Entries.{union_of, map_entry, storage_number}
 use Rattle.vd_keeper.specs.Putting.{HasFittingSizes}
-use Rattle.vd_keeper.specs.Sets.{IsNextChunk, chunks_from, chunk_count}
+use Rattle.vd_keeper.specs.Sets.{IsNextChunk, chunks_from}
 use Rattle.vd_keeper.proofs.Joining.{bits_in-either, mask-either}
-use Rattle.vd_keeper.proofs.Pouring.{blocks-same}
 
 -- the mask of a chunk
 module _ (h : Header) (stale snapshot : Blocks) (table : TableState) (source : HasFittingSizes h stale snapshot table) (chunk : ℕ) where

@@ -1,27 +1,22 @@
 -- What beginning a flush, and its stages, make of what a keeper keeps.
-use Rattle.std.proofs.Common.{◌≡◌, ◌≢◌, ◌⊎◌, ⊎_elim, inl, inr, ℕ, zero, suc, ◌+◌, ◌-◌, ◌*◌, ◌/◌, ◌^◌, ◌<◌, ◌≤◌, nat_eq, Bool, true, false, not, cond, List, [], ◌∷◌, length, get_or, drop, replicate, Some, sym, refl, ap, ◌∙◌, arith, subst}
-use Rattle.std.specs.Prelude.{◌||◌, ◌&&◌, filter, nat_lt}
-use Rattle.std.specs.List.{slice_get, list_any, range_with_len}
-use Rattle.std.proofs.lemmas.Bool.{cases_lt, cases_Bool, and_parts, not-true, not-false, or_parts, or_cases, ltb-false, false≢true, false_from_ne_true, cond-true, cond-false, or_right, or_left, and_from, eq-eqb}
+use Rattle.std.proofs.Common.{◌≡◌, ◌≢◌, inl, inr, ℕ, ◌+◌, ◌-◌, ◌/◌, ◌^◌, ◌<◌, ◌≤◌, nat_eq, Bool, true, false, not, cond, length, sym, refl, ap, ◌∙◌, arith}
+use Rattle.std.specs.Prelude.{◌||◌, filter, nat_lt}
+use Rattle.std.specs.List.{range_with_len}
+use Rattle.std.proofs.lemmas.Bool.{cases_lt, not-false, or_parts, ltb-false, false≢true, and_from, eq-eqb}
 use Rattle.vd_bits.specs.Blocks.{Blocks}
 use Rattle.vd_format.specs.declared.header.Header.{Header}
-use Rattle.vd_format.specs.Headers.{IsValid}
 use Rattle.vd_format.specs.Layouts.{blocks_of, chunks_of}
-use Rattle.vd_keeper.specs.declared.keeper.Keeper.TheInside.{Inside}
-use Rattle.vd_keeper.specs.declared.stage.Stage.{Stage}
-use Rattle.vd_keeper.specs.declared.stage.Stage.TheVariants.{Rest, DataFlush, Puts, Syncs, Seals, Broken}
+use Rattle.vd_keeper.specs.declared.stage.Stage.TheVariants.{Rest, DataFlush, Broken}
 use Rattle.vd_keeper.specs.declared.stage.Way as way
 use Rattle.vd_keeper.specs.declared.stage.Way.TheVariants as ways
 use Rattle.vd_keeper.specs.declared.stage.Route as route
 use Rattle.vd_keeper.specs.declared.stage.Route.TheVariants as routes
-use Rattle.vd_keeper.specs.Keeping.{KeeperState, AreDisjoint, no_marks, pages_of}
-use Rattle.vd_keeper.specs.Entries.{union_of, chunks_with, has_block}
+use Rattle.vd_keeper.specs.Keeping.{KeeperState, no_marks, pages_of}
+use Rattle.vd_keeper.specs.Entries.{chunks_with}
 use Rattle.vd_keeper.specs.Flushes.{IsKeeping, IsPossible, records_for, is_recycle, last_generation}
-use Rattle.vd_keeper.specs.Moves.{way_of, is_worn_out, after_begin, marked_with, pages_with, none_of}
-use Rattle.vd_keeper.specs.Sets.{chunks_from, chunk_count, has_any, marks_of}
-use Rattle.vd_keeper.specs.KeeperFields.{keeper_state, IsKeeper}
-use Rattle.vd_keeper.proofs.Rows.{get_or-either, length-either, either-nothing, nothing-either, get_or-nothing}
-use Rattle.vd_keeper.proofs.Owed.{not-there}
+use Rattle.vd_keeper.specs.Moves.{way_of, is_worn_out, after_begin, pages_with, none_of}
+use Rattle.vd_keeper.specs.Sets.{chunks_from, chunk_count, has_any}
+use Rattle.vd_keeper.proofs.Rows.{length-either}
 use Rattle.vd_keeper.proofs.PageMarks.{length-pages_with}
 
 -- the chunks of a set are those with its blocks

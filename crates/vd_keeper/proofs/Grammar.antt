@@ -1,12 +1,12 @@
 -- What a flush writes is in the grammar.
-use Rattle.std.proofs.Common.{◌≡◌, ◌⊎◌, ⊎_elim, inl, inr, ℕ, zero, suc, ◌+◌, ◌-◌, ◌*◌, ◌/◌, ◌^◌, ◌<◌, ◌≤◌, nat_eq, Bool, true, false, cond, List, [], ◌∷◌, length, map, take, drop, get_or, Option, Some, None, sym, refl, ap, ◌∙◌, arith, subst, length-take}
-use Rattle.std.specs.Prelude.{min, filter, ◌↔◌}
+use Rattle.std.proofs.Common.{◌≡◌, inl, inr, ℕ, zero, ◌+◌, ◌-◌, ◌*◌, ◌^◌, ◌<◌, ◌≤◌, nat_eq, Bool, true, false, cond, List, [], ◌∷◌, length, map, take, get_or, sym, refl, ap, ◌∙◌, arith, subst, length-take}
+use Rattle.std.specs.Prelude.{min, filter}
 use Rattle.std.specs.Int.{bit_at}
 use Rattle.std.specs.List.{slice_get, list_any, range_with_len, All}
 use Rattle.std.specs.List.Sorted.{IsStrictlyIncreasing}
 use Rattle.std.proofs.Math.Pow.{pow_mono}
-use Rattle.std.proofs.lemmas.Bool.{cases_eq, cases_Bool, cond-true, cond-false, eq-eqb, ne_eqb, false≢true, true_from_ne_false}
-use Rattle.std.proofs.lemmas.List.{map-id, length-map, get_or-take}
+use Rattle.std.proofs.lemmas.Bool.{cases_eq, cond-true, cond-false, eq-eqb, ne_eqb, true_from_ne_false}
+use Rattle.std.proofs.lemmas.List.{length-map, get_or-take}
 use Rattle.std.proofs.lemmas.List.Elements.{All-map, All-take, All-filter, All-from_get_or}
 use Rattle.std.proofs.lemmas.List.FromFn.{length-range_with_len, get_or-range_with_len}
 use Rattle.std.proofs.lemmas.List.Kept.{IsStrictlyIncreasing-filter}
@@ -24,8 +24,7 @@ use Rattle.vd_format.specs.Entries.{IsEntry}
 use Rattle.vd_format.specs.Records.{AreFacts}
 use Rattle.vd_format.proofs.Rules.{chunk_within}
 use Rattle.vd_table.specs.Tables.{TableState, Has}
-use Rattle.vd_keeper.specs.Keeping.{KeeperState}
-use Rattle.vd_keeper.specs.Entries.{union_of, map_entry, fact_of, has_block, storage_number, chunks_with, HasStorage, next_facts, wanted_blocks}
+use Rattle.vd_keeper.specs.Entries.{union_of, map_entry, fact_of, has_block, storage_number}
 use Rattle.vd_keeper.specs.Putting.{HasFittingSizes, HasEach}
 use Rattle.vd_keeper.specs.Sets.{chunks_from, chunk_count, has_any}
 use Rattle.vd_keeper.proofs.Rows.{within, length-either}

@@ -18,7 +18,7 @@ use Rattle.vd_keeper.specs.Moves.{difference_of}
 use Rattle.vd_keeper.specs.Sets.{HasMore, Adopted, IsOutsideChunk, chunk_count, has_any, marks_of, empty_of}
 use Rattle.vd_keeper.proofs.Rows.{get_or-either, get_or-without, length-either, length-without, same_rows, any-either}
 use Rattle.vd_keeper.proofs.Chunked.{length-bits_in, get_or-bits_in, bit_of, bit_without, same-chunk}
-use Rattle.vd_keeper.proofs.NextChunks.{length-marks_of, get_or-marks_of, marks-none, block-chunk, block-place, block-within}
+use Rattle.vd_keeper.proofs.NextChunks.{length-marks_of, get_or-marks_of, marks-none, block-chunk, block-place}
 use Rattle.vd_keeper.proofs.Pouring.{blocks-same}
 
 -- the blocks of a chunk of two sets

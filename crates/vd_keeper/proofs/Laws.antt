@@ -1,14 +1,12 @@
 -- What the moves of a keeper mean block by block, and what it writes, for the crates above.
-use Rattle.std.proofs.Common.{◌≡◌, ◌⊎◌, ⊎_elim, inl, inr, ℕ, ◌+◌, ◌-◌, ◌*◌, ◌/◌, ◌<◌, ◌≤◌, nat_eq, Bool, true, false, not, cond, List, [], ◌∷◌, length, map, take, drop, get_or, Option, Some, None, sym, refl, ap, ◌∙◌, arith, subst, length-take, length-drop, get_or-drop}
-use Rattle.std.specs.Prelude.{◌||◌, ◌&&◌, ◌↔◌, min}
-use Rattle.std.specs.Int.{bit_at}
-use Rattle.std.specs.List.{slice_get, list_any, range_with_len, All}
+use Rattle.std.proofs.Common.{◌≡◌, ◌⊎◌, ⊎_elim, inl, inr, ℕ, ◌+◌, ◌-◌, ◌*◌, ◌/◌, ◌<◌, ◌≤◌, Bool, true, false, not, List, length, map, take, drop, get_or, Some, sym, refl, ap, ◌∙◌, arith, subst, length-take, length-drop, get_or-drop}
+use Rattle.std.specs.Prelude.{◌↔◌, min}
+use Rattle.std.specs.List.{slice_get, All}
 use Rattle.std.specs.List.Sorted.{IsStrictlyIncreasing}
-use Rattle.std.proofs.lemmas.Bool.{cases_lt, or_parts, and_from, not_from_false, false_from_ne_true, false≢true, eq-eqb}
+use Rattle.std.proofs.lemmas.Bool.{cases_lt, and_from, not_from_false, false≢true}
 use Rattle.std.proofs.lemmas.List.{length-map, get_or_past}
 use Rattle.std.proofs.lemmas.List.Elements.{All-map, All-take, All-drop, All-from_get_or}
-use Rattle.vd_bits.specs.Blocks.{Blocks, bits_in}
-use Rattle.vd_bits.specs.Masks.{mask_of}
+use Rattle.vd_bits.specs.Blocks.{Blocks}
 use Rattle.vd_format.specs.declared.header.Header.{Header}
 use Rattle.vd_format.specs.declared.journal.Fact2.{Fact2}
 use Rattle.vd_format.specs.Headers.{IsValid}
@@ -23,10 +21,10 @@ use Rattle.vd_format.proofs.Rules.{chunk_within}
 use Rattle.vd_keeper.proofs.NextChunks.{none-from-blocks, inside-chunk}
 use Rattle.vd_keeper.specs.declared.stage.Put as put
 use Rattle.vd_keeper.specs.declared.stage.Route as route
-use Rattle.vd_keeper.specs.Keeping.{KeeperState, AreDisjoint}
-use Rattle.vd_keeper.specs.Entries.{union_of, map_entry, fact_of, has_block, chunks_with, next_chunks, next_facts, page_entries, wanted_blocks, HasStorage}
+use Rattle.vd_keeper.specs.Keeping.{KeeperState}
+use Rattle.vd_keeper.specs.Entries.{map_entry, fact_of, has_block, chunks_with, next_chunks, next_facts, wanted_blocks, HasStorage}
 use Rattle.vd_keeper.specs.Flushes.{IsKeeping}
-use Rattle.vd_keeper.specs.Moves.{difference_of, after_seal, after_break, after_begin, after_call, is_settling, IsNextPut, Next_record, Next_page, Next_header}
+use Rattle.vd_keeper.specs.Moves.{difference_of, after_seal, after_break, after_call, IsNextPut, Next_record, Next_page, Next_header}
 use Rattle.vd_keeper.specs.Sets.{chunks_from, chunk_count}
 use Rattle.vd_keeper.proofs.Rows.{get_or-without, length-either}
 use Rattle.vd_keeper.proofs.Owed.{is-true, there, either-left, either-right, either-cases, without-parts}

@@ -1,15 +1,14 @@
 -- A new keeper.
-use Rattle.std.proofs.Common.{◌≡◌, ◌⊎◌, inl, inr, ℕ, ◌/◌, ◌+◌, ◌<◌, ◌≤◌, Bool, true, false, List, length, sym, refl, ap, ◌∙◌, arith, subst}
+use Rattle.std.proofs.Common.{◌≡◌, inl, inr, ℕ, ◌≤◌, Bool, true, false, List, length, sym, refl, ap, arith, subst}
 use Rattle.std.proofs.lemmas.List.{length-replicate}
 use Rattle.vd_bits.specs.Blocks.{Blocks}
 use Rattle.vd_format.specs.declared.header.Header.{Header}
 use Rattle.vd_format.specs.Headers.{IsValid}
-use Rattle.vd_format.specs.Layouts.{blocks_of, chunks_of}
+use Rattle.vd_format.specs.Layouts.{blocks_of}
 use Rattle.vd_keeper.specs.declared.keeper.Keeper.TheInside.{Inside}
 use Rattle.vd_keeper.specs.declared.stage.Stage.TheVariants.{Rest}
 use Rattle.vd_keeper.specs.declared.stage.Way.TheVariants as ways
 use Rattle.vd_keeper.specs.Keeping.{KeeperState, no_marks, pages_of}
-use Rattle.vd_keeper.specs.Entries.{union_of}
 use Rattle.vd_keeper.specs.Flushes.{IsKeeping}
 use Rattle.vd_keeper.specs.KeeperFields.{keeper_state, IsKeeper}
 use Rattle.vd_keeper.proofs.Rows.{either-nothing, get_or-nothing}

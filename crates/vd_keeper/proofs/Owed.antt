@@ -5,11 +5,11 @@ use Rattle.std.specs.List.{slice_get}
 use Rattle.std.proofs.lemmas.Bool.{cases_eq, or_cases, and_parts, not-true, or_left, or_right, false≢true, cond-true, cond-false}
 use Rattle.std.proofs.lemmas.Option.{slice_get-get_or, get_or_from_slice_get, slice_get_within}
 use Rattle.vd_lists.proofs.Changes.{slice_set_unchanged}
-use Rattle.vd_format.specs.Layouts.{blocks_of, chunks_of}
+use Rattle.vd_format.specs.Layouts.{blocks_of}
 use Rattle.vd_keeper.specs.declared.keeper.Keeper.TheInside.{Inside}
 use Rattle.vd_keeper.specs.Keeping.{KeeperState, AreDisjoint, no_marks}
-use Rattle.vd_keeper.specs.Entries.{union_of, chunks_with, has_block}
-use Rattle.vd_keeper.specs.Flushes.{IsKeeping, IsPossible}
+use Rattle.vd_keeper.specs.Entries.{union_of}
+use Rattle.vd_keeper.specs.Flushes.{IsKeeping}
 use Rattle.vd_keeper.specs.Moves.{difference_of, after_owe, after_adopt}
 use Rattle.vd_keeper.specs.KeeperFields.{keeper_state, IsKeeper}
 use Rattle.vd_keeper.proofs.Rows.{get_or-either, get_or-without, length-either, length-without, same_rows, within, either-nothing, get_or-nothing}

@@ -13,10 +13,10 @@ use Rattle.vd_bits.specs.Blocks.{Blocks, bits_in}
 use Rattle.vd_bits.specs.Masks.{mask_of}
 use Rattle.vd_bits.specs.Marks.{IsLowest, NoneFrom}
 use Rattle.vd_keeper.specs.Entries.{union_of}
-use Rattle.vd_keeper.specs.Sets.{HasMore, LacksChunk, IsOutsideChunk, IsNextChunk, chunk_count, has_any, marks_of, chunks_from, empty_of}
+use Rattle.vd_keeper.specs.Sets.{HasMore, LacksChunk, IsOutsideChunk, chunk_count, has_any, marks_of, empty_of}
 use Rattle.vd_keeper.proofs.Rows.{get_or-either, length-either, same_rows, is-nothing}
 use Rattle.vd_keeper.proofs.Chunked.{length-bits_in, get_or-bits_in, bit_of, same-chunk}
-use Rattle.vd_keeper.proofs.NextChunks.{length-marks_of, get_or-marks_of, chunk-inside, inside-chunk, block-place, block-chunk, block-within, none-of-chunk}
+use Rattle.vd_keeper.proofs.NextChunks.{length-marks_of, get_or-marks_of, chunk-inside, block-place, block-chunk, none-of-chunk}
 
 pub blocks-same : (b : Blocks) (chunk : ℕ) (bits : List Bool) → b.chunk ≡ chunk → b.bits ≡ bits → b ≡ record { chunk = chunk; bits = bits }
 blocks-same b chunk bits e f = ap (λ (c : ℕ). record { chunk = c; bits = b.bits }) e ∙ ap (λ (xs : List Bool). record { chunk = chunk; bits = xs }) f

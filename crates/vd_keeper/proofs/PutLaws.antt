@@ -1,26 +1,20 @@
 -- What a put makes of what a keeper keeps.
-use Rattle.std.proofs.Common.{◌≡◌, ◌⊎◌, ⊎_elim, inl, inr, ℕ, ◌+◌, ◌-◌, ◌*◌, ◌/◌, ◌<◌, ◌≤◌, Bool, true, false, List, [], length, map, take, drop, set, sym, refl, ap, ◌∙◌, arith, subst, length-take, length-drop}
+use Rattle.std.proofs.Common.{◌≡◌, ◌⊎◌, ⊎_elim, inr, ℕ, ◌+◌, ◌-◌, ◌<◌, ◌≤◌, List, length, map, take, drop, sym, ap, ◌∙◌, arith, subst, length-take, length-drop}
 use Rattle.std.specs.Prelude.{min}
 use Rattle.std.proofs.lemmas.Bool.{cases_lt}
 use Rattle.std.proofs.lemmas.List.{drop-drop, drop_all}
 use Rattle.vd_law.specs.declared.entry.Sector.{Sector}
-use Rattle.vd_bits.specs.Blocks.{Blocks}
-use Rattle.vd_bits.specs.Marks.{IsLowest, NoneFrom}
 use Rattle.vd_bits.proofs.SetLaws.{count-le-length}
-use Rattle.vd_format.specs.declared.header.Header.{Header}
-use Rattle.vd_format.specs.Headers.{spelling}
-use Rattle.vd_format.specs.Layouts.{blocks_of, chunks_of}
-use Rattle.vd_format.specs.Entries.{page_bytes}
+use Rattle.vd_format.specs.Layouts.{chunks_of}
 use Rattle.vd_format.specs.Records.{record_bytes}
 use Rattle.vd_table.specs.Tables.{TableState}
 use Rattle.vd_keeper.specs.declared.keeper.Keeper.TheInside.{Inside}
 use Rattle.vd_keeper.specs.declared.stage.Stage.TheVariants.{Rest, Puts, Broken}
 use Rattle.vd_keeper.specs.declared.stage.Way.TheVariants as ways
 use Rattle.vd_keeper.specs.declared.stage.Put.TheVariants as puts
-use Rattle.vd_keeper.specs.Keeping.{KeeperState}
-use Rattle.vd_keeper.specs.Entries.{union_of, chunks_with, fact_of, next_chunks, next_facts, page_entries}
-use Rattle.vd_keeper.specs.Flushes.{IsKeeping, IsPossible, is_recycle, records_for}
-use Rattle.vd_keeper.specs.Moves.{IsNextPut, Next_record, Next_page, Next_header, next_header}
+use Rattle.vd_keeper.specs.Entries.{union_of, chunks_with, fact_of, next_chunks}
+use Rattle.vd_keeper.specs.Flushes.{IsPossible, records_for}
+use Rattle.vd_keeper.specs.Moves.{IsNextPut, Next_record}
 use Rattle.vd_keeper.specs.Sets.{chunks_from, marks_of}
 use Rattle.vd_keeper.specs.KeeperFields.{keeper_state, IsKeeper}
 use Rattle.vd_keeper.proofs.NextChunks.{count-marks_of, length-marks_of}

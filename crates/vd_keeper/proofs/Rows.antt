@@ -6,7 +6,7 @@ use Rattle.std.proofs.lemmas.Bool.{cases_lt, cases_eq, false≢true}
 use Rattle.std.proofs.lemmas.List.{ext_get_or, length-replicate, get_or-replicate, get_or_past, get_or_append_left, get_or-append_right}
 use Rattle.std.proofs.Math.Bool.{or-false, and-true, or-true}
 use Rattle.vd_keeper.specs.Entries.{union_of}
-use Rattle.vd_keeper.specs.Moves.{difference_of, none_of}
+use Rattle.vd_keeper.specs.Moves.{difference_of}
 
 -- a true value stands inside
 pub within : (xs : List Bool) (i : ℕ) → get_or xs i false ≡ true → i < length xs

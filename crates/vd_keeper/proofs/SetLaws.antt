@@ -1,9 +1,9 @@
 -- What a set of blocks keeps.
-use Rattle.std.proofs.Common.{◌≡◌, ◌⊎◌, ⊎_elim, inl, inr, ℕ, ◌+◌, ◌-◌, ◌*◌, ◌/◌, ◌%◌, ◌^◌, ◌<◌, ◌≤◌, nat_eq, Bool, true, false, List, [], length, get_or, set, replicate, Option, Some, None, sym, refl, ap, ◌∙◌, arith, length-set, get_or-set_same, get_or-set_other}
-use Rattle.std.specs.Prelude.{◌||◌, IfSome, IsNone}
+use Rattle.std.proofs.Common.{◌≡◌, inl, inr, ℕ, ◌+◌, ◌-◌, ◌*◌, ◌/◌, ◌%◌, ◌^◌, ◌<◌, ◌≤◌, nat_eq, Bool, true, false, List, [], length, get_or, set, replicate, Option, Some, None, sym, refl, ap, ◌∙◌, arith, length-set, get_or-set_same, get_or-set_other}
+use Rattle.std.specs.Prelude.{IfSome}
 use Rattle.std.specs.Int.{bit_at}
 use Rattle.std.proofs.Math.Nat.{mul-le-mul_left}
-use Rattle.std.proofs.lemmas.Bool.{cases_lt, cases_eq, true_from_ne_false, or_parts, or_right, eqb-false}
+use Rattle.std.proofs.lemmas.Bool.{cases_lt, true_from_ne_false, or_parts, eqb-false}
 use Rattle.std.proofs.lemmas.List.{length-replicate}
 use Rattle.std.proofs.lemmas.List.FromFn.{length-map-range_with_len}
 use Rattle.std.proofs.lemmas.Nat.{pow_pos}
@@ -12,8 +12,8 @@ use Rattle.vd_bits.specs.Blocks.{Blocks, bits_in}
 use Rattle.vd_bits.specs.Marks.{IsLowest, NoneFrom}
 use Rattle.vd_keeper.specs.declared.sets.BlockSet.TheInside.{Inside}
 use Rattle.vd_keeper.specs.SetFields.{IsIndexed}
-use Rattle.vd_keeper.specs.Sets.{HasMore, IsOutsideChunk, IsNextChunk, chunk_count, has_any, marks_of, chunks_from, empty_of}
-use Rattle.vd_keeper.proofs.Chunked.{length-bits_in, get_or-bits_in}
+use Rattle.vd_keeper.specs.Sets.{HasMore, IsNextChunk, chunk_count, has_any, marks_of, chunks_from}
+use Rattle.vd_keeper.proofs.Chunked.{length-bits_in}
 use Rattle.vd_keeper.proofs.NextChunks.{marks-none, marks-more, inside-chunk, block-place, block-chunk, block-within, none-of-chunk, some-of-chunk, next-found, none-found, found-none}
 
 below-two : (n : ℕ) → n < 2 → (n ≡ 1 → ⊥) → n ≡ 0

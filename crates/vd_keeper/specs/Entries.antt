@@ -1,11 +1,10 @@
 -- The entries that a flush writes.
-use Rattle.std.specs.Prelude.{ℕ, ◌≡◌, ◌+◌, ◌-◌, ◌*◌, ◌/◌, ◌<◌, ◌==◌, ◌||◌, Bool, true, false, if◌then◌else◌, List, [], ◌∷◌, map, filter, min, length, take, drop, Option, Some, None, slice_get}
+use Rattle.std.specs.Prelude.{ℕ, ◌≡◌, ◌+◌, ◌-◌, ◌*◌, ◌<◌, ◌==◌, ◌||◌, Bool, true, false, if◌then◌else◌, List, [], ◌∷◌, map, filter, min, length, take, drop, Option, Some, slice_get}
 use Rattle.std.specs.List.{list_any, range_with_len}
-use Rattle.vd_law.specs.declared.entry.Sector.{Sector}
 use Rattle.vd_format.specs.declared.header.Header.{Header}
 use Rattle.vd_format.specs.declared.map.Entry.{Entry}
 use Rattle.vd_format.specs.declared.journal.Fact2.{Fact2}
-use Rattle.vd_format.specs.Layouts.{blocks_of, chunks_of}
+use Rattle.vd_format.specs.Layouts.{chunks_of}
 use Rattle.vd_bits.specs.Masks.{mask_of}
 use Rattle.vd_bits.specs.Blocks.{bits_in}
 use Rattle.vd_table.specs.Tables.{TableState, Has}
@@ -38,6 +37,10 @@ map_entry h table blocks chunk = let mask = mask_of (bits_in (record { chunk = h
 abbrev pub fact_of : Header → TableState → (blocks : List Bool) → (chunk : ℕ) → Fact2
 fact_of h table blocks chunk = record { chunk = chunk; entry = map_entry h table blocks chunk }
 
+-- the entries of a sector of the map
+abbrev pub entries_on_page : Header → TableState → (blocks : List Bool) → (page : ℕ) → List Entry
+entries_on_page h table blocks page = map (map_entry h table blocks) (range_with_len (32 * page) (min 32 (chunks_of h - 32 * page)))
+
 -- the blocks that the flush under way leaves in every image
 abbrev pub wanted_blocks : KeeperState → List Bool
 wanted_blocks k = union_of k.stale k.snapshot
@@ -50,9 +53,9 @@ next_chunks k = take 24 (drop k.logged (chunks_with k.header k.snapshot))
 abbrev pub next_facts : TableState → KeeperState → List Fact2
 next_facts table k = map (fact_of k.header table (wanted_blocks k)) (next_chunks k)
 
--- the entries of a sector of the map
+-- the entries of a sector of its map
 abbrev pub page_entries : TableState → KeeperState → (page : ℕ) → List Entry
-page_entries table k page = map (map_entry k.header table (wanted_blocks k)) (range_with_len (32 * page) (min 32 (chunks_of k.header - 32 * page)))
+page_entries table k page = entries_on_page k.header table (wanted_blocks k) page
 
 -- The table has a place for each chunk, and storage for each that has a block which the flush writes.
 pub record HasStorage (table : TableState) (k : KeeperState) : Type 0 where

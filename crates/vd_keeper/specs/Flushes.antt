@@ -1,8 +1,7 @@
 -- What a keeper keeps while a flush is under way.
-use Rattle.std.specs.Prelude.{ℕ, ◌≡◌, ◌+◌, ◌-◌, ◌/◌, ◌^◌, ◌<◌, ◌≤◌, ◌⊎◌, Bool, true, false, List, length, Some, slice_get}
+use Rattle.std.specs.Prelude.{ℕ, ◌≡◌, ◌+◌, ◌-◌, ◌/◌, ◌^◌, ◌<◌, ◌≤◌, ◌⊎◌, Bool, true, false, length, Some, slice_get}
 use Rattle.vd_format.specs.Headers.{IsValid}
-use Rattle.vd_format.specs.Layouts.{blocks_of, chunks_of}
-use Rattle.vd_keeper.specs.declared.stage.Stage.{Stage}
+use Rattle.vd_format.specs.Layouts.{blocks_of}
 use Rattle.vd_keeper.specs.declared.stage.Stage.TheVariants.{Rest, Broken}
 use Rattle.vd_keeper.specs.declared.stage.Way as way
 use Rattle.vd_keeper.specs.declared.stage.Way.TheVariants as ways

@@ -1,5 +1,5 @@
 -- What the fields of a keeper stand for, and what holds of them.
-use Rattle.std.specs.Prelude.{ℕ, ◌≡◌, ◌⊎◌, ◌≤◌, length, drop, false}
+use Rattle.std.specs.Prelude.{◌≡◌, ◌⊎◌, ◌≤◌, length, drop}
 use Rattle.vd_format.specs.Layouts.{blocks_of, chunks_of}
 use Rattle.vd_keeper.specs.declared.keeper.Keeper.TheInside.{Inside}
 use Rattle.vd_keeper.specs.declared.stage.Stage.TheVariants.{Puts, Syncs}

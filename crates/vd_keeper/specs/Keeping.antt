@@ -1,7 +1,7 @@
 -- What a keeper of an image's metadata knows.
-use Rattle.std.specs.Prelude.{ℕ, ◌≡◌, ◌+◌, ◌/◌, ◌<◌, ◌≤◌, ◌⊎◌, Bool, true, false, List, replicate, length, Some, slice_get}
+use Rattle.std.specs.Prelude.{ℕ, ◌≡◌, ◌+◌, ◌/◌, Bool, true, false, List, replicate, Some, slice_get}
 use Rattle.vd_format.specs.declared.header.Header.{Header}
-use Rattle.vd_format.specs.Layouts.{blocks_of, chunks_of}
+use Rattle.vd_format.specs.Layouts.{chunks_of}
 use Rattle.vd_keeper.specs.declared.stage.Stage.{Stage}
 use Rattle.vd_keeper.specs.declared.stage.Way.{Way}
 

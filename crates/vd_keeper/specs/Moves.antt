@@ -1,10 +1,10 @@
 -- What each call makes of what a keeper knows.
-use Rattle.std.specs.Prelude.{ℕ, ◌≡◌, ◌≢◌, ◌+◌, ◌-◌, ◌*◌, ◌/◌, ◌^◌, ◌<◌, ◌≤◌, ◌⊎◌, ◌==◌, ◌&&◌, ◌||◌, not, nat_lt, Bool, true, false, if◌then◌else◌, List, [], ◌∷◌, map, length, Option, Some, None, slice_index_or, slice_set}
+use Rattle.std.specs.Prelude.{ℕ, ◌≡◌, ◌≢◌, ◌+◌, ◌-◌, ◌/◌, ◌<◌, ◌==◌, ◌&&◌, ◌||◌, not, nat_lt, Bool, true, false, if◌then◌else◌, List, [], ◌∷◌, map, length, None, slice_index_or, slice_set}
 use Rattle.std.specs.List.{list_any, range_with_len}
 use Rattle.vd_law.specs.declared.entry.Sector.{Sector}
 use Rattle.vd_format.specs.declared.header.Header.{Header}
 use Rattle.vd_format.specs.Headers.{spelling}
-use Rattle.vd_format.specs.Layouts.{blocks_of, chunks_of}
+use Rattle.vd_format.specs.Layouts.{blocks_of}
 use Rattle.vd_format.specs.Entries.{page_bytes}
 use Rattle.vd_format.specs.Records.{record_bytes}
 use Rattle.vd_bits.specs.Marks.{IsLowest, NoneFrom}
@@ -19,7 +19,7 @@ use Rattle.vd_keeper.specs.declared.stage.Put as put
 use Rattle.vd_keeper.specs.declared.stage.Put.TheVariants as puts
 use Rattle.vd_keeper.specs.Keeping.{KeeperState, no_marks, pages_of}
 use Rattle.vd_keeper.specs.Flushes.{records_for, is_recycle, last_generation}
-use Rattle.vd_keeper.specs.Entries.{union_of, chunks_with, next_chunks, next_facts, page_entries, has_block}
+use Rattle.vd_keeper.specs.Entries.{union_of, chunks_with, next_chunks, next_facts, page_entries}
 
 -- the first that the second lacks
 abbrev pub difference_of : List Bool → List Bool → List Bool

@@ -1,16 +1,15 @@
 //! What a flush puts.
 
-ghost use Rattle.std.specs.Prelude.{◌≡◌, ◌⊎◌, ◌<◌, ◌≤◌, ◌+◌, ◌-◌, ◌*◌, ℕ, true, false, length, map, take, drop, min};
-ghost use Rattle.std.specs.List.{range_with_len};
-ghost use Rattle.vd_format.specs.Headers.{IsValid, spelling};
-ghost use Rattle.vd_format.specs.Layouts.{blocks_of, chunks_of};
+ghost use Rattle.std.specs.Prelude.{◌≡◌, ◌<◌, ◌+◌, ◌-◌, ◌*◌, true, false, length, take, drop};
+ghost use Rattle.vd_format.specs.Headers.{IsValid};
+ghost use Rattle.vd_format.specs.Layouts.{chunks_of};
 ghost use Rattle.vd_format.specs.Entries.{page_bytes};
 ghost use Rattle.vd_format.specs.Records.{record_bytes};
 ghost use Rattle.vd_keeper.specs.declared.stage.Stage.TheVariants.{Puts};
-ghost use Rattle.vd_keeper.specs.Entries.{HasStorage, union_of, map_entry, fact_of};
+ghost use Rattle.vd_keeper.specs.Entries.{HasStorage, union_of, map_entry, entries_on_page};
 ghost use Rattle.vd_keeper.specs.Moves.{HasPutDue, IsNextPut};
 ghost use Rattle.vd_keeper.specs.Sets.{chunks_from};
-ghost use Rattle.vd_keeper.specs.Putting.{HasFittingSizes, HasEach};
+ghost use Rattle.vd_keeper.specs.Putting.{HasFittingSizes, HasEach, facts_of_record};
 
 use crate::flushing::next_header;
 use crate::keeper::Keeper;
@@ -108,7 +107,7 @@ fn next_facts(
     from: u64,
 ) -> (Facts2, u64)
     requires source { HasFittingSizes header.now stale.now snapshot.now table.now }
-    ensures facts { result.0 ≡ map (fact_of header.now table.now (union_of stale.now.bits snapshot.now.bits)) (take 24 (chunks_from snapshot.now from)) }
+    ensures facts { result.0 ≡ facts_of_record header.now table.now stale.now snapshot.now from }
     ensures rest { chunks_from snapshot.now result.1 ≡ drop 24 (chunks_from snapshot.now from) }
 {
     let mut facts = Facts2::new();
@@ -137,7 +136,7 @@ fn record_of(
     requires valid { IsValid header.now }
     requires storage { HasEach header.now stale.now.bits snapshot.now.bits table.now }
     requires some { 0 < length (chunks_from snapshot.now from) }
-    ensures bytes { result.0.bytes ≡ record_bytes header.now.generation (map (fact_of header.now table.now (union_of stale.now.bits snapshot.now.bits)) (take 24 (chunks_from snapshot.now from))) }
+    ensures bytes { result.0.bytes ≡ record_bytes header.now.generation (facts_of_record header.now table.now stale.now snapshot.now from) }
     ensures rest { chunks_from snapshot.now result.1 ≡ drop 24 (chunks_from snapshot.now from) }
     ensures count { result.2 ≡ length (take 24 (chunks_from snapshot.now from)) }
 {
@@ -159,7 +158,7 @@ fn map_page(header: &Header, stale: &Bits, snapshot: &BlockSet, table: &Table, p
     requires source { HasFittingSizes header.now stale.now snapshot.now table.now }
     requires valid { IsValid header.now }
     requires page { 32 * page < chunks_of header.now }
-    ensures { result.bytes ≡ page_bytes (map (map_entry header.now table.now (union_of stale.now.bits snapshot.now.bits)) (range_with_len (32 * page) (min 32 (chunks_of header.now - 32 * page)))) }
+    ensures { result.bytes ≡ page_bytes (entries_on_page header.now table.now (union_of stale.now.bits snapshot.now.bits) page) }
 {
     let chunks = layout_of(header).chunks;
     let first = 32 * page as u32;

@@ -172,7 +172,8 @@ fn keep(draft: &mut Draft, says: Line) -> Result<(), AllocError>
 /// Reads one more line.
 pub fn take(draft: &mut Draft, line: &[u8]) -> Result<(), TraceError>
     requires { (done : List (List ℕ)) × HasReadLines done draft.old }
-    ensures reads { (done : List (List ℕ)) → HasReadLines done draft.old → MatchResult result (λ u. HasReadLines (done ++ line.now ∷ []) draft.new) (Stops draft.old.guests done line.now) }
+    ensures reads { (done : List (List ℕ)) → HasReadLines done draft.old →
+        MatchResult result (λ u. HasReadLines (done ++ line.now ∷ []) draft.new) (Stops draft.old.guests done line.now) }
     ensures next { OnOk result (HasNextLine draft.old draft.new) }
 {
     let number = u64::from(draft.lines) + 1;

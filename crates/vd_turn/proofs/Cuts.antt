@@ -1,9 +1,9 @@
 -- The seats of the passes are cut from one seat, and joined again.
-use Rattle.std.proofs.Common.{◌≡◌, ◌≢◌, ℕ, suc, zero, ◌+◌, ◌-◌, ◌<◌, false, List, [], ◌∷◌, ◌++◌, length, map, take, drop, sym, ap, ◌∙◌, subst, arith, Option, append_assoc, add-one}
+use Rattle.std.proofs.Common.{◌≡◌, ◌≢◌, ℕ, suc, zero, ◌+◌, ◌-◌, ◌<◌, false, List, [], ◌∷◌, ◌++◌, length, map, take, drop, sym, ap, ◌∙◌, subst, arith, Option, append_assoc}
 use mathlib.Core.List.{map-append}
 use Rattle.std.specs.List.{All, range_with_len}
 use Rattle.std.proofs.lemmas.List.{length-map}
-use Rattle.std.proofs.lemmas.List.FromFn.{length-range_with_len}
+use Rattle.std.proofs.lemmas.List.FromFn.{length-range_with_len, map-range_with_len_more}
 use Rattle.std.proofs.lemmas.List.Elements.{All-nil, All-cons}
 use Rattle.atomic_table.specs.Table.{State, Me, Splits, Joins}
 use Rattle.vd_turn.specs.declared.board.Note.{Note}
@@ -13,13 +13,6 @@ use Rattle.vd_turn.specs.Lists.{IsLaterFor, size}
 use Rattle.vd_turn.specs.Board.{note, view_of, notes_from, knowing, HasOneValue}
 use Rattle.vd_turn.proofs.Steps.{parts_pass, joins_pass}
 
-pub range_more : (a n : ℕ) → range_with_len a (n + 1) ≡ range_with_len a n ++ (a + n) ∷ []
-range_more a n = ap (range_with_len a) (add-one n) ∙ more a n
-  where
-    more : (a n : ℕ) → range_with_len a (suc n) ≡ range_with_len a n ++ (a + n) ∷ []
-    more a zero = ap (λ (k : ℕ). k ∷ []) (omega arith)
-    more a (suc n) = let e : a + 1 + n ≡ a + suc n = omega arith in ap (λ l. a ∷ l) (more (a + 1) n ∙ ap (λ (k : ℕ). range_with_len (a + 1) n ++ k ∷ []) e)
-
 abbrev M : Type 0 → Type 0
 M V = Me (Option V) (View V)
 
@@ -27,9 +20,7 @@ pub counted : {T : Type 0} (f : ℕ → T) (items : List T) (n : ℕ) → items 
 counted f items n made = ap length made ∙ (length-map (range_with_len 0 n) f ∙ length-range_with_len 0 n)
 
 pub passes_more : {T : Type 0} (f : ℕ → T) (old new : List T) (t : T) (n : ℕ) → new ≡ old ++ t ∷ [] → old ≡ map f (range_with_len 0 n) → t ≡ f n → new ≡ map f (range_with_len 0 (n + 1))
-passes_more f old new t n e made same =
-    let last : f n ≡ f (0 + n) = ap f (omega arith) in
-    e ∙ ((λ i. made i ++ (same ∙ last) i ∷ []) ∙ sym (ap (map f) (range_more 0 n) ∙ map-append f (range_with_len 0 n) ((0 + n) ∷ [])))
+passes_more f old new t n e made same = e ∙ ((λ i. made i ++ same i ∷ []) ∙ sym (map-range_with_len_more f 0 n n (omega arith)))
 
 module _ {V : Type 0} where
   above : (count start low : ℕ) (x : V) → low < start → All (λ (n : Note V). n.pass ≢ low) (notes_from start count x)

@@ -98,7 +98,8 @@ pub fn race<R: Threads + Wait + Sync>(
         passes,
         &|pass: TurnPass<Visits>| -> TurnPass<Visits>
             requires { (pass.turn ≡ shared.now.id) × (vec_capacity pass.last.made ≡ vec_capacity shared.now.start.made) × (pass.holds ≡ false) }
-            ensures { (result.number ≡ pass.number) × (result.turn ≡ shared.entry.now.id) × (vec_capacity result.last.made ≡ vec_capacity shared.entry.now.start.made) × (result.holds ≡ false) }
+            ensures { (result.number ≡ pass.number) × (result.turn ≡ shared.entry.now.id)
+                × (vec_capacity result.last.made ≡ vec_capacity shared.entry.now.start.made) × (result.holds ≡ false) }
         { work(rt, shared, pass, times) },
     )?;
     Ok(turn.close(passes))

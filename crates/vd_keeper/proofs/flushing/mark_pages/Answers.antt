@@ -1,4 +1,4 @@
-use Rattle.std.proofs.Common.{◌+◌, ◌-◌, ◌<◌, refl, arith}
+use Rattle.std.proofs.Common.{◌-◌, refl, arith}
 use Rattle.vd_keeper.proofs.PageMarks.{page-inside, marking-one, marking-all}
 use Rattle.vd_keeper.proofs.flushing.mark_pages.Goals as goal
 

@@ -1,5 +1,4 @@
-use Rattle.std.proofs.Common.{◌≡◌, length, ◌∙◌, arith}
-use Rattle.vd_keeper.specs.Sets.{chunk_count}
+use Rattle.std.proofs.Common.{◌≡◌, ◌∙◌, arith}
 use Rattle.vd_keeper.proofs.Joining.{adopting-one, adopting-all}
 use Rattle.vd_keeper.proofs.owing.adopt.Goals as goal
 

@@ -1,4 +1,4 @@
-use Rattle.std.proofs.Common.{◌≡◌, ◌-◌, ◌<◌, ◌≤◌, ◌^◌, bit_and, length, refl, sym, arith}
+use Rattle.std.proofs.Common.{◌-◌, bit_and, refl, arith}
 use Rattle.std.proofs.lemmas.Nat.{and_le_l}
 use Rattle.vd_bits.specs.Blocks.{bits_in}
 use Rattle.vd_bits.specs.Masks.{mask_of}

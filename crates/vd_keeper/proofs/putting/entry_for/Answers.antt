@@ -1,4 +1,4 @@
-use Rattle.std.proofs.Common.{◌≡◌, ◌+◌, Some, None, refl, ap, ◌∙◌, bit_or}
+use Rattle.std.proofs.Common.{◌+◌, Some, None, refl, ap, bit_or}
 use Rattle.vd_keeper.proofs.EntryLaws.{entry-none, entry-some}
 use Rattle.vd_keeper.proofs.putting.entry_for.Goals as goal
 

@@ -1,4 +1,4 @@
-use Rattle.std.proofs.Common.{◌≡◌, ◌*◌, length, map, take}
+use Rattle.std.proofs.Common.{◌≡◌, length, map, take}
 use Rattle.std.specs.List.{range_with_len}
 use Rattle.vd_keeper.specs.Entries.{union_of, map_entry}
 use Rattle.vd_keeper.proofs.putting.map_page.Given as goal

@@ -1,6 +1,4 @@
-use Rattle.std.proofs.Common.{◌≡◌, ◌+◌, ◌<◌, ◌∷◌, ◌++◌, List, [], length, sym, ap, arith}
-use Rattle.vd_format.specs.declared.map.Entry.{Entry}
-use Rattle.vd_format.specs.declared.journal.Fact2.{Fact2}
+use Rattle.std.proofs.Common.{ap, arith}
 use Rattle.vd_keeper.specs.Entries.{union_of, fact_of}
 use Rattle.vd_keeper.proofs.EntryLaws.{collected-one}
 use Rattle.vd_keeper.proofs.putting.next_facts.Goals as goal

@@ -1,5 +1,4 @@
-use Rattle.std.proofs.Common.{◌<◌, ◌+◌, length, refl, ◌∙◌, arith}
-use Rattle.vd_bits.specs.Marks.{count_true}
+use Rattle.std.proofs.Common.{length, refl, arith}
 use Rattle.vd_keeper.proofs.Moving.{fewer, joined-one, joined-all, none-left, lowest-inside}
 use Rattle.vd_keeper.proofs.sets.join.Goals as goal
 

@@ -1,4 +1,4 @@
-use Rattle.std.proofs.Common.{◌≡◌, ◌+◌, ◌<◌, ◌^◌, refl, sym, arith}
+use Rattle.std.proofs.Common.{◌+◌, ◌<◌, ◌^◌, refl, arith}
 use Rattle.vd_bits.specs.Marks.{IsLowest, NoneFrom}
 use Rattle.vd_keeper.specs.Sets.{marks_of}
 use Rattle.vd_keeper.proofs.Pouring.{found-inside, found-small, poured-one, poured-empty, poured-into}

@@ -1,8 +1,7 @@
-use Rattle.std.proofs.Common.{◌≡◌, ℕ, ◌*◌, ◌<◌, ◌^◌, length, refl, sym, arith, ap, ◌∙◌}
+use Rattle.std.proofs.Common.{length, refl, sym}
 use Rattle.std.specs.Int.RustNames.{bit_or}
 use Rattle.std.proofs.lemmas.Nat.{pow_pos}
 use Rattle.vd_bits.specs.Blocks.{bits_in}
-use Rattle.vd_keeper.proofs.NextChunks.{marks-none}
 use Rattle.vd_keeper.proofs.Chunked.{both-fit, mask-fits, has-more, has-none}
 use Rattle.vd_keeper.proofs.sets.pour_chunk.Goals as goal
 

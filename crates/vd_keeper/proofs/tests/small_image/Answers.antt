@@ -1,4 +1,4 @@
-use Rattle.std.proofs.Common.{◌≡◌, ap, ◌∙◌}
+use Rattle.std.proofs.Common.{ap, ◌∙◌}
 use Rattle.vd_format.specs.Layouts.{blocks_of}
 use Rattle.vd_keeper.proofs.Laws.{still-full}
 use Rattle.vd_keeper.proofs.tests.small_image.Goals as goal

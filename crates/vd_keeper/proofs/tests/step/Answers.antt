@@ -1,5 +1,4 @@
-use Rattle.std.proofs.Common.{◌≡◌, true, ap, sym, ◌∙◌}
-use Rattle.vd_keeper.specs.declared.stage.Stage.{Stage}
+use Rattle.std.proofs.Common.{ap, sym, ◌∙◌}
 use Rattle.vd_keeper.specs.Moves.{is_settling}
 use Rattle.vd_keeper.proofs.Laws.{full-storage, puts-leave, settled-header, same-image}
 use Rattle.vd_keeper.proofs.tests.step.Goals as goal

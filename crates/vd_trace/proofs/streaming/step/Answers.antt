@@ -1,7 +1,7 @@
 use Rattle.std.proofs.Common.{arith, ◌<◌, length}
 use Rattle.std.proofs.lemmas.Result.{err_from_is_err_and}
 use Rattle.vd_trace.proofs.Readings.{took-line, refused-line, long-stops, no-source}
-use Rattle.vd_trace.proofs.Taken.{more-taken, taken-left, fails-behind}
+use Rattle.vd_trace.proofs.Taken.{more-taken}
 use Rattle.vd_trace.proofs.streaming.step.Goals as goal
 
 pub returns-in_err-take-in-Some-clause-goes : goal.returns-in_err-take-in-Some-clause-goes

@@ -1,6 +1,5 @@
-use Rattle.std.proofs.Common.{◌≡◌, ◌⊎◌, length, sym, ap, ◌∙◌}
+use Rattle.std.proofs.Common.{◌≡◌, length, sym, ap, ◌∙◌}
 use Rattle.vd_format.specs.Layouts.{blocks_of}
-use Rattle.vd_keeper.specs.declared.stage.Stage.TheVariants.{Rest, Broken}
 use Rattle.vd_keeper.specs.Keeping.{no_marks}
 use Rattle.vd_keeper.specs.Moves.{after_adopt}
 use Rattle.vd_keeper.proofs.Begun.{no-snapshot}

@@ -1,9 +1,8 @@
-use Rattle.std.proofs.Common.{◌≡◌, ◌⊎◌, ◌≤◌, ℕ, nat_eq, List, Bool, true, false, length, sym, refl, ap, ◌∙◌, subst}
+use Rattle.std.proofs.Common.{◌≡◌, ◌⊎◌, ◌≤◌, ℕ, nat_eq, false, length, sym, ap, ◌∙◌}
 use Rattle.std.proofs.lemmas.Bool.{and_left, and_right, ne_eqb}
 use Rattle.vd_bits.specs.Blocks.{Blocks}
 use Rattle.vd_keeper.specs.declared.stage.Stage.TheVariants.{Rest, Broken}
 use Rattle.vd_keeper.specs.declared.stage.Route.TheVariants.{Recycle}
-use Rattle.vd_keeper.specs.Keeping.{KeeperState}
 use Rattle.vd_keeper.specs.Entries.{union_of}
 use Rattle.vd_keeper.specs.Flushes.{is_recycle, last_generation}
 use Rattle.vd_keeper.specs.Moves.{way_of, after_begin, is_worn_out, pages_with}

@@ -1,4 +1,3 @@
-use Rattle.vd_keeper.proofs.Laws.{next-facts-grammar}
 use Rattle.vd_keeper.proofs.keeper.Keeper.header.Goals as goal
 
 pub returns-clause-kept : goal.returns-clause-kept

@@ -1,4 +1,4 @@
-use Rattle.std.proofs.Common.{◌≡◌, ◌∙◌, Bool, true, false, not}
+use Rattle.std.proofs.Common.{◌∙◌, not}
 use Rattle.vd_keeper.specs.KeeperFields.{keeper_state}
 use Rattle.vd_keeper.proofs.Counts.{left-some, due-found, due-head, due-nothing}
 use Rattle.vd_keeper.proofs.keeper.Keeper.is_due.Goals as goal

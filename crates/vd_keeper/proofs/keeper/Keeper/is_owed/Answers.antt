@@ -1,4 +1,4 @@
-use Rattle.std.proofs.Common.{◌≡◌, Bool, true, false, get_or, length, Some, ap, sym, ◌∙◌}
+use Rattle.std.proofs.Common.{◌≡◌, true, Some, ap}
 use Rattle.std.specs.List.{slice_get}
 use Rattle.vd_keeper.proofs.Owed.{either-left, either-of}
 use Rattle.vd_keeper.proofs.keeper.Keeper.is_owed.Goals as goal

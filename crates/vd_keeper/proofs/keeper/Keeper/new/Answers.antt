@@ -1,4 +1,3 @@
-use Rattle.std.proofs.Common.{ap, ◌∙◌}
 use Rattle.vd_keeper.proofs.Opened.{new-view, new-keeper}
 use Rattle.vd_keeper.proofs.keeper.Keeper.new.Goals as goal
 

@@ -1,6 +1,5 @@
-use Rattle.std.proofs.Common.{◌≡◌, ◌<◌, ℕ, Bool, true, false, get_or, ap, sym, ◌∙◌}
+use Rattle.std.proofs.Common.{◌<◌, true, ap, sym}
 use Rattle.vd_format.specs.Layouts.{blocks_of}
-use Rattle.vd_keeper.proofs.Begun.{begun-view}
 use Rattle.vd_keeper.proofs.Owed.{off, is-true, owed-kept, owed-view, stale-view, logged-view}
 use Rattle.vd_keeper.proofs.keeper.Keeper.owe.Goals as goal
 use Rattle.vd_keeper.proofs.keeper.Keeper.owe.Goals.{else-not-get-via-then-not-get+else-not-has, else-not-get-via-else-not-get}

@@ -1,13 +1,11 @@
-use Rattle.std.proofs.Common.{◌≡◌, ◌+◌, ◌<◌, List, Bool, false, true, length, sym, refl, ap, ◌∙◌, subst}
-use Rattle.vd_format.specs.declared.header.Header.{Header}
+use Rattle.std.proofs.Common.{◌≡◌, ◌<◌, length, sym, refl, ap, ◌∙◌, subst}
 use Rattle.vd_format.specs.Headers.{spelling}
 use Rattle.vd_keeper.specs.declared.stage.Stage.TheVariants.{Puts}
 use Rattle.vd_keeper.specs.declared.stage.Way.TheVariants.{Records}
 use Rattle.vd_keeper.specs.declared.stage.Put.TheVariants as puts
-use Rattle.vd_keeper.specs.Keeping.{KeeperState}
 use Rattle.vd_keeper.specs.Entries.{chunks_with}
 use Rattle.vd_keeper.specs.Flushes.{is_recycle}
-use Rattle.vd_keeper.specs.Moves.{IsNextPut, Next_page, Next_header, HasPutDue}
+use Rattle.vd_keeper.specs.Moves.{Next_page, Next_header, HasPutDue}
 use Rattle.vd_keeper.specs.KeeperFields.{keeper_state}
 use Rattle.vd_keeper.proofs.Ended.{recycle-header}
 use Rattle.vd_keeper.proofs.PutLaws.{record-keeper, record-put}

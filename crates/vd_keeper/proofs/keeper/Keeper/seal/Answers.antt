@@ -1,5 +1,4 @@
-use Rattle.std.proofs.Common.{◌≡◌, ◌+◌, true, sym, ap, ◌∙◌}
-use Rattle.vd_keeper.specs.declared.stage.Stage.TheVariants.{Seals}
+use Rattle.std.proofs.Common.{true, sym, ap, ◌∙◌}
 use Rattle.vd_keeper.specs.Moves.{after_seal}
 use Rattle.vd_keeper.proofs.Ended.{sealed-by-view, sealed-by-keeper, recycle-sure, recycle-next, recycle-header, other-sure, other-next, other-header}
 use Rattle.vd_keeper.proofs.keeper.Keeper.seal.Goals as goal

@@ -1,14 +1,11 @@
-use Rattle.std.proofs.Common.{◌≡◌, ◌⊎◌, ◌+◌, ◌-◌, ◌/◌, ◌<◌, ◌≤◌, ℕ, List, Bool, true, false, not, length, sym, refl, ap, ◌∙◌, arith}
+use Rattle.std.proofs.Common.{◌≡◌, ◌⊎◌, ◌-◌, true, false, not, length, sym, ap, ◌∙◌}
 use Rattle.std.specs.Prelude.{◌||◌, nat_lt}
-use Rattle.std.proofs.lemmas.Bool.{or_left, not_from_false, not_from_true}
+use Rattle.std.proofs.lemmas.Bool.{or_left, not_from_false}
 use Rattle.vd_keeper.specs.declared.stage.Stage.TheVariants.{Rest, Broken}
-use Rattle.vd_keeper.specs.Keeping.{KeeperState}
 use Rattle.vd_keeper.specs.Entries.{union_of, chunks_with}
 use Rattle.vd_keeper.specs.Flushes.{records_for}
-use Rattle.vd_keeper.specs.Moves.{none_of, way_of}
-use Rattle.vd_keeper.specs.Sets.{chunks_from}
+use Rattle.vd_keeper.specs.Moves.{way_of}
 use Rattle.vd_keeper.specs.KeeperFields.{keeper_state}
-use Rattle.vd_keeper.proofs.Begun.{owed-chunks, owed-later}
 use Rattle.vd_keeper.proofs.Counts.{way-recycle, way-big, way-nothing, way-some, none-owed, some-owed, fits-or-not}
 use Rattle.vd_keeper.proofs.keeper.Keeper.way_for.Goals as goal
 use Rattle.vd_keeper.proofs.keeper.Keeper.way_for.Goals.{then-not-self, else-not-self, Joined-not-self}

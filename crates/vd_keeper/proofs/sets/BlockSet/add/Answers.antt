@@ -1,5 +1,4 @@
-use Rattle.std.proofs.Common.{◌<◌, length, ap, sym}
-use Rattle.vd_bits.specs.Blocks.{Blocks}
+use Rattle.std.proofs.Common.{sym}
 use Rattle.vd_keeper.proofs.SetLaws.{added-chunk, added-indexed}
 use Rattle.vd_keeper.proofs.sets.BlockSet.add.Goals as goal
 

@@ -1,8 +1,8 @@
-use Rattle.std.proofs.Common.{◌≡◌, ◌*◌, ◌<◌, ◌^◌, ℕ, length, ap, sym, refl}
+use Rattle.std.proofs.Common.{◌*◌, ◌<◌, ◌^◌, length, sym, refl}
 use Rattle.std.specs.Int.RustNames.{bit_or}
 use Rattle.std.proofs.lemmas.Nat.{or_lt}
 use Rattle.std.proofs.lemmas.Simd.{mask_l-lt}
-use Rattle.vd_bits.specs.Blocks.{Blocks, bits_in}
+use Rattle.vd_bits.specs.Blocks.{bits_in}
 use Rattle.vd_keeper.specs.Sets.{HasMore}
 use Rattle.vd_keeper.proofs.Chunked.{has-more}
 use Rattle.vd_keeper.proofs.SetLaws.{masked-chunk, masked-indexed}

@@ -1,4 +1,4 @@
-use Rattle.std.proofs.Common.{◌≡◌, ◌<◌, ℕ, length, ◌∙◌, arith}
+use Rattle.std.proofs.Common.{◌≡◌, ◌<◌, length, ◌∙◌, arith}
 use Rattle.vd_keeper.specs.Sets.{chunks_from}
 use Rattle.vd_keeper.proofs.NextChunks.{count-marks_of, chunks-below}
 use Rattle.vd_keeper.proofs.sets.BlockSet.chunks.Goals as goal

@@ -1,5 +1,4 @@
 use Rattle.std.proofs.Common.{◌≡◌, length, sym}
-use Rattle.vd_bits.specs.Blocks.{Blocks}
 use Rattle.vd_keeper.proofs.Joining.{emptied-indexed, joined-indexed}
 use Rattle.vd_keeper.proofs.sets.BlockSet.join.Goals as goal
 

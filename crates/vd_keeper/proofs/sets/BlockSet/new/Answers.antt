@@ -1,4 +1,4 @@
-use Rattle.std.proofs.Common.{◌+◌, ◌-◌, ◌/◌, ◌<◌, ◌^◌, replicate, length, false, refl, arith}
+use Rattle.std.proofs.Common.{◌-◌, replicate, length, refl}
 use Rattle.std.proofs.lemmas.List.{length-replicate}
 use Rattle.vd_keeper.proofs.SetLaws.{new-marks}
 use Rattle.vd_keeper.proofs.sets.BlockSet.new.Goals as goal

@@ -1,5 +1,3 @@
-use Rattle.std.proofs.Common.{ℕ}
-use Rattle.vd_bits.specs.Blocks.{Blocks}
 use Rattle.vd_keeper.proofs.SetLaws.{next-of, none-of, of-none, few-next}
 use Rattle.vd_keeper.proofs.sets.BlockSet.next.Goals as goal
 
