@@ -1,0 +1,3 @@
+pub mod Wearing
+pub mod WearingSteps
+pub mod WearingFlushes
