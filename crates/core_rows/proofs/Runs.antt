@@ -5,7 +5,7 @@ use Rattle.vd_law.specs.declared.entry.Sector.{Sector}
 use Rattle.vd_law.specs.declared.entry.Room.{Room}
 use Rattle.vd_law.specs.declared.entry.CallId.{CallId}
 use Rattle.vd_law.specs.declared.entry.Answer.{Answer}
-use Rattle.vd_law.specs.Entries.{Asked, Read, Write, Entry, Ask, Issue, Done, Broke, Seen, Reply, IsNoAsk}
+use Rattle.vd_law.specs.Entries.{Asked, Read, Write, Entry, Ask, Reply, IsNoAsk}
 use Rattle.vd_law.specs.Histories.{HistoryState}
 use Rattle.vd_table.specs.Tables.{TableState}
 use Rattle.vd_passes.specs.declared.shape.Shape.{Shape}
@@ -18,11 +18,11 @@ use Rattle.vd_law.specs.declared.entry.Answer.TheVariants.{Full}
 use Rattle.vd_passes.proofs.Lists.{some-inj, get-set-same, get-set-other, length-set'}
 use Rattle.vd_core.specs.declared.outcome.Step.{Step}
 use Rattle.vd_core.specs.declared.outcome.Step.TheVariants.{Again, Late, Busy, Ended}
-use Rattle.vd_core.specs.View.{View}
+use Rattle.vd_machine.specs.Views.{View}
 use Rattle.vd_machine.specs.Asking.{AskEnds, ask_state}
 use Rattle.vd_core.specs.Opening.{AreNew}
-use Rattle.vd_core.specs.Moves.{Drives, work}
-use Rattle.vd_core.proofs.Serving.{asks-write, write-stays, write-other}
+use Rattle.vd_drive.specs.Moves.{Drives, work}
+use Rattle.vd_drive.proofs.Serving.{asks-write, write-stays, write-other}
 use Rattle.vd_lists.proofs.Places.{some_place}
 
 pub same-shape : {S B : Type 0} {a b : View S B} → a ≡ b → a.shape ≡ b.shape

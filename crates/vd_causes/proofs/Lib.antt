@@ -1,3 +1,12 @@
 pub mod Wearing
 pub mod WearingSteps
 pub mod WearingFlushes
+pub mod Accounting
+pub mod Following
+pub mod Laws
+pub mod Local
+pub mod LocalSteps
+pub mod Storing
+pub mod StoringCounts
+pub mod StoringFull
+pub mod StoringSteps

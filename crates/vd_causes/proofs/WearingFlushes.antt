@@ -1,5 +1,5 @@
 -- Each step of a flush keeps it too, as does a core that is made.
-use Rattle.std.proofs.Common.{◌≡◌, ℕ, ◌+◌, ◌-◌, ◌≤◌, inl, inr, Bool, true, false, ◌&&◌, List, [], refl, sym, ap, ◌∙◌, arith, Option, Some, None, slice_get, count_by}
+use Rattle.std.proofs.Common.{◌≡◌, ℕ, ◌+◌, ◌≤◌, inl, inr, Bool, true, false, ◌&&◌, List, [], refl, sym, ap, ◌∙◌, arith, Some, None, slice_get}
 use Rattle.std.specs.Prelude.{if◌then◌else◌, cond, ◌==◌, slice_index_or}
 use Rattle.std.proofs.lemmas.Bool.{and_parts, eqb-true}
 use Rattle.std.proofs.lemmas.List.{append-nil}
@@ -19,10 +19,9 @@ use Rattle.vd_keeper.specs.declared.stage.Way.TheVariants as ways
 use Rattle.vd_keeper.specs.declared.stage.Put.{Put}
 use Rattle.vd_keeper.specs.Keeping.{KeeperState}
 use Rattle.vd_keeper.specs.Flushes.{last_generation, is_recycle}
-use Rattle.vd_keeper.specs.Moves.{after_owe, after_adopt, after_call, next_header, way_of, IsNextPut, Next_record, Next_page, Next_header}
+use Rattle.vd_keeper.specs.Moves.{after_adopt, after_call, next_header, way_of, IsNextPut, Next_record, Next_page, Next_header}
 use Rattle.vd_passes.specs.declared.pass.Pass.{Pass}
-use Rattle.vd_passes.specs.declared.pass.Phase.{Phase}
-use Rattle.vd_passes.specs.declared.pass.Phase.TheVariants.{Idle, Asked as HasAsked, Flushing, Ready}
+use Rattle.vd_passes.specs.declared.pass.Phase.TheVariants.{Idle, Ready}
 use Rattle.vd_passes.specs.declared.pass.Fault.TheVariants as fault
 use Rattle.vd_passes.specs.Requests.{RequestState, with_pass}
 use Rattle.vd_passes.specs.Passes.{after_fault, after_meta, after_flush}

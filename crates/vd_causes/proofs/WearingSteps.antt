@@ -1,8 +1,8 @@
 -- Each step of a core keeps that the generation rises by its flushes alone, and a Worn has found the last.
 use Rattle.std.proofs.Common.{◌≡◌, ◌≢◌, ℕ, ◌+◌, ◌-◌, ◌*◌, ◌≤◌, ◌⊎◌, inl, inr, Bool, true, false, ◌&&◌, List, [], ◌∷◌, ◌++◌, replicate, refl, sym, ap, subst, ◌∙◌, arith, Option, Some, None, slice_get, count_by, zero, suc}
-use Rattle.std.specs.Prelude.{if◌then◌else◌, cond, is_some, slice_range, slice_index_or}
+use Rattle.std.specs.Prelude.{cond, slice_range}
 use Rattle.std.proofs.lemmas.Bool.{and_parts, cases_Bool}
-use Rattle.vd_lists.proofs.Counting.{sum_of_zeros, sum_of_changed, sum_at_place}
+use Rattle.vd_lists.proofs.Counting.{sum_at_place}
 use Rattle.vd_lists.proofs.Options.{some_injective}
 use Rattle.vd_lists.proofs.Places.{same_member}
 use Rattle.vd_law.specs.declared.entry.CallId.{CallId}
@@ -24,13 +24,13 @@ use Rattle.vd_passes.specs.declared.pass.Phase.{Phase}
 use Rattle.vd_passes.specs.declared.pass.Phase.TheVariants.{Idle, Asked as HasAsked, Held, Fetching, Filled, Issuing, Looking, Flushing, Ready}
 use Rattle.vd_passes.specs.declared.pass.Fault.{Fault}
 use Rattle.vd_passes.specs.declared.pass.Fault.TheVariants as fault
-use Rattle.vd_passes.specs.Requests.{RequestState, with_pass, with_entry, with_entries}
+use Rattle.vd_passes.specs.Requests.{RequestState, with_pass, with_entry}
 use Rattle.vd_passes.specs.Standings.{Standing, standing}
-use Rattle.vd_passes.specs.Passes.{has_region, call_id, HasNone, HasInFlight, HasOutcome, IsAsHistorySays, after_spending, after_ask, after_enter, after_fetch, after_filled, after_issue, after_look, after_base_look, after_piece, after_fault, after_meta, after_flush, after_reply, answer_by}
+use Rattle.vd_passes.specs.Passes.{has_region, call_id, HasNone, HasInFlight, HasOutcome, IsAsHistorySays, after_spending, after_ask, after_enter, after_fetch, after_filled, after_issue, after_look, after_base_look, after_piece, after_fault, after_reply, answer_by}
 use Rattle.vd_passes.specs.Coherent.{IsCoherent}
-use Rattle.vd_passes.specs.Steps.{IsAt, Asks, AsksFull, Enters, FillsZeros, Sees, SeesZeros, Replies, EndsRead, after_write, meta_settled, after_base_read, Issues, WriteSettled, Looks, LookSettled, Fetches, FetchSettled, LooksAtBase, BaseLookSettled}
+use Rattle.vd_passes.specs.Steps.{IsAt, Asks, AsksFull, Enters, FillsZeros, Sees, SeesZeros, Replies, EndsRead, after_write, after_base_read, Issues, WriteSettled, Looks, LookSettled, Fetches, FetchSettled, LooksAtBase, BaseLookSettled}
 use Rattle.vd_passes.specs.Causes.{one_if}
-use Rattle.vd_causes.specs.Wearing.{asks_flush, asks_other_flush, AreWornsCaused, is_unsealed, is_unsealed_in, RisesAddUp}
+use Rattle.vd_causes.specs.Wearing.{asks_other_flush, is_unsealed, is_unsealed_in, RisesAddUp}
 use Rattle.vd_causes.proofs.Wearing.{one-flush, changed-rises, same-rises, no-more, HasNoMore, TellsNoWorn, stands-rises, pass-rises}
 
 -- What a pass has of flushes after a step.
@@ -166,9 +166,6 @@ module _ {at_opening : ℕ} {k : KeeperState} {i : ℕ} {r r' : RequestState} {S
         let worked = subst (λ (x : Pass). (x.phase ≢ Idle) × (x.phase ≢ Ready)) same work in
         rw step.after (stands-rises rises refl i (after_spending 1 q.piece (after_piece q)) step.there (piece-ends (co.each i q step.there) worked 1 q.piece)
         (Seen (call_id i q) (q.first + q.done) content ∷ []) (one-silent (Seen (call_id i q) (q.first + q.done) content) (λ id n is. absurd cc)))
-
-    pub sees-worn : (step : Sees content i r r' out out') → has_region step.pass.phase ≡ true → RisesAddUp at_opening k r'
-    sees-worn step holds = seen step.pass step.there (holds-region (co.each i step.pass step.there) holds) step
 
   pub sees_zeros-worn : {out out' : List Sector} → IsAt r.passes i (λ p. p.phase ≡ Held) → SeesZeros i r r' out out' → RisesAddUp at_opening k r'
   sees_zeros-worn at step = seen at.0 at.1 (holds-region (co.each i at.0 at.1) (ap has_region at.2)) step.sees

@@ -1,1 +1,4 @@
 pub mod Wearing
+pub mod Storing
+pub mod Local
+pub mod Accounts

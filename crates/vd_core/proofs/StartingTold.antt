@@ -1,5 +1,5 @@
 -- At opening the guest's disk agrees with what the store may hold.
-use Rattle.std.proofs.Common.{◌≡◌, ℕ, ◌+◌, ◌-◌, ◌*◌, ◌/◌, ◌%◌, ◌<◌, inl, inr, true, false, List, [], ◌∷◌, length, sym, ◌∙◌, ap, subst, arith, Contains, Some, slice_get}
+use Rattle.std.proofs.Common.{◌≡◌, ℕ, ◌+◌, ◌-◌, ◌*◌, ◌/◌, ◌<◌, inl, inr, true, false, List, [], ◌∷◌, length, sym, ◌∙◌, ap, subst, arith, Contains, Some, slice_get}
 use Rattle.std.specs.Option.{option_to_list}
 use Rattle.std.proofs.lemmas.Option.{slice_get_cases}
 use Rattle.vd_law.specs.declared.entry.Sector.{Sector}
@@ -26,9 +26,9 @@ use Rattle.vd_passes.specs.Coherent.{AgreesInSector}
 use Rattle.vd_passes.proofs.Lists.{some-inj}
 use Rattle.vd_passes.proofs.Tracks.{is-one}
 use Rattle.vd_passes.proofs.PlacesGiven.{place-from}
-use Rattle.vd_core.specs.Start.{opening_at, IsStart, image_at}
+use Rattle.vd_machine.specs.Start.{opening_at, IsStart, image_at}
 use Rattle.vd_core.specs.Opening.{disk_shape}
-use Rattle.vd_core.proofs.Starting.{clean-one, clean-held}
+use Rattle.vd_machine.proofs.Starting.{clean-one, clean-held}
 use Rattle.vd_core.proofs.StartingDisk.{disk-over, sector-block}
 use Rattle.vd_format.specs.Background.{background, background_of, base_at, zero_sector}
 

@@ -1,14 +1,6 @@
 pub mod Outcomes
-pub mod Looking
-pub mod View
-pub mod Stepping
 pub mod Kept
 pub mod Opening
-pub mod Moves
-pub mod Storing
-pub mod Local
 pub mod Agreeing
 pub mod Showing
 pub mod History
-pub mod Start
-pub mod Flushing

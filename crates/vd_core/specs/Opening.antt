@@ -17,8 +17,7 @@ use Rattle.vd_keeper.specs.Keeping.{KeeperState, no_marks, pages_of}
 use Rattle.vd_passes.specs.declared.shape.Shape.{Shape}
 use Rattle.vd_passes.specs.declared.pass.Pass.{Pass}
 use Rattle.vd_passes.specs.Passes.{IsNew}
-use Rattle.vd_core.specs.View.{View}
-use Rattle.vd_core.specs.Start.{opening_at}
+use Rattle.vd_machine.specs.Views.{Fixed, View}
 use Rattle.vd_format.specs.Background.{zero_sector}
 
 -- the shape of the disk of an image with this header
@@ -58,9 +57,14 @@ new_keeping s = record {
   head = false;
 }
 
+-- what never changes of a core over these devices, whose image was opened as this state
+abbrev pub fixed_for : {S B : Type 0} → State → Room → (store : S) → (base : B) → Fixed S B
+fixed_for s room store base = record { store = store; base = base; header = s.header; entries = s.map; room = room }
+
 module _ {S B : Type 0} (g : store.Ghosts S) (h : base.Ghosts B) where
   -- a core over an image that was opened as this state, in which nothing was asked
   pub record IsNewCore (s : State) (passes : ℕ) (room : Room) (store : S) (base : B) (core : View S B) : Type 0 where
+    pub fixed_is : core.fixed ≡ fixed_for s room store base
     pub store_is : core.store ≡ store
     pub base_is : core.base ≡ base
     pub shape_is : core.shape ≡ disk_shape s.header (h.sectors base)
@@ -71,11 +75,7 @@ module _ {S B : Type 0} (g : store.Ghosts S) (h : base.Ghosts B) where
     pub passes_are : AreNew passes s.header.block core.passes
     pub history_is : core.history ≡ empty_history room (g.events store)
     pub spare_is : core.spare ≡ room
-    pub header_is : core.header ≡ s.header
-    pub entries_are : core.entries ≡ s.map
-    pub opening_is : core.opening ≡ opening_at (g.events store) (g.disk store)
-    pub store_faults_are : core.store_faults ≡ g.faults store
-    pub base_faults_are : core.base_faults ≡ h.faults base
+    pub steps_are : core.steps ≡ 0
 
 -- each call that was asked has its Reply
 abbrev pub AreReplied : List Entry → Type 0

@@ -1,27 +1,21 @@
 //! The steps of a flush: what was owed is logged, and made durable.
 
-ghost use Rattle.std.specs.Prelude.{ℕ, ◌≡◌, ◌≢◌, ◌<◌, None, Some, slice_get};
+ghost use Rattle.std.specs.Prelude.{ℕ, ◌≡◌, ◌<◌, Some, slice_get};
 ghost use Rattle.vd_device.specs.declared.settled.Settled.{Settled as AnySettled};
-ghost use Rattle.vd_device.specs.Calls.{IsCaused};
-ghost use Rattle.vd_keeper.specs.declared.stage.Stage.TheVariants.{Puts, Syncs, Seals};
-ghost use Rattle.vd_keeper.specs.declared.stage.Route.TheVariants.{Recycle};
-ghost use Rattle.vd_keeper.specs.Moves.{after_adopt};
-ghost use Rattle.vd_passes.specs.declared.pass.Pass.{Pass as AnyPass};
-ghost use Rattle.vd_passes.specs.declared.pass.Phase.TheVariants.{Idle};
-ghost use Rattle.vd_passes.specs.Causes.{OfStore, HasNextTicket};
-ghost use Rattle.vd_passes.specs.Steps.{IsAt};
-ghost use Rattle.vd_machine.specs.Flushing.{place_of_put, put_sector, IsWornOut, SealsFlush};
-ghost use Rattle.vd_core.specs.Stepping.{view_requests, meta_state_of, FlushBegins, FlushPuts, FlushSyncs, FlushSettles};
-ghost use Rattle.vd_core.specs.declared.flushing.Begun.TheVariants.{Going, Busy, Worn};
-ghost use Rattle.vd_device.specs.Stores.{KeepsStore};
-ghost use Rattle.vd_machine.specs.Outcomes.{outcome_of};
-ghost use Rattle.vd_core.specs.Outcomes.{step_of};
 ghost use Rattle.vd_format.specs.Headers.{IsValid};
 ghost use Rattle.vd_format.specs.Layouts.{storage_start};
-ghost use Rattle.vd_core.specs.Flushing.{HasAskedFlush, IsBetween, IsAway, flusher_after};
+ghost use Rattle.vd_keeper.specs.declared.stage.Stage.TheVariants.{Puts, Syncs, Seals};
+ghost use Rattle.vd_passes.specs.declared.pass.Pass.{Pass as AnyPass};
+ghost use Rattle.vd_passes.specs.declared.pass.Phase.TheVariants.{Idle};
+ghost use Rattle.vd_passes.specs.Steps.{IsAt};
+ghost use Rattle.vd_machine.specs.Flushing.{place_of_put, put_sector};
+ghost use Rattle.vd_machine.specs.Outcomes.{outcome_of};
+ghost use Rattle.vd_machine.specs.FlushSteps.{HasAskedFlush, IsBetween, IsAway, KeepsTracked, FlushKeptOutStep, BeginFlushStep, WearStep, PutStep, SyncStep, SettleMetaStep, SealStep, AdoptStep};
+ghost use Rattle.vd_core.specs.Outcomes.{step_of};
+ghost use Rattle.vd_core.specs.declared.flushing.Begun.TheVariants.{Going, Busy, Worn};
 
 use crate::outcome::Step;
-use crate::state::Core;
+use crate::state::{Core, one_more};
 use vd_device::{Base, Settled, Store};
 use vd_format::{Header, layout_of};
 use vd_keeper::{Put, Route};
@@ -60,21 +54,12 @@ impl<S: Store, B: Base> Core<S, B> {
     /// the last generation. A recycle that is asked for leaves the tracked part as it is.
     pub fn begin_flush(&mut self, pass: u32, route: Route) -> Begun
         requires phase { IsAt self.old.passes pass HasAskedFlush }
-        requires tracked { (t : ℕ) → route ≡ Recycle t → t ≡ self.old.keeping.header.tracked }
-        ensures busy { (by : ℕ) → result ≡ Busy by → (self.old.flusher ≡ Some by) × (by ≢ pass) × (self.new ≡ self.old) }
-        ensures going { result ≡ Going → (self.old.flusher ≡ None) × (self.new.flusher ≡ Some pass) × FlushBegins S.Store route pass self.old self.new }
-        ensures worn { result ≡ Worn → (self.old.flusher ≡ None) × IsWornOut route pass self.old.keeping (view_requests self.old) (view_requests self.new)
-            × (self.new ≡ record self.old { passes = self.new.passes }) }
-        ensures number { result ≡ Going → IsAt self.new.passes pass (HasNextTicket OfStore (S.last self.old.store) (S.last self.new.store)) }
-        ensures keeps { KeepsStore S.Store self.old.store self.new.store }
-        ensures others { self.new ≡ record self.old {
-          store = self.new.store;
-          keeping = self.new.keeping;
-          flusher = self.new.flusher;
-          passes = self.new.passes;
-          opening = self.new.opening;
-        } }
+        requires tracked { KeepsTracked route self.old }
+        ensures busy { (by : ℕ) → result ≡ Busy by → FlushKeptOutStep by pass self.old self.new }
+        ensures going { result ≡ Going → BeginFlushStep S.Store route pass self.old self.new }
+        ensures worn { result ≡ Worn → WearStep route pass self.old self.new }
     {
+        self.steps = one_more(self.steps);
         if let Some(by) = self.flusher {
             return Begun::Busy { by };
         }
@@ -94,16 +79,9 @@ impl<S: Store, B: Base> Core<S, B> {
     pub fn put(&mut self, pass: u32)
         requires phase { IsAt self.old.passes pass IsBetween }
         requires stage { self.old.keeping.stage ≡ Puts }
-        ensures puts { FlushPuts S.Store pass self.old self.new }
-        ensures number { IsAt self.new.passes pass (HasNextTicket OfStore (S.last self.old.store) (S.last self.new.store)) }
-        ensures keeps { KeepsStore S.Store self.old.store self.new.store }
-        ensures others { self.new ≡ record self.old {
-          store = self.new.store;
-          keeping = self.new.keeping;
-          passes = self.new.passes;
-          opening = self.new.opening;
-        } }
+        ensures puts { PutStep S.Store pass self.old self.new }
     {
+        self.steps = one_more(self.steps);
         let header = self.keeper.header();
         let put = self.keeper.put(&self.state.table);
         let (at, sector) = placed(&header, put);
@@ -115,11 +93,9 @@ impl<S: Store, B: Base> Core<S, B> {
     pub fn sync(&mut self, pass: u32)
         requires phase { IsAt self.old.passes pass IsBetween }
         requires stage { self.old.keeping.stage ≡ Syncs }
-        ensures syncs { FlushSyncs S.Store pass self.old self.new }
-        ensures number { IsAt self.new.passes pass (HasNextTicket OfStore (S.last self.old.store) (S.last self.new.store)) }
-        ensures keeps { KeepsStore S.Store self.old.store self.new.store }
-        ensures others { self.new ≡ record self.old { store = self.new.store; passes = self.new.passes; opening = self.new.opening } }
+        ensures syncs { SyncStep S.Store pass self.old self.new }
     {
+        self.steps = one_more(self.steps);
         // Sectors of the map are durable before the header that counts on them, and records and the header before the seal.
         let ticket = self.store.submit_flush();
         self.passes[pass as usize].begin_meta(ticket);
@@ -129,18 +105,9 @@ impl<S: Store, B: Base> Core<S, B> {
     /// and the pass is ready with a store fault.
     pub fn settle_meta(&mut self, pass: u32) -> Step
         requires phase { IsAt self.old.passes pass IsAway }
-        ensures settled { (answer : AnySettled) × (result ≡ step_of (outcome_of answer)) × FlushSettles S.Store answer pass self.old self.new
-            × IsCaused answer (S.faults self.old.store) (S.faults self.new.store) (S.late self.old.store) (S.late self.new.store)
-            × (self.new.flusher ≡ flusher_after answer self.old.flusher) }
-        ensures keeps { KeepsStore S.Store self.old.store self.new.store }
-        ensures others { self.new ≡ record self.old {
-          store = self.new.store;
-          keeping = self.new.keeping;
-          flusher = self.new.flusher;
-          passes = self.new.passes;
-          opening = self.new.opening;
-        } }
+        ensures settles { (answer : AnySettled) × (result ≡ step_of (outcome_of answer)) × SettleMetaStep S.Store answer pass self.old self.new }
     {
+        self.steps = one_more(self.steps);
         let ticket = self.passes[pass as usize].take_ticket();
         match self.store.settle(ticket, &mut []) {
             Settled::Done => {
@@ -164,9 +131,9 @@ impl<S: Store, B: Base> Core<S, B> {
     pub fn seal(&mut self, pass: u32)
         requires phase { IsAt self.old.passes pass IsBetween }
         requires stage { self.old.keeping.stage ≡ Seals }
-        ensures seals { SealsFlush pass (meta_state_of self.old) (meta_state_of self.new) }
-        ensures others { self.new ≡ record self.old { keeping = self.new.keeping; flusher = None; passes = self.new.passes } }
+        ensures seals { SealStep pass self.old self.new }
     {
+        self.steps = one_more(self.steps);
         self.keeper.seal();
         self.passes[pass as usize].end_flush(None);
         self.flusher = None;
@@ -176,9 +143,9 @@ impl<S: Store, B: Base> Core<S, B> {
     /// whole bitmap.
     pub fn adopt(&mut self)
         requires idle { (i : ℕ) (p : AnyPass) → slice_get self.old.passes i ≡ Some p → p.phase ≡ Idle }
-        ensures keeping { self.new.keeping ≡ after_adopt self.old.fresh self.old.keeping }
-        ensures others { self.new ≡ record self.old { keeping = self.new.keeping } }
+        ensures adopts { AdoptStep self.old self.new }
     {
+        self.steps = one_more(self.steps);
         self.keeper.adopt(&self.state.fresh);
     }
 }

@@ -14,6 +14,7 @@ ghost use Rattle.vd_core.specs.History.{HasOpening, IsHistoryOf, HasEnded};
 
 use crate::state::Core;
 use std::alloc::Global;
+use std::snapshot::Snapshot;
 use vd_bits::marked::Marked;
 use vd_device::{Base, Store};
 use vd_format::{Header, layout_of};
@@ -204,7 +205,7 @@ impl<S: Store, B: Base> Core<S, B> {
         requires most { passes ≤ 64 }
         ensures back { IfErr result (λ refused. (refused.store ≡ store) × (refused.base ≡ base)) }
         ensures opened { IfOk result (λ core. IsNewCore S.Store B.Base state passes room store base core) }
-        ensures opening { IfOk result (λ core. HasOpening S.Store core) }
+        ensures opening { IfOk result (λ core. HasOpening S.Store B.Base core) }
     {
         // Asked for what their clauses say alone: the invariant bounds what the devices tell.
         let _known = (
@@ -213,7 +214,7 @@ impl<S: Store, B: Base> Core<S, B> {
             store.in_flight(),
             base.depth(),
         );
-        let (store_faults, base_faults) = (store.faults(), base.faults());
+        let (begun_store, begun_base) = (Snapshot::of(&store), Snapshot::of(&base));
         let shape = shape_of(&state.header, base.sectors());
         let spare = room_of(room.events, room.sectors);
         match new_parts(alloc, &state, passes, room, store.events()) {
@@ -237,8 +238,10 @@ impl<S: Store, B: Base> Core<S, B> {
                         passes,
                         history,
                         spare,
-                        store_faults,
-                        base_faults,
+                        room,
+                        steps: 0,
+                        begun_store,
+                        begun_base,
                     })
                 }
             },
@@ -252,7 +255,7 @@ impl<S: Store, B: Base> Core<S, B> {
         ensures store { result.store ≡ self.store }
         ensures base { result.base ≡ self.base }
         ensures history { result.history ≡ self.history }
-        ensures state { IsSized result.state × (result.state.header ≡ self.header) }
+        ensures state { IsSized result.state × (result.state.header ≡ self.fixed.header) }
         ensures none_in_flight { S.flight result.store [] }
         ensures none_in_base_flight { B.flight result.base [] }
         ensures known { IsHistoryOf S.Store B.Base self }
@@ -269,8 +272,10 @@ impl<S: Store, B: Base> Core<S, B> {
             passes,
             history,
             spare: _,
-            store_faults: _,
-            base_faults: _,
+            room: _,
+            steps: _,
+            begun_store: _,
+            begun_base: _,
         } = self;
         end_passes(passes);
         // For what their clauses say alone: a store that tells logs, and has as many events as its log, and the numbers never fall.

@@ -1,17 +1,15 @@
 //! A pass asks a request, and has its reply.
 
-ghost use Rattle.std.specs.Prelude.{◌≡◌, ◌*◌, ◌⊎◌, [], ◌∷◌};
+ghost use Rattle.std.specs.Prelude.{◌≡◌, ◌*◌};
 ghost use Rattle.vd_law.specs.Entries.{asked_of};
 ghost use Rattle.vd_law.specs.Rules.{IsInside};
-ghost use Rattle.vd_passes.specs.declared.pass.Phase.TheVariants.{Idle, Ready};
-ghost use Rattle.vd_passes.specs.Steps.{IsAt, Replies};
-ghost use Rattle.vd_device.specs.Disks.{IsRunning};
 ghost use Rattle.vd_device.specs.Stores.{IsTold};
-ghost use Rattle.vd_machine.specs.Adding.{AddsEntries};
-ghost use Rattle.vd_machine.specs.Asking.{AskEnds, HasSize, IsOkWhereDone, room_after_reply};
-ghost use Rattle.vd_core.specs.Stepping.{ask_state_of, view_requests};
+ghost use Rattle.vd_passes.specs.declared.pass.Phase.TheVariants.{Idle, Ready};
+ghost use Rattle.vd_passes.specs.Steps.{IsAt};
+ghost use Rattle.vd_machine.specs.Asking.{HasSize};
+ghost use Rattle.vd_machine.specs.AskSteps.{AskStep, ReplyStep};
 
-use crate::state::Core;
+use crate::state::{Core, one_more};
 use vd_device::{Base, Store};
 use vd_law::entry::{Answer, Request};
 use vd_machine::{ask_in_room, reply_in_room};
@@ -26,11 +24,10 @@ impl<S: Store, B: Base> Core<S, B> {
         requires phase { IsAt self.old.passes pass (λ p. p.phase ≡ Idle) }
         requires size { HasSize (asked_of request) }
         requires inside { IsInside (self.old.shape.block * self.old.shape.blocks) (asked_of request) }
-        ensures ends { AskEnds result (asked_of request.entry) (S.events self.old.store) pass (ask_state_of self.old) (ask_state_of self.new) }
-        ensures running { S.tells self.new.store → (self.new.history ≡ self.old.history) ⊎ IsRunning (S.events self.new.store) (S.disk self.new.store) }
+        ensures asks { AskStep S.Store result (asked_of request.entry) pass self.old self.new }
         ensures told { IsTold S.Store self.new.store }
-        ensures others { self.new ≡ record self.old { table = self.new.table; passes = self.new.passes; history = self.new.history; spare = self.new.spare } }
     {
+        self.steps = one_more(self.steps);
         ask_in_room(
             &self.store,
             &self.shape,
@@ -47,13 +44,9 @@ impl<S: Store, B: Base> Core<S, B> {
     /// device that failed it, with the ticket and the number of sectors done. The room that the call reserved and didn't use is left again.
     pub fn reply(&mut self, pass: u32) -> Answer
         requires phase { IsAt self.old.passes pass (λ p. p.phase ≡ Ready) }
-        ensures replies { Replies result pass (view_requests self.old) (view_requests self.new) }
-        ensures ok { IsAt self.old.passes pass (IsOkWhereDone result) }
-        ensures extends { AddsEntries (S.events self.old.store ∷ []) 0 self.old.history self.new.history }
-        ensures left { IsAt self.old.passes pass (λ p. self.new.spare ≡ room_after_reply p self.old.spare) }
-        ensures running { S.tells self.new.store → IsRunning (S.events self.new.store) (S.disk self.new.store) }
-        ensures others { self.new ≡ record self.old { passes = self.new.passes; history = self.new.history; spare = self.new.spare } }
+        ensures replies { ReplyStep S.Store result pass self.old self.new }
     {
+        self.steps = one_more(self.steps);
         reply_in_room(
             &self.store,
             &mut self.passes,

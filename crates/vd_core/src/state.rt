@@ -5,14 +5,16 @@ ghost use Rattle.vd_format.specs.Headers.{IsValid};
 ghost use Rattle.vd_image.specs.Image.{geometry_of};
 ghost use Rattle.vd_passes.specs.declared.pass.Phase.TheVariants.{Flushing};
 ghost use Rattle.vd_machine.specs.Attending.{KeeperAgrees};
+ghost use Rattle.vd_machine.specs.Views.{one_step_more as after_one_more};
 ghost use Rattle.vd_core.specs.History.{IsHistoryOf};
 ghost use Rattle.vd_passes.specs.Passes.{has_region};
-ghost use Rattle.vd_core.specs.Moves.{IsInPhase};
+ghost use Rattle.vd_machine.specs.Phases.{IsInPhase};
 ghost use Rattle.vd_passes.specs.Steps.{IsAt};
 ghost use Rattle.vd_device.specs.Stores.{IsTold};
 ghost use Rattle.vd_passes.specs.declared.pass.Pass.{Pass as AnyPass};
 
 use std::marker::Model;
+use std::snapshot::Snapshot;
 use vd_device::{Base, Store};
 use vd_format::Header;
 use vd_keeper::{Keeper, Stage};
@@ -38,22 +40,34 @@ pub struct Core<S: Store, B: Base> {
     pub(crate) passes: Vec<Pass>,
     pub(crate) history: History,
     pub(crate) spare: Room,
-    /// How often the devices had failed at opening.
-    pub(crate) store_faults: u64,
-    pub(crate) base_faults: u64,
+    /// The room with which the history was made.
+    pub(crate) room: Room,
+    /// How many steps were made, up to the greatest u64.
+    pub(crate) steps: u64,
+    /// The devices as they stood when the core was made, for clauses alone.
+    pub(crate) begun_store: Snapshot<S>,
+    pub(crate) begun_base: Snapshot<B>,
+}
+
+/// The number of steps after one more: it stands still at the greatest u64.
+pub(crate) fn one_more(steps: u64) -> u64
+    ensures { result ≡ after_one_more steps }
+{
+    steps.saturating_add(1)
 }
 
 impl<S: Store, B: Base> Model for Core<S, B> {
-    ghost use Rattle.vd_core.specs.View.{View};
+    ghost use Rattle.vd_machine.specs.Views.{View};
 
     ghost Value = { View S B };
 
-    ghost use Rattle.std.specs.Prelude.{◌⊎◌};
-    ghost use Rattle.vd_device.specs.Stores.{IsTold};
-    ghost use Rattle.vd_core.specs.Start.{opening_at};
-    ghost use Rattle.vd_core.specs.Kept.{IsSoundCore, IsFaithfullyKept, LogAgrees, IsAccounted, MetadataAgrees, IsSafelyKept, IsSafelyStopped};
+    ghost use Rattle.std.specs.Prelude.{◌≡◌, map};
+    ghost use Rattle.vd_passes.specs.Passes.{region_of};
+    ghost use Rattle.vd_replay.specs.States.{IsSized};
+    ghost use Rattle.vd_core.specs.Kept.{IsWellKept};
 
     ghost view = { λ c. record {
+      fixed = record { store = c.begun_store.value; base = c.begun_base.value; header = c.state.header; entries = c.state.map; room = c.room };
       store = c.store;
       base = c.base;
       shape = c.shape;
@@ -64,21 +78,11 @@ impl<S: Store, B: Base> Model for Core<S, B> {
       passes = c.passes.items;
       history = c.history;
       spare = c.spare;
-      header = c.state.header;
-      entries = c.state.map;
-      opening = opening_at c.history.opened (S.disk c.store);
-      store_faults = c.store_faults;
-      base_faults = c.base_faults;
+      steps = c.steps;
     } };
 
-    ghost invariant = { λ c. IsSoundCore S.Store B.Base c.shape c.state c.regions c.passes.items c.history c.spare c.store c.base
-        × (S.tells c.store → B.tells c.base → IsFaithfullyKept S.Store B.Base c.shape c.state c.passes.items c.history c.store c.base)
-        × IsAccounted S.Store B.Base c.shape c.state c.passes.items c.history c.store_faults c.base_faults c.store c.base
-        × (S.tells c.store → LogAgrees c.passes.items c.history (S.disk c.store))
-        × MetadataAgrees c.shape c.state c.passes.items c.flusher c.keeper
-        × (S.tells c.store → B.tells c.base → IsSafelyKept S.Store B.Base c.state c.keeper c.flusher c.passes.items c.history c.store c.base)
-        × (S.records c.store → B.tells c.base → S.tells c.store ⊎ IsSafelyStopped S.Store B.Base c.state.header c.history c.store c.base)
-        × IsTold S.Store c.store };
+    // Beside what its parts keep, whom the regions belong to, and that the state can be read again.
+    ghost invariant = { λ c. IsWellKept S.Store B.Base (view c) × (c.regions ≡ map region_of c.passes.items) × IsSized c.state };
 }
 
 impl<S: Store, B: Base> Core<S, B> {
@@ -138,7 +142,7 @@ impl<S: Store, B: Base> Core<S, B> {
     pub fn header(&self) -> Header
         ensures header { result ≡ self.now.keeping.header }
         ensures valid { IsValid result }
-        ensures same { geometry_of result ≡ geometry_of self.now.header }
+        ensures same { geometry_of result ≡ geometry_of self.now.fixed.header }
     {
         self.keeper.header()
     }

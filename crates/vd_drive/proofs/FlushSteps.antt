@@ -1,5 +1,5 @@
 -- What each step of a flush leaves for whoever drives it.
-use Rattle.std.proofs.Common.{◌≡◌, ◌≢◌, ℕ, ◌<◌, ◌≤◌, ◌↔◌, Bool, List, refl, sym, ◌∙◌, ap, subst, Option, Some, None, slice_get, slice_set}
+use Rattle.std.proofs.Common.{◌≡◌, ◌≢◌, ℕ, ◌<◌, ◌≤◌, ◌↔◌, List, refl, sym, ◌∙◌, ap, subst, Option, Some, None, slice_get}
 use Rattle.vd_law.specs.declared.entry.Room.{Room}
 use Rattle.vd_law.specs.declared.entry.Answer.{Answer}
 use Rattle.vd_law.specs.Entries.{Entry, Reply}
@@ -25,10 +25,10 @@ use Rattle.vd_machine.proofs.Attended.{is-flusher, sealed-flushing}
 use Rattle.vd_machine.proofs.Measuring.{begin-lowers, worn-lowers, put-lowers, sync-lowers, done-lowers, failed-lowers, seal-lowers}
 use Rattle.vd_core.specs.declared.outcome.Step.{Step}
 use Rattle.vd_core.specs.declared.outcome.Step.TheVariants.{Again, Busy, Ended}
-use Rattle.vd_core.specs.Flushing.{flusher_after}
+use Rattle.vd_machine.specs.FlushSteps.{flusher_after}
 use Rattle.vd_core.specs.Outcomes.{step_of}
 use Rattle.vd_drive.specs.Driving.{DrivesFlush, flush_work}
-use Rattle.vd_core.proofs.Moving.{quiet, quiet-set, adds, same-room, slice_set_unchanged}
+use Rattle.vd_drive.proofs.Moving.{quiet, quiet-set, adds, same-room, slice_set_unchanged}
 
 module _ {i : ℕ} {flusher flusher' : Option ℕ} where
   -- no other flush began or ended where this pass's began, went on, or ended

@@ -1,3 +1,7 @@
 pub mod FlushSteps
-pub mod ReadSteps
 pub mod Untouched
+pub mod Moving
+pub mod Serving
+pub mod Made
+pub mod Driven
+pub mod Answering

@@ -9,8 +9,8 @@ use Rattle.vd_passes.specs.Passes.{call_id, answer_of}
 use Rattle.vd_machine.specs.Measures.{flush_steps}
 use Rattle.vd_core.specs.declared.outcome.Step.{Step}
 use Rattle.vd_core.specs.declared.outcome.Step.TheVariants.{Again, Late, Busy, Ended}
-use Rattle.vd_core.specs.View.{View}
-use Rattle.vd_core.specs.Moves.{Moves}
+use Rattle.vd_machine.specs.Views.{View}
+use Rattle.vd_drive.specs.Moves.{Moves}
 
 -- How far a core has come with its flushes: the pass whose flush is under way, the keeper, the passes, the entries of the history, and
 -- the room that is left.

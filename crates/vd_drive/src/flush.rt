@@ -1,13 +1,15 @@
 //! The steps of a flush, one after the other.
 
-ghost use Rattle.std.specs.Prelude.{◌≡◌, ◌≢◌, ℕ, true};
+ghost use Rattle.std.specs.Prelude.{◌≡◌, ◌≢◌, true};
+ghost use Rattle.vd_law.specs.Counts.{Rose};
 ghost use Rattle.vd_device.specs.Stores.{IsTold, KeepsStore};
 ghost use Rattle.vd_passes.specs.declared.pass.Phase.TheVariants.{Idle, Flushing};
 ghost use Rattle.vd_passes.specs.Steps.{IsAt};
-ghost use Rattle.vd_core.specs.declared.outcome.Step.TheVariants.{Late};
-ghost use Rattle.vd_drive.specs.Driving.{DrivesFlush, flush_work_of};
-ghost use Rattle.vd_law.specs.Counts.{Rose};
 ghost use Rattle.vd_machine.specs.Attending.{KeeperAgrees};
+ghost use Rattle.vd_machine.specs.Steps.{IsStep};
+ghost use Rattle.vd_core.specs.declared.outcome.Step.TheVariants.{Late};
+ghost use Rattle.vd_drive.specs.Drivers.{FlusherStep, GoesOnWithFlush, LeavesDisk};
+ghost use Rattle.vd_drive.specs.Driving.{DrivesFlush, flush_work_of};
 
 use vd_core::{Begun, Core, Step};
 use vd_device::{Base, Store};
@@ -19,12 +21,12 @@ fn go_on<S: Store, B: Base>(core: &mut Core<S, B>, pass: u32) -> Step
     requires phase { IsAt core.old.passes pass (λ p. p.phase ≡ Flushing) }
     requires attended { KeeperAgrees core.old.shape core.old.table core.old.fresh core.old.passes core.old.flusher core.old.keeping }
     requires told { IsTold S.Store core.old.store }
+    ensures makes { GoesOnWithFlush S.Store result pass core.old core.new }
+    ensures step { IsStep S.Store B.Base pass core.old core.new }
     ensures drives { DrivesFlush result pass (flush_work_of core.old) (flush_work_of core.new) }
     ensures late { result ≡ Late → Rose (S.late core.old.store) (S.late core.new.store) }
-    ensures disk { (core.new.shape ≡ core.old.shape) × (core.new.table ≡ core.old.table) × (core.new.fresh ≡ core.old.fresh)
-        × (core.new.header ≡ core.old.header) × (core.new.entries ≡ core.old.entries) }
-    ensures counted { (core.new.store_faults ≡ core.old.store_faults) × (core.new.base_faults ≡ core.old.base_faults)
-        × (core.new.history.opened ≡ core.old.history.opened) }
+    ensures leaves { LeavesDisk core.old core.new }
+    ensures fresh { core.new.fresh ≡ core.old.fresh }
     ensures keeps { KeepsStore S.Store core.old.store core.new.store }
     ensures base { core.new.base ≡ core.old.base }
 {
@@ -52,16 +54,18 @@ fn go_on<S: Store, B: Base>(core: &mut Core<S, B>, pass: u32) -> Step
 pub struct Flusher;
 
 impl Flusher {
-    /// Makes the one step that a pass with a flush calls for. Late and Busy change no pass, and neither the keeper nor the history;
-    /// every other step leaves the pass with fewer steps to its reply. Busy comes exactly where another pass's flush is under way.
+    /// Makes the one step that a pass with a flush calls for. Late and Busy change nothing but the number of steps and, for Late, the
+    /// store's count of late calls; every other step leaves the pass with fewer steps to its reply. Busy comes exactly where another
+    /// pass's flush is under way, and names that pass. A flush is begun by what is owed, and Worn comes exactly where that needs a recycle
+    /// at the last generation.
     pub fn next<S: Store, B: Base>(core: &mut Core<S, B>, pass: u32) -> Step
         requires busy { IsAt core.old.passes pass (λ p. (p.phase ≢ Idle) × (p.flush ≡ true)) }
+        ensures makes { IsAt core.old.passes pass (λ p. FlusherStep S.Store p.phase result pass core.old core.new) }
+        ensures step { IsStep S.Store B.Base pass core.old core.new }
         ensures drives { DrivesFlush result pass (flush_work_of core.old) (flush_work_of core.new) }
         ensures late { result ≡ Late → Rose (S.late core.old.store) (S.late core.new.store) }
-        ensures disk { (core.new.shape ≡ core.old.shape) × (core.new.table ≡ core.old.table) × (core.new.fresh ≡ core.old.fresh)
-            × (core.new.header ≡ core.old.header) × (core.new.entries ≡ core.old.entries) }
-        ensures counted { (core.new.store_faults ≡ core.old.store_faults) × (core.new.base_faults ≡ core.old.base_faults)
-            × (core.new.history.opened ≡ core.old.history.opened) }
+        ensures leaves { LeavesDisk core.old core.new }
+        ensures fresh { core.new.fresh ≡ core.old.fresh }
         ensures keeps { KeepsStore S.Store core.old.store core.new.store }
         ensures base { core.new.base ≡ core.old.base }
     {

@@ -1,14 +1,15 @@
 //! The steps of a write, one after the other.
 
-ghost use Rattle.std.specs.Prelude.{◌≡◌, ◌≢◌, ◌⊎◌, ℕ, [], true, false};
-ghost use Rattle.vd_passes.specs.declared.pass.Phase.TheVariants.{Idle};
-ghost use Rattle.vd_passes.specs.Steps.{IsAt, HasAskedWrite};
-ghost use Rattle.vd_passes.specs.Passes.{has_region};
+ghost use Rattle.std.specs.Prelude.{◌≡◌, ◌≢◌, ◌⊎◌, true, false};
+ghost use Rattle.vd_law.specs.Counts.{Rose};
 ghost use Rattle.vd_device.specs.Stores.{KeepsStore};
 ghost use Rattle.vd_device.specs.Bases.{KeepsBase};
-ghost use Rattle.vd_core.specs.declared.outcome.Step.TheVariants.{Late, Busy};
-ghost use Rattle.vd_core.specs.Moves.{Drives, core_work};
-ghost use Rattle.vd_law.specs.Counts.{Rose};
+ghost use Rattle.vd_passes.specs.declared.pass.Phase.TheVariants.{Idle};
+ghost use Rattle.vd_passes.specs.Steps.{IsAt, HasAskedWrite};
+ghost use Rattle.vd_machine.specs.Steps.{IsStep};
+ghost use Rattle.vd_core.specs.declared.outcome.Step.TheVariants.{Late};
+ghost use Rattle.vd_drive.specs.Drivers.{WriterStep, LeavesDisk};
+ghost use Rattle.vd_drive.specs.Moves.{Drives, core_work};
 
 use vd_core::{Core, Step};
 use vd_device::{Base, Store};
@@ -20,17 +21,17 @@ pub struct Writer;
 
 impl Writer {
     /// Makes the one step that a pass with a write calls for. `content` is the whole content that was asked. Late and Busy
-    /// change no pass; every other step leaves the pass with fewer steps to its reply, which are at most five for each piece
-    /// and one more.
+    /// change nothing but the number of steps and, for Late, the device's count of late calls; Busy comes exactly where `enter` is
+    /// refused, by the pass that refuses it. Every other step leaves the pass with fewer steps to its reply, which are at most five
+    /// for each piece and one more.
     pub fn next<S: Store, B: Base>(core: &mut Core<S, B>, pass: u32, content: &[Sector]) -> Step
         requires busy { IsAt core.old.passes pass (λ p. (p.phase ≢ Idle) × (p.write ≡ true) × (p.flush ≡ false)) }
         requires content { HasAskedWrite core.old.history.log.entries pass content.now }
+        ensures makes { IsAt core.old.passes pass (λ p. WriterStep S.Store B.Base p.phase content.now result pass core.old core.new) }
+        ensures step { IsStep S.Store B.Base pass core.old core.new }
         ensures drives { Drives result core.old.shape.block pass (core_work core.old) (core_work core.new) }
         ensures late { result ≡ Late → Rose (S.late core.old.store) (S.late core.new.store) ⊎ Rose (B.late core.old.base) (B.late core.new.base) }
-        ensures busy { (by : ℕ) → result ≡ Busy by → (by ≢ pass) × IsAt core.old.passes by (λ q. has_region q.phase ≡ true) }
-        ensures shape { core.new.shape ≡ core.old.shape }
-        ensures storage { (core.new.table ≡ core.old.table) × (core.new.store_faults ≡ core.old.store_faults) × (core.new.base_faults ≡ core.old.base_faults)
-            × (core.new.history.opened ≡ core.old.history.opened) × (core.new.header ≡ core.old.header) × (core.new.entries ≡ core.old.entries) }
+        ensures leaves { LeavesDisk core.old core.new }
         ensures flusher { core.new.flusher ≡ core.old.flusher }
         ensures keeps { KeepsStore S.Store core.old.store core.new.store }
         ensures base_keeps { KeepsBase B.Base core.old.base core.new.base }

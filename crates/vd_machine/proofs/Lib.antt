@@ -17,3 +17,4 @@ pub mod Settled
 pub mod Ended
 pub mod Seen
 pub mod Claiming
+pub mod Starting

@@ -7,3 +7,14 @@ pub mod Outcomes
 pub mod Flushing
 pub mod Attending
 pub mod Measures
+pub mod Views
+pub mod AskSteps
+pub mod WriteSteps
+pub mod ReadSteps
+pub mod FlushSteps
+pub mod Steps
+pub mod Opened
+pub mod Start
+pub mod Sound
+pub mod Telling
+pub mod Phases

@@ -2,6 +2,8 @@ pub mod Needs
 pub mod Alone
 pub mod Asks
 pub mod Passing
+pub mod KeptOut
 pub mod Leaving
 pub mod Going
 pub mod Flushing
+pub mod Logging

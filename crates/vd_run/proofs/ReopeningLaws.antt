@@ -28,7 +28,7 @@ use Rattle.vd_trace.specs.Traces.{Showing}
 use Rattle.vd_report.specs.declared.line.Line.{Line}
 use Rattle.vd_report.specs.declared.line.Line.TheVariants as lines
 use Rattle.vd_device.specs.Devices.{Devices, AreReadOnly}
-use Rattle.vd_report.specs.Outcomes.{ShownLine, Sectors, Failed, Reopened, Refused, Opened}
+use Rattle.vd_report.specs.Outcomes.{ShownLine, Sectors, Failed, Refused, Opened}
 use Rattle.vd_report.specs.Ending.{has_failed, shown_text}
 use Rattle.vd_show.specs.Showing.{show_line, fault_line, ShowsDisk}
 use Rattle.vd_run.specs.Reopening.{IsShownBy, Is_read, Store_failed, Base_failed, AreShownBy, AreLocal, Reopens, Reopening_failed, Is_refused_again, Opens_again}
@@ -94,9 +94,9 @@ module _ {S B : Type 0} {g : store.Ghosts S} {h : base.Ghosts B} {header : Heade
 
   module _ {d d' : Devices S B} where
     -- one more line
-    pub one_more : (trace_lines : List Showing) (n : ℕ) (line : Showing) (shown : List ShownLine) (shows : ShownLine) → slice_get trace_lines n ≡ Some line
+    pub one_step_more : (trace_lines : List Showing) (n : ℕ) (line : Showing) (shown : List ShownLine) (shows : ShownLine) → slice_get trace_lines n ≡ Some line
         → AreShownBy g h header d d' (take n trace_lines) shown → IsShownBy g h header d d' line shows → AreShownBy g h header d d' (take (n + 1) trace_lines) (shown ++ shows ∷ [])
-    one_more trace_lines n line shown shows there all here = record {
+    one_step_more trace_lines n line shown shows there all here = record {
       many = length_push shown shows ∙ (let m = all.many in let a = length-take n trace_lines in let b = length-take (n + 1) trace_lines in omega (arith, inside, m, a, b));
       each = each;
     }

@@ -1,5 +1,5 @@
 -- How `run` reads its trace, opens its image and prints its report.
-use Rattle.std.proofs.Common.{ℕ, zero, suc, ◌≡◌, ◌+◌, ◌≤◌, inl, inr, Bool, true, false, cond, List, [], ◌∷◌, length, take, find, map, replicate, Option, None, Some, Ok, Err, refl, ap, sym, ◌∙◌, subst, arith}
+use Rattle.std.proofs.Common.{ℕ, zero, suc, ◌≡◌, ◌+◌, ◌≤◌, inl, inr, Bool, true, false, cond, List, [], ◌∷◌, length, take, find, map, replicate, Option, None, Some, Err, refl, ap, sym, ◌∙◌, subst, arith}
 use Rattle.std.specs.Prelude.{nat_lt, ◌==◌, ◌&&◌, slice_get}
 use Rattle.std.specs.List.{All, filter, fold}
 use Rattle.std.specs.Option.{option_map, option_or}
@@ -41,7 +41,7 @@ use Rattle.vd_replay.specs.declared.error.OpenError.{OpenError}
 use Rattle.vd_replay.specs.declared.error.OpenError.TheVariants as refusals
 use Rattle.vd_show.specs.Showing.{show_line, IsJudged}
 use Rattle.vd_report.specs.Ending.{are_ok, is_ok_reply}
-use Rattle.vd_run.specs.Running.{trace_line, first_past as past_of, ReadsScript, IsReadLine, Source_failed, Read_without_memory, Is_bad, Is_too_much, OpensFor, IsOpenedFor, IsOpenLine, Opened_without_memory, Open_failed, Is_refused, Is_past}
+use Rattle.vd_run.specs.Running.{trace_line, first_past as past_of, IsReadLine, Source_failed, Read_without_memory, Is_bad, Is_too_much, OpensFor, IsOpenedFor, IsOpenLine, Opened_without_memory, Open_failed, Is_refused, Is_past}
 use Rattle.vd_law.specs.Counts.{Rose}
 
 -- The trace.

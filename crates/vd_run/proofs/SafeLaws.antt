@@ -24,8 +24,8 @@ use Rattle.vd_replay.specs.Images.{image_of}
 use Rattle.vd_safety.proofs.Clean.{honest-left, orderly-still}
 use Rattle.vd_safety.proofs.Going.{inside-quiet}
 use Rattle.vd_safety.proofs.Orderly.{IsOrderly, orderly-new, orderly-ask, orderly-issue, orderly-done, orderly-broke, orderly-seen, orderly-reply}
-use Rattle.vd_core.specs.Start.{opening_at, WasSafe}
-use Rattle.vd_core.proofs.Securing.Clean.{clean-since, was-safe}
+use Rattle.vd_machine.specs.Start.{opening_at, WasSafe}
+use Rattle.vd_safety.proofs.KeepsClean.{clean-since, was-safe}
 use Rattle.vd_run.specs.Orders.{IsReadSince}
 use Rattle.vd_run.proofs.StartLaws.{was_clean, clean_later}
 

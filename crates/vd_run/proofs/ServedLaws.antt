@@ -9,19 +9,17 @@ use Rattle.vd_law.specs.declared.entry.Answer.{Answer}
 use Rattle.vd_law.specs.Entries as law
 use Rattle.vd_law.specs.Entries.{Asked, Entry, call_of}
 use Rattle.vd_law.specs.Histories.{HistoryState}
-use Rattle.vd_law.specs.Rules.{IsRegular, IsLegal}
+use Rattle.vd_law.specs.Rules.{IsRegular}
 use Rattle.vd_device.specs.declared.store.Store as store
 use Rattle.vd_device.specs.declared.base.Base as base
 use Rattle.vd_device.specs.declared.patient.Patient.{Patient}
-use Rattle.vd_device.specs.Disks.{Disk, HasStopped, StoppedSince, IsHonest, IsRunning}
+use Rattle.vd_device.specs.Disks.{Disk, StoppedSince, IsHonest, IsRunning}
 use Rattle.vd_device.specs.Stores.{IsTold, KeepsStore}
-use Rattle.vd_device.specs.Bases.{KeepsBase}
 use Rattle.vd_format.specs.declared.header.Header.{Header}
 use Rattle.vd_format.specs.declared.map.Entry.{Entry as MapEntry}
 use Rattle.vd_format.specs.Headers.{IsValid}
 use Rattle.vd_format.specs.Layouts.{blocks_of, chunks_of}
 use Rattle.vd_device.specs.Quiet.{AddsNoWrite}
-use Rattle.vd_device.proofs.QuietLaws.{adds_twice}
 use Rattle.vd_image.specs.Layouts.{layout_of}
 use Rattle.vd_image.specs.Decoders.{format_of}
 use Rattle.vd_image.specs.Image.{Format, Layout}
@@ -35,25 +33,27 @@ use Rattle.vd_table.specs.Tables.{TableState}
 use Rattle.vd_passes.specs.declared.shape.Shape.{Shape}
 use Rattle.vd_passes.specs.Causes.{Device, OfStore, OfBase, AreCaused}
 use Rattle.vd_passes.specs.Tracing.{AreTraced, IsTicketOf, FailsBetween}
-use Rattle.vd_core.specs.View.{View}
-use Rattle.vd_core.specs.Start.{ToldAtOpening, opening_at, IsStart, WasSafe}
-use Rattle.vd_core.specs.Storing.{AreFullsCaused}
+use Rattle.vd_machine.specs.Views.{Fixed, View}
+use Rattle.vd_machine.specs.Start.{WasSafe}
+use Rattle.vd_machine.specs.Telling.{opening_of, base_then, IsStartOf}
+use Rattle.vd_causes.specs.Storing.{AreFullsCaused}
+use Rattle.vd_causes.specs.Wearing.{AreWornsCaused}
 use Rattle.vd_core.specs.Showing.{EndsFlushed, MayHold, ShowsCould}
-use Rattle.vd_core.specs.Opening.{disk_shape, IsNewCore, IsNumberedIn}
-use Rattle.vd_core.specs.History.{HasOpening, IsHistoryOf, HasEnded}
-use Rattle.vd_core.proofs.Opened.{opening-stands}
+use Rattle.vd_core.specs.Opening.{disk_shape, fixed_for, IsNewCore}
+use Rattle.vd_core.specs.History.{IsHistoryOf, HasEnded}
 use Rattle.vd_run.specs.Serving.{IsUnused, IsServed, Closes}
 use Rattle.vd_run.specs.Driving.{IsSameDisk, with_flush}
 use Rattle.vd_device.specs.Patients.{patient_store, patient_base}
 use Rattle.vd_report.specs.declared.line.Line.{Line}
 use Rattle.vd_report.specs.declared.line.Line.TheVariants as lines
-use Rattle.vd_device.specs.Devices.{Devices, devices, AreTold, AreReadOnly, Leaves}
+use Rattle.vd_device.specs.Devices.{Devices, devices, AreReadOnly, Leaves}
 use Rattle.vd_run.specs.Orders.{IsOpenedFrom, OpensQuietly, Opened_within, Had_stopped}
-use Rattle.vd_run.specs.Running.{IsDisk, HadDisk, WasGood, IsRun, IsReopenable, RunsTrace, closing_line}
+use Rattle.vd_run.specs.Running.{IsDisk, HadDisk, WasGood, IsRun, RunsTrace, closing_line}
 use Rattle.vd_run.proofs.ClosingLaws.{closed_ok, ends_flushed}
 use Rattle.vd_run.proofs.StartLaws.{start_is, clean_later}
 use Rattle.vd_run.proofs.SafeLaws.{flush_reads, was_safe}
 use Rattle.vd_run.proofs.LaterLaws.{safe_later}
+use Rattle.vd_run.proofs.Guest.Leaving.{disk-then}
 use Rattle.vd_format.specs.Background.{zero_sector, base_at}
 use Rattle.vd_machine.specs.Asking.{Suffices}
 use Rattle.vd_law.specs.Needs.{requests_room}
@@ -86,43 +86,10 @@ pub opened_room : {S B : Type 0} {g : store.Ghosts S} {h : base.Ghosts B} {s : S
 opened_room {core = core} asks needed opened =
     suffices_all (with_flush (requests_room core.shape.block (works_asked asks))) core.spare (opened.spare_is ∙ needed ∙ ap (λ (n : ℕ). with_flush (requests_room n (works_asked asks))) (sym (ap (λ (x : Shape). x.block) opened.shape_is)))
 
-pub same_twice : {S B : Type 0} {a b c : View S B} → IsSameDisk a b → IsSameDisk b c → IsSameDisk a c
-same_twice x y = record {
-  shape = y.shape ∙ x.shape;
-  chunks = y.chunks ∙ x.chunks;
-  storage = y.storage ∙ x.storage;
-  store_faults = y.store_faults ∙ x.store_faults;
-  base_faults = y.base_faults ∙ x.base_faults;
-  opened = y.opened ∙ x.opened;
-  header = y.header ∙ x.header;
-  entries = y.entries ∙ x.entries;
-}
-
 fulls_same : (shape shape' : Shape) (had had' : List MapEntry) (chunks chunks' storage storage' : ℕ) (entries : List Entry) → shape' ≡ shape → had' ≡ had → chunks' ≡ chunks → storage' ≡ storage → AreFullsCaused shape' had' chunks' storage' entries → AreFullsCaused shape had chunks storage entries
 fulls_same shape shape' had had' chunks chunks' storage storage' entries s m c t full =
     subst (λ (n : ℕ). AreFullsCaused shape had chunks n entries) t (subst (λ (n : ℕ). AreFullsCaused shape had n storage' entries) c
     (subst (λ (x : List MapEntry). AreFullsCaused shape x chunks' storage' entries) m (subst (λ (x : Shape). AreFullsCaused x had' chunks' storage' entries) s full)))
-
-start_moved : (o o' : ToldAtOpening) (base base' : List Sector) (h h' : Header) (start : List Sector) → o' ≡ o → base' ≡ base → h' ≡ h → IsStart o base h start → IsStart o' base' h' start
-start_moved o o' base base' h h' start same also header is =
-    subst (λ (x : Header). IsStart o' base' x start) (sym header) (subst (λ (x : List Sector). IsStart o' x h start) (sym also) (subst (λ (x : ToldAtOpening). IsStart x base h start) (sym same) is))
-
-was_safe_moved : (o o' : ToldAtOpening) (h h' : Header) → o' ≡ o → h' ≡ h → WasSafe o h → WasSafe o' h'
-was_safe_moved o o' h h' same header safe = subst (λ (x : Header). WasSafe o' x) (sym header) (subst (λ (x : ToldAtOpening). WasSafe x h) (sym same) safe)
-
-safe_moved : (h h' : Header) (base base' : List Sector) (disk : Disk) (start : List Sector) (history : HistoryState) → h' ≡ h → base' ≡ base
-    → IsCrashSafe (format_of h') (layout_of h') (base_at zero_sector base') zero_sector disk.start disk.log start history → IsCrashSafe (format_of h) (layout_of h) (base_at zero_sector base) zero_sector disk.start disk.log start history
-safe_moved h h' base base' disk start history header also safe =
-    subst (λ (xs : List Sector). IsCrashSafe (format_of h) (layout_of h) (base_at zero_sector xs) zero_sector disk.start disk.log start history) also
-    (subst (λ (x : Header). IsCrashSafe (format_of x) (layout_of x) (base_at zero_sector base') zero_sector disk.start disk.log start history) header safe)
-
-again_moved : (h h' : Header) (base base' start : List Sector) (entries : List Entry) (held : List Sector) → h' ≡ h → base' ≡ base → IsOpenAgain h' base' start entries held → IsOpenAgain h base start entries held
-again_moved h h' base base' start entries held header also again =
-    subst (λ (xs : List Sector). IsOpenAgain h xs start entries held) also (subst (λ (x : Header). IsOpenAgain x base' start entries held) header again)
-
-shows_moved : (h h' : Header) (base base' start : List Sector) (entries : List Entry) (held : List Sector) → h' ≡ h → base' ≡ base → ShowsCould h' base' start entries held → ShowsCould h base start entries held
-shows_moved h h' base base' start entries held header also shows =
-    subst (λ (xs : List Sector). ShowsCould h xs start entries held) also (subst (λ (x : Header). ShowsCould x base' start entries held) header shows)
 
 -- The store is counted from when it was handed in, and its log goes on behind the closing.
 
@@ -178,57 +145,51 @@ stood_adds adds stood = record { start = stood.start ∙ adds.start; more = adds
 -- A core that was opened over this store and base, that has then served the trace, and that is closed.
 module _ {S B : Type 0} (g : store.Ghosts S) (h : base.Ghosts B) (s : State) (room : Room) (store : S) (base : B) (core core' core'' : View (Patient S) (Patient B)) (trace : Script) (answer : Answer)
     (sized : IsSized s) (two : s.header.version ≡ 2) (says : g.tells store → StateSays (g.disk store).held s) (told : IsTold g store) (runs : g.tells store → IsRunning (g.events store) (g.disk store)) (honest : g.tells store → IsHonest (g.disk store))
-    (opened : IsNewCore (patient_store g) (patient_base h) s 2 room (record { inner = store }) (record { inner = base }) core) (opening : HasOpening (patient_store g) core)
+    (opened : IsNewCore (patient_store g) (patient_base h) s 2 room (record { inner = store }) (record { inner = base }) core)
     (served : IsServed (script trace 1) core'.passes core'.history.log.entries) (first_same : IsSameDisk core core') (closed : Closes answer core'.history.log.entries core''.history.log.entries) (second_same : IsSameDisk core' core'')
-    (keeps : KeepsStore (patient_store g) core.store core''.store) (base_keeps : KeepsBase (patient_base h) core.base core''.base)
     (known : IsHistoryOf (patient_store g) (patient_base h) core'') (ended : HasEnded (patient_store g) (patient_base h) core'')
     (recorded : g.tells core''.store.inner → g.records core''.store.inner) (holds : g.tells core''.store.inner → MayHold (g.disk core''.store.inner) (g.disk core''.store.inner).held) where
-  kept : KeepsStore (patient_store g) (record { inner = store }) core''.store
-  kept = subst (λ (p : Patient S). KeepsStore (patient_store g) p core''.store) opened.store_is keeps
-
-  base_kept : KeepsBase (patient_base h) (record { inner = base }) core''.base
-  base_kept = subst (λ (p : Patient B). KeepsBase (patient_base h) p core''.base) opened.base_is base_keeps
-
   disk_same : IsSameDisk core core''
-  disk_same = same_twice first_same second_same
+  disk_same = disk-then first_same second_same
+
+  -- what the devices were, and the header and the entries, when the core was made
+  abbrev at_first : Fixed (Patient S) (Patient B)
+  at_first = fixed_for s room (record { inner = store }) (record { inner = base })
+
+  fixed_is : core''.fixed ≡ at_first
+  fixed_is = disk_same.fixed ∙ opened.fixed_is
+
+  kept : KeepsStore (patient_store g) (record { inner = store }) core''.store
+  kept = subst (λ (f : Fixed (Patient S) (Patient B)). KeepsStore (patient_store g) f.store core''.store) fixed_is known.opening.since.store
 
   shaped : core''.shape ≡ disk_shape s.header (h.sectors base)
   shaped = disk_same.shape ∙ opened.shape_is
 
-  header_same : core''.header ≡ s.header
-  header_same = disk_same.header ∙ opened.header_is
-
   opened_is : core''.history.opened ≡ g.events store
-  opened_is = disk_same.opened ∙ ap (λ (n : HistoryState). n.opened) opened.history_is
-
-  opening_same : g.records core''.store.inner → core''.opening ≡ opening_at (g.events store) (g.disk store)
-  opening_same r = opening-stands (patient_store g) core core'' opening known.opening keeps disk_same.opened r ∙ opened.opening_is
-
-  content_same : h.tells core''.base.inner → h.content core''.base.inner ≡ h.content base
-  content_same b = base_kept.telling.content b
+  opened_is = known.opening.since.opened ∙ ap (λ (f : Fixed (Patient S) (Patient B)). g.events f.store.inner) fixed_is
 
   flushed_ok : closing_line answer ≡ lines.Ok → EndsFlushed core''.history.log.entries
   flushed_ok said = ends_flushed answer (closed_ok answer known.regular closed said) closed
 
   module _ (first : S) (from : IsOpenedFrom g first store) where
-    begins : g.tells store → g.records core''.store.inner → h.tells core''.base.inner → (start : List Sector) → HadDisk g h s.header start (devices first base)
-        → IsStart core''.opening (h.content core''.base.inner) core''.header start
-    begins t r b start had =
+    begins : g.tells store → (start : List Sector) → HadDisk g h s.header start (devices first base) → IsStartOf (patient_store g) (patient_base h) core''.fixed start
+    begins t start had =
         let since = from.since t in
-        start_moved (opening_at (g.events store) (g.disk store)) core''.opening (h.content base) (h.content core''.base.inner) s.header core''.header start (opening_same r) (content_same b) header_same
+        subst (λ (f : Fixed (Patient S) (Patient B)). IsStartOf (patient_store g) (patient_base h) f start) (sym fixed_is)
         (start_is (g.disk store) (g.events store) s.header s (h.content base) start (runs t) (honest t) (clean_later (g.disk first) (g.disk store) (flush_reads (g.disk first) (g.disk store) since.flushed) had.clean) ((says t).current two)
         (subst (λ (xs : List Sector). IsDisk s.header xs (h.content base) start) (sym since.held) had.disk))
 
-    safely : g.tells store → g.records core''.store.inner → (start : List Sector) → WasGood g h s.header start (devices first base) → WasSafe core''.opening core''.header
-    safely t r start good =
+    safely : g.tells store → (start : List Sector) → WasGood g h s.header start (devices first base) → WasSafe (opening_of (patient_store g) core''.fixed) core''.fixed.header
+    safely t start good =
         let state = (says t).current two in
-        was_safe_moved (opening_at (g.events store) (g.disk store)) core''.opening s.header core''.header (opening_same r) header_same
+        subst (λ (f : Fixed (Patient S) (Patient B)). WasSafe (opening_of (patient_store g) f) f.header) (sym fixed_is)
         (was_safe (g.disk first) (g.disk store) (g.events store) s.header (from.since t) (runs t) (honest t) good.had.clean state.opens good.no_later)
 
     safe_at : g.records core''.store.inner → h.tells core''.base.inner → (start : List Sector) → WasGood g h s.header start (devices first base)
         → IsCrashSafe (format_of s.header) (layout_of s.header) (base_at zero_sector (h.content base)) zero_sector (g.disk core''.store.inner).start (g.disk core''.store.inner).log start core''.history
     safe_at r b start good = elim (told (kept.telling.recorded_before r)) [
-      | inl t ↦ safe_moved s.header core''.header (h.content base) (h.content core''.base.inner) (g.disk core''.store.inner) start core''.history header_same (content_same b) (known.safe r b start (begins t r b start good.had) (safely t r start good))
+      | inl t ↦ subst (λ (f : Fixed (Patient S) (Patient B)). IsCrashSafe (format_of f.header) (layout_of f.header) (base_at zero_sector (base_then (patient_base h) f)) zero_sector
+          (g.disk core''.store.inner).start (g.disk core''.store.inner).log start core''.history) fixed_is (known.safe r b start (begins t start good.had) (safely t start good))
       | inr stopped ↦ (let stood = kept.telling.stood r stopped in no_moment (g.disk core''.store.inner).log core''.history (let long = ap length stood.log in omega (arith, stopped, long, opened_is)))
     ]
 
@@ -254,28 +215,30 @@ module _ {S B : Type 0} (g : store.Ghosts S) (h : base.Ghosts B) (s : State) (ro
         closing_is = refl;
         replied = ended.replied;
         regular = subst (λ (n : ℕ). IsRegular n core''.history.log.entries) (ap (λ (x : Shape). x.block * x.blocks) shaped ∙ whole_disk s.header sized.valid) known.regular;
-        legal = λ both start had. known.legal both.0 both.1 start (begins (kept.telling.told_before both.0) (recorded both.0) both.1 start had);
+        legal = λ both start had. known.legal both.0 both.1 start (begins (kept.telling.told_before both.0) start had);
         opening = opens_at;
         safe = safe_at;
         store_caused = caused_wider from.reads.keeps.counts.faults (omega arith)
-            (subst (λ (n : ℕ). AreCaused OfStore core''.history.log.entries n (g.faults core''.store.inner)) (disk_same.store_faults ∙ opened.store_faults_are) known.store_faults);
-        base_caused = subst (λ (n : ℕ). AreCaused OfBase core''.history.log.entries n (h.faults core''.base.inner)) (disk_same.base_faults ∙ opened.base_faults_are) known.base_faults;
+            (subst (λ (f : Fixed (Patient S) (Patient B)). AreCaused OfStore core''.history.log.entries (g.faults f.store.inner) (g.faults core''.store.inner)) fixed_is known.store_faults);
+        base_caused = subst (λ (f : Fixed (Patient S) (Patient B)). AreCaused OfBase core''.history.log.entries (h.faults f.base.inner) (h.faults core''.base.inner)) fixed_is known.base_faults;
         traced = known.traced;
         had = s.map;
         had_is = λ t chunk within. (
             let before = kept.telling.told_before t in let state = (says before).current two in
             subst (λ (xs : List Sector). IsEntryOf s.header (image_of xs) s.map chunk) (from.since before).held (state.entries chunk within));
-        full = fulls_same (disk_shape s.header (h.sectors base)) core''.shape s.map core''.entries (chunks_of s.header) (length core''.table.chunks) s.header.storage core''.table.storage core''.history.log.entries shaped (disk_same.entries ∙ opened.entries_are)
+        full = fulls_same (disk_shape s.header (h.sectors base)) core''.shape s.map core''.fixed.entries (chunks_of s.header) (length core''.table.chunks) s.header.storage core''.table.storage core''.history.log.entries shaped
+            (ap (λ (f : Fixed (Patient S) (Patient B)). f.entries) fixed_is)
             (disk_same.chunks ∙ ap (λ (t : TableState). length t.chunks) opened.table_is ∙ sized.table) (disk_same.storage ∙ ap (λ (t : TableState). t.storage) opened.table_is ∙ sized.storage) known.full;
+        worn = subst (λ (f : Fixed (Patient S) (Patient B)). AreWornsCaused f.header.generation core''.history.log.entries) fixed_is known.worn;
       };
       numbered = ended.numbers;
       again = λ both start good.
           let t = both.0 in let b = both.1 in let before = kept.telling.told_before t in
-          let is = begins before (recorded t) b start good.had in
-          let safe = safely before (recorded t) start good in
+          let is = begins before start good.had in
+          let safe = safely before start good in
           let held = (g.disk core''.store.inner).held in (
-            again_moved s.header core''.header (h.content base) (h.content core''.base.inner) start core''.history.log.entries held header_same (content_same b) (ended.reopens t b start is safe held (holds t).left),
-            λ said. shows_moved s.header core''.header (h.content base) (h.content core''.base.inner) start core''.history.log.entries held header_same (content_same b)
+            subst (λ (f : Fixed (Patient S) (Patient B)). IsOpenAgain f.header (base_then (patient_base h) f) start core''.history.log.entries held) fixed_is (ended.reopens t b start is safe held (holds t).left),
+            λ said. subst (λ (f : Fixed (Patient S) (Patient B)). ShowsCould f.header (base_then (patient_base h) f) start core''.history.log.entries held) fixed_is
                 (ended.settled t b start is safe (flushed_ok said) held (holds t)),
           );
     }
@@ -331,4 +294,5 @@ module _ {S B : Type 0} {g : store.Ghosts S} {h : base.Ghosts B} {trace : Script
         had = run.had;
         had_is = λ t. run.had_is (told t);
         full = run.full;
+        worn = run.worn;
       }

@@ -28,7 +28,7 @@ use Rattle.vd_replay.specs.Images.{image_of}
 use Rattle.vd_replay.specs.States.{IsState}
 use Rattle.vd_replay.specs.declared.state.State.{State}
 use Rattle.vd_passes.specs.Tracks.{track, writes, content_by}
-use Rattle.vd_core.specs.Start.{opening_at, HasOneContent, WasClean, first_or_zeros, image_at, IsStart}
+use Rattle.vd_machine.specs.Start.{opening_at, HasOneContent, WasClean, first_or_zeros, image_at, IsStart}
 use Rattle.vd_run.specs.Running.{IsDisk}
 use Rattle.vd_format.specs.Background.{zero_sector, base_at}
 use Rattle.vd_law.proofs.CleanLaws.{contains_one}

@@ -1,12 +1,13 @@
 -- What the serving of one request asks and leaves.
-use Rattle.std.specs.Prelude.{ℕ, ◌≡◌, ◌+◌, ◌*◌, ◌≤◌, List, [], ◌∷◌, ◌++◌, length, Option}
+use Rattle.std.specs.Prelude.{ℕ, ◌≡◌, ◌⊎◌, ◌+◌, ◌*◌, ◌≤◌, true, List, [], ◌∷◌, ◌++◌, length, Option, Some, slice_get}
 use Rattle.std.specs.List.{AllByRecursion}
 use Rattle.vd_law.specs.declared.entry.Room.{Room}
 use Rattle.vd_law.specs.Entries.{Asked, Entry, Ask}
 use Rattle.vd_law.specs.Rules.{IsInside}
+use Rattle.vd_keeper.specs.Keeping.{KeeperState}
 use Rattle.vd_passes.specs.declared.shape.Shape.{Shape}
 use Rattle.vd_passes.specs.declared.pass.Pass.{Pass}
-use Rattle.vd_core.specs.View.{View}
+use Rattle.vd_machine.specs.Views.{View}
 use Rattle.vd_machine.specs.Asking.{HasSize, Suffices}
 use Rattle.vd_run.specs.Serving.{IsResting, requests_in}
 use Rattle.vd_law.specs.Needs.{request_room}
@@ -34,13 +35,17 @@ pub record Serves (request : Asked) (block : ℕ) (entries entries' : List Entry
   pub events_left : left.events ≤ left'.events + (request_room block request).events
   pub sectors_left : left.sectors ≤ left'.sectors + (request_room block request).sectors
 
--- the disk, its storage, and what was so at its opening are the same
+-- every image has the block, or the next flush logs it
+abbrev pub IsToLog : KeeperState → (block : ℕ) → Type 0
+IsToLog k block = (slice_get k.stale block ≡ Some true) ⊎ (slice_get k.owed block ≡ Some true)
+
+-- Each block that was to be logged is one that every image has now.
+abbrev pub AreLogged : (k k' : KeeperState) → Type 0
+AreLogged k k' = (block : ℕ) → IsToLog k block → slice_get k'.stale block ≡ Some true
+
+-- the disk and its storage are the same, and it is the core that was made
 pub record IsSameDisk {S B : Type 0} (core core' : View S B) : Type 0 where
+  pub fixed : core'.fixed ≡ core.fixed
   pub shape : core'.shape ≡ core.shape
   pub chunks : length core'.table.chunks ≡ length core.table.chunks
   pub storage : core'.table.storage ≡ core.table.storage
-  pub header : core'.header ≡ core.header
-  pub entries : core'.entries ≡ core.entries
-  pub store_faults : core'.store_faults ≡ core.store_faults
-  pub base_faults : core'.base_faults ≡ core.base_faults
-  pub opened : core'.history.opened ≡ core.history.opened

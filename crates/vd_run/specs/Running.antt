@@ -1,5 +1,5 @@
 -- What `run` answers: one line that says why no guest was served, or the report of a history.
-use Rattle.std.specs.Prelude.{ℕ, ◌≡◌, ◌<◌, List, ◌++◌, length, Option, None, Some, slice_get}
+use Rattle.std.specs.Prelude.{ℕ, ◌≡◌, ◌<◌, List, length, Option, None, Some, slice_get}
 use Rattle.std.specs.Option.{option_or}
 use Rattle.std.specs.List.{All}
 use Rattle.std.specs.Str.Lines.{lines}
@@ -37,7 +37,8 @@ use Rattle.vd_io.specs.declared.source.Source as source
 use Rattle.vd_passes.specs.Causes.{OfStore, OfBase, AreCaused}
 use Rattle.vd_passes.specs.Tracing.{AreTraced}
 use Rattle.vd_core.specs.Opening.{disk_shape, AreReplied, IsNumberedIn}
-use Rattle.vd_core.specs.Storing.{AreFullsCaused}
+use Rattle.vd_causes.specs.Storing.{AreFullsCaused}
+use Rattle.vd_causes.specs.Wearing.{AreWornsCaused}
 use Rattle.vd_core.specs.Showing.{ShowsCould}
 use Rattle.vd_run.specs.Serving.{requests_in, Closes}
 use Rattle.vd_report.specs.declared.line.Line.{Line}
@@ -128,8 +129,8 @@ module _ {S B : Type 0} (g : store.Ghosts S) (h : base.Ghosts B) where
   -- The history of a run on an image with this header, on devices that were handed in as d and are d' now. Guest 1 asked the trace's
   -- requests, each once and in order; then pass 0 asked one flush, of whose reply the report's line of the closing tells; nobody
   -- else asked, and each call has its reply. It keeps the rules that hold whatever the devices tell, and where they tell it is a legal
-  -- history of the disk that the image stood for. Each fault names a ticket of its own that failed, and each Full what was lacking
-  -- and what was free.
+  -- history of the disk that the image stood for. Each fault names a ticket of its own that failed, each Full what was lacking and what
+  -- was free, and each Worn the last generation, which the generation at opening and the flushes that other calls had asked before reach.
   pub record IsRun (trace : Script) (kept : Header) (d d' : Devices S B) (history : HistoryState) (closing : Line) : Type 0 where
     -- the entries before the closing
     pub served : List Entry
@@ -154,6 +155,7 @@ module _ {S B : Type 0} (g : store.Ghosts S) (h : base.Ghosts B) where
     pub had : List MapEntry
     pub had_is : g.tells d'.store → (chunk : ℕ) → chunk < chunks_of kept → IsEntryOf kept (image_of (g.disk d.store).held) had chunk
     pub full : AreFullsCaused (disk_shape kept (h.sectors d.base)) had (chunks_of kept) kept.storage history.log.entries
+    pub worn : AreWornsCaused kept.generation history.log.entries
 
   -- The devices as the serving had ended and the closing was answered. Since then they were only read: each store fault of the
   -- history is traced in the log that the store had then, and no entry of it is numbered above that log's length.

@@ -1,5 +1,5 @@
 -- One guest is served: its requests are asked in order, each has its reply, and nobody else asks. In the end a flush closes the image.
-use Rattle.std.specs.Prelude.{ℕ, ◌≡◌, ◌==◌, if◌then◌else◌, List, [], ◌∷◌, ◌++◌, length, Option, Some, None, slice_get}
+use Rattle.std.specs.Prelude.{ℕ, ◌≡◌, ◌==◌, if◌then◌else◌, Bool, true, List, [], ◌∷◌, ◌++◌, length, Option, Some, None, slice_get}
 use Rattle.std.specs.List.{All, flat_map}
 use Rattle.vd_law.specs.declared.entry.Answer.{Answer}
 use Rattle.vd_law.specs.Entries.{Asked, Flush, Entry, Ask, Reply, call_of}
@@ -44,6 +44,10 @@ pub record IsServed (requests : List Asked) (passes : List Pass) (history : List
 pub record AddsAnsweredFlush (pass : ℕ) (answer : Answer) (history history' : List Entry) : Type 0 where
   pub call : ℕ
   pub after : history' ≡ history ++ Ask (record { pass = pass; call = call }) Flush ∷ Reply (record { pass = pass; call = call }) answer ∷ []
+
+-- every local block is one that every image has
+abbrev pub AreInEveryImage : (fresh stale : List Bool) → Type 0
+AreInEveryImage fresh stale = (block : ℕ) → slice_get fresh block ≡ Some true → slice_get stale block ≡ Some true
 
 -- pass 0 has flushed, and this was its answer
 abbrev pub Closes : Answer → (history history' : List Entry) → Type 0

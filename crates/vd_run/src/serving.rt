@@ -5,10 +5,11 @@ ghost use Rattle.std.specs.List.{All};
 ghost use Rattle.vd_trace.specs.Traces.{script, works_asked};
 ghost use Rattle.vd_trace.specs.Scripts.{request_of, HasRange};
 ghost use Rattle.vd_law.specs.Entries.{Read, Write, Flush};
+ghost use Rattle.vd_law.specs.declared.entry.Answer.TheVariants.{Ok as Fine};
 ghost use Rattle.vd_device.specs.Stores.{KeepsStore};
 ghost use Rattle.vd_device.specs.Bases.{KeepsBase};
-ghost use Rattle.vd_run.specs.Serving.{IsServable, IsResting, IsUnused, IsServed, AddsAnsweredFlush, Closes};
-ghost use Rattle.vd_run.specs.Driving.{CanServe, Serves, IsSameDisk, with_flush};
+ghost use Rattle.vd_run.specs.Serving.{IsServable, IsResting, IsUnused, IsServed, AddsAnsweredFlush, AreInEveryImage, Closes};
+ghost use Rattle.vd_run.specs.Driving.{CanServe, Serves, AreLogged, IsSameDisk, with_flush};
 ghost use Rattle.vd_device.specs.Patients.{patient_store, patient_base};
 ghost use Rattle.vd_machine.specs.Asking.{Suffices};
 ghost use Rattle.vd_law.specs.Needs.{request_room, requests_room};
@@ -68,6 +69,8 @@ fn flush<S: Store, B: Base>(core: &mut Core<Patient<S>, Patient<B>>, pass: u32) 
     requires can { CanServe Flush core.old.shape core.old.passes core.old.flusher core.old.spare }
     ensures resting { IsResting core.new.passes core.new.flusher }
     ensures flushes { AddsAnsweredFlush pass result core.old.history.log.entries core.new.history.log.entries }
+    ensures logged { result ≡ Fine → AreLogged core.old.keeping core.new.keeping }
+    ensures fresh { core.new.fresh ≡ core.old.fresh }
     ensures room { (core.old.spare.events ≤ core.new.spare.events + 2) × (core.old.spare.sectors ≤ core.new.spare.sectors) }
     ensures disk { IsSameDisk core.old core.new }
     ensures keeps { KeepsStore (patient_store S.Store) core.old.store core.new.store }
@@ -142,12 +145,14 @@ pub fn serve<S: Store, B: Base>(
     let _ = core.history();
 }
 
-/// Puts every local block that not every image has into the next flush, and flushes by pass 0. What it answers is that flush's.
+/// Puts every local block that not every image has into the next flush, and flushes by pass 0. What it answers is that flush's. Where
+/// that is Ok, no local block is left that not every image has.
 pub fn close<S: Store, B: Base>(core: &mut Core<Patient<S>, Patient<B>>) -> Answer
     requires resting { IsResting core.old.passes core.old.flusher }
     requires room { Suffices (request_room core.old.shape.block Flush) core.old.spare }
     ensures resting { IsResting core.new.passes core.new.flusher }
     ensures closed { Closes result core.old.history.log.entries core.new.history.log.entries }
+    ensures adopted { result ≡ Fine → AreInEveryImage core.new.fresh core.new.keeping.stale }
     ensures disk { IsSameDisk core.old core.new }
     ensures keeps { KeepsStore (patient_store S.Store) core.old.store core.new.store }
     ensures base_keeps { KeepsBase (patient_base B.Base) core.old.base core.new.base }

@@ -44,3 +44,13 @@ pub mod Syncs
 pub mod Updates
 pub mod Words
 pub mod Writing
+pub mod Laws
+pub mod KeepsAsking
+pub mod KeepsCarrying
+pub mod KeepsClean
+pub mod KeepsEntering
+pub mod KeepsFlushing
+pub mod KeepsIssuing
+pub mod KeepsLooking
+pub mod KeepsStopping
+pub mod KeepsWords

@@ -30,7 +30,7 @@ use Rattle.vd_passes.specs.declared.pass.Phase.TheVariants.{Held, Issuing, Looki
 use Rattle.vd_passes.specs.Passes.{has_region, call_id, HasInFlight, IsStoreLook, IsBaseLook, after_piece, after_spending}
 use Rattle.vd_passes.specs.Requests.{RequestState, requests}
 use Rattle.vd_passes.specs.Steps.{IsAt, Looks, Sees, SeesZeros, LookSettled, BaseLookSettled}
-use Rattle.vd_safety.specs.Mirrors.{CoreState, core_state, Mirrors, HasSafeMirror}
+use Rattle.vd_safety.specs.Mirrors.{core_state, Mirrors, HasSafeMirror}
 use Rattle.vd_safety.proofs.Updates.{some-inj, append-nil}
 use Rattle.vd_safety.proofs.Surroundings.{Surroundings}
 use Rattle.vd_safety.proofs.Flying.{is_bare}

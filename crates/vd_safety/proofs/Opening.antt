@@ -10,14 +10,14 @@ use Rattle.vd_format.specs.declared.header.Header.{Header}
 use Rattle.vd_format.specs.Layouts.{blocks_of, chunks_of, map_start, sectors_for_bytes}
 use Rattle.vd_format.specs.Entries.{has_kind, entry_at}
 use Rattle.vd_image.specs.Log.{May, Flushes}
-use Rattle.vd_image.specs.Image.{Format, Layout, Mapping, Image, Maps, IsMapping, HasNoLater, DiskHas}
+use Rattle.vd_image.specs.Image.{Mapping, Image, Maps, IsMapping, HasNoLater, DiskHas}
 use Rattle.vd_image.specs.Layouts.{layout_of}
 use Rattle.vd_image.specs.Decoders.{Entry, mapping_in, entry_place, entry_byte, format_of}
 use Rattle.vd_image.specs.CrashImages.{sectors_or}
 use Rattle.vd_image.proofs.CrashImages.{past_end}
 use Rattle.vd_image.proofs.Deciding.{maps_one, disk_one}
 use Rattle.vd_image.proofs.Layouts.{parts_apart}
-use Rattle.vd_crash.specs.facts.Safe.{Opening, numbered}
+use Rattle.vd_crash.specs.facts.Safe.{numbered}
 use Rattle.vd_crash.specs.facts.Memory.{Memory}
 use Rattle.vd_crash.specs.facts.Opened.{IsAtOpening}
 use Rattle.vd_crash.specs.flushes.Flushing.{IsWantedMapping, nothing_new, AreOpeningMarks}
@@ -33,7 +33,7 @@ use Rattle.vd_keeper.specs.Keeping.{KeeperState, pages_of, no_marks}
 use Rattle.vd_passes.specs.declared.pass.Pass.{Pass}
 use Rattle.vd_passes.specs.declared.pass.Phase.{Phase}
 use Rattle.vd_passes.specs.declared.pass.Phase.TheVariants.{Idle}
-use Rattle.vd_safety.specs.Mirrors.{core_state, bit_of, storage_of, is_in, opening_for, IsFlightOf, HasSafeMirror}
+use Rattle.vd_safety.specs.Mirrors.{core_state, bit_of, storage_of, opening_for, IsFlightOf, HasSafeMirror}
 use Rattle.vd_safety.proofs.Stated.{maps_grammar, up_there, down_there, stored_has, has_stored, has_gives, gives_has, up_mask, up_local, local_up, below_next, disk_past}
 use Rattle.vd_format.specs.Background.{zero_sector, base_at}
 use Rattle.vd_lists.proofs.Places.{some_place}

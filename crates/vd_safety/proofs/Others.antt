@@ -1,5 +1,5 @@
 -- The steps that the store and the history have nothing of: a pass enters a block, or reads of the base.
-use Rattle.std.proofs.Common.{◌≡◌, ℕ, Bool, true, List, refl, sym, ap, subst, Option, Some, slice_get, slice_set}
+use Rattle.std.proofs.Common.{◌≡◌, ℕ, Bool, true, List, refl, sym, ap, subst, Option, Some, slice_get}
 use Rattle.vd_law.specs.declared.entry.Sector.{Sector}
 use Rattle.vd_law.specs.Entries.{Entry}
 use Rattle.vd_law.specs.Histories.{HistoryState}

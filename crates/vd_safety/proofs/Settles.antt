@@ -23,6 +23,7 @@ use Rattle.vd_passes.specs.declared.pass.Phase.TheVariants.{Flushing}
 use Rattle.vd_passes.specs.Requests.{RequestState, requests, with_pass}
 use Rattle.vd_passes.specs.Steps.{meta_settled}
 use Rattle.vd_machine.specs.Flushing.{meta_state, SettlesMeta, keeper_after}
+use Rattle.vd_machine.specs.FlushSteps.{flusher_after}
 use Rattle.vd_safety.specs.Mirrors.{core_state, Mirrors, HasSafeMirror}
 use Rattle.vd_safety.proofs.Updates.{set-same}
 use Rattle.vd_safety.proofs.Stepping.{IsFlushing, flusher-is, flusher-as, secured-as, secured-on}
@@ -31,12 +32,6 @@ use Rattle.vd_safety.proofs.Flushed.{data-flushed}
 use Rattle.vd_safety.proofs.Done.{any-done}
 use Rattle.vd_safety.proofs.Synced.{any-synced}
 use Rattle.vd_safety.proofs.Failed.{any-failed}
-
--- which pass flushes after it: none, where the flush is given up
-abbrev pub flusher_after : Settled → (flusher : Option ℕ) → Option ℕ
-flusher_after settled.Done flusher = flusher
-flusher_after (settled.NotYet same) flusher = flusher
-flusher_after (settled.Failed number) flusher = None
 
 module _ (h : Header) (o : Opening) (shape : Shape) (table : TableState) (fresh : List Bool) (k : KeeperState) (passes : List Pass) (history : HistoryState) (log : List Entry) (s : State) (last i : ℕ) (p : Pass) (t : Ticket)
     (around : IsFlushing h o shape (core_state table fresh k (Some i) passes history) last) (was : KeepsCrashSafety o s) (mirrors : Mirrors o (core_state table fresh k (Some i) passes history) log s)

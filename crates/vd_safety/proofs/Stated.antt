@@ -20,7 +20,8 @@ use Rattle.vd_image.proofs.Openings.{header_valid}
 use Rattle.vd_replay.specs.States.{IsState}
 use Rattle.vd_replay.specs.declared.state.State.{State}
 use Rattle.vd_replay.proofs.StateLaws.{storage_is, storage_from}
-use Rattle.vd_safety.specs.Mirrors.{bit_of, storage_given, storage_of, is_in}
+use Rattle.vd_safety.specs.Mirrors.{bit_of, storage_given, storage_of}
+use Rattle.vd_machine.specs.Opened.{is_in}
 use Rattle.vd_format.specs.Background.{zero_sector, background}
 
 -- ---- bits and tables

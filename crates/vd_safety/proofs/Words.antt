@@ -97,16 +97,16 @@ secured-safe h entries before held base disk opened table fresh k flusher passes
 abbrev pub IsHarmless : List Entry → (event : Entry) (number : ℕ) → Type 0
 IsHarmless log event number = (length log < number) ⊎ ((id : CallId) → event ≡ Reply id Fine → ⊥)
 
-one_more : (o : Opening) (log : List Entry) (history : List NumberedEntry) (x : NumberedEntry) → IsHarmless log x.event x.number → IsSafe o log history → IsSafe o log (history ++ x ∷ [])
-one_more o log history x (inl late) safe = safe_late o log history x safe late
-one_more o log history x (inr other) safe = safe_other o log history x safe other
+one_step_more : (o : Opening) (log : List Entry) (history : List NumberedEntry) (x : NumberedEntry) → IsHarmless log x.event x.number → IsSafe o log history → IsSafe o log (history ++ x ∷ [])
+one_step_more o log history x (inl late) safe = safe_late o log history x safe late
+one_step_more o log history x (inr other) safe = safe_other o log history x safe other
 
 -- Such entries take nothing away.
 pub stopped-safe : (o : Opening) (log : List Entry) (history more : List NumberedEntry) → ((i : ℕ) (x : NumberedEntry) → At more i x → IsHarmless log x.event x.number) → IsSafe o log history → IsSafe o log (history ++ more)
 stopped-safe o log history [] harmless safe = subst (λ (h : List NumberedEntry). IsSafe o log h) (sym (append-nil history)) safe
 stopped-safe o log history (x ∷ more) harmless safe =
     subst (λ (h : List NumberedEntry). IsSafe o log h) (append_assoc history (x ∷ []) more)
-    (stopped-safe o log (history ++ x ∷ []) more (λ i y at. harmless (suc i) y at) (one_more o log history x (harmless 0 x refl) safe))
+    (stopped-safe o log (history ++ x ∷ []) more (λ i y at. harmless (suc i) y at) (one_step_more o log history x (harmless 0 x refl) safe))
 
 not_flushed : (asked : Option Asked) (answer : Answer) → (answer ≡ Fine → ⊥) → is_flushed asked answer ≡ false
 not_flushed (Some Flush) answers.Ok other = absurd (other refl)

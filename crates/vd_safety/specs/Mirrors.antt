@@ -13,7 +13,7 @@ use Rattle.vd_bits.specs.Marks.{NoneFrom}
 use Rattle.vd_table.specs.Tables.{TableState}
 use Rattle.vd_image.specs.Image.{geometry_of}
 use Rattle.vd_image.specs.Layouts.{layout_of}
-use Rattle.vd_image.specs.Decoders.{format_of, mask_has}
+use Rattle.vd_image.specs.Decoders.{format_of}
 use Rattle.vd_image.specs.CrashImages.{sectors_or}
 use Rattle.vd_crash.specs.facts.Safe.{Opening, numbered}
 use Rattle.vd_crash.specs.flushes.Flushing.{Snapshot}
@@ -34,6 +34,7 @@ use Rattle.vd_passes.specs.declared.pass.Phase.TheVariants.{Idle, Asked, Held, F
 use Rattle.vd_passes.specs.declared.pass.Fault.{Fault}
 use Rattle.vd_passes.specs.Passes.{call_id}
 use Rattle.vd_format.specs.Background.{zero_sector, base_at}
+use Rattle.vd_machine.specs.Opened.{is_in}
 use Rattle.vd_crash.specs.facts.Memory.{Discards}
 use Rattle.vd_crash.specs.facts.Metadata.{RecordNames}
 
@@ -47,11 +48,6 @@ storage_given _ = None
 -- the storage chunk of a chunk
 abbrev pub storage_of : TableState → ℕ → Option ℕ
 storage_of table c = storage_given (slice_get table.chunks c)
-
--- the entry of a chunk, as it was at opening, has the block
-abbrev pub is_in : Option MapEntry → (first b : ℕ) → Bool
-is_in None first b = false
-is_in (Some e) first b = mask_has first e.mask b
 
 -- What the laws speak of, for an image with this header, whose chunks had these entries: what the store had at its start and held when
 -- it was opened, after so many events, and the base and the guest's disk then.

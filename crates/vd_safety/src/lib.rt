@@ -3,7 +3,7 @@
 //! The functions here do nothing: their contracts are the laws on which a core's proof stands.
 #![tactic(auto)]
 
-ghost use Rattle.std.specs.Prelude.{ℕ, ◌≡◌, ◌<◌, ◌≤◌, Bool, List, Option, length};
+ghost use Rattle.std.specs.Prelude.{ℕ, ◌≡◌, ◌<◌, ◌≤◌, ◌⊎◌, Bool, List, Option, length};
 ghost use Rattle.vd_law.specs.declared.entry.Sector.{Sector};
 ghost use Rattle.vd_law.specs.Entries.{Entry};
 ghost use Rattle.vd_law.specs.Histories.{HistoryState};
@@ -19,6 +19,13 @@ ghost use Rattle.vd_passes.specs.declared.pass.Pass.{Pass};
 ghost use Rattle.vd_safety.specs.Mirrors.{CoreState, opening_for, HasSafeMirror};
 ghost use Rattle.vd_safety.specs.Held.{IsHeldNow, IsOpenAgain};
 ghost use Rattle.vd_format.specs.Background.{zero_sector, base_at};
+ghost use Rattle.vd_machine.specs.Views.{View};
+ghost use Rattle.vd_machine.specs.Steps.{IsStep};
+ghost use Rattle.vd_machine.specs.Sound.{IsSound};
+ghost use Rattle.vd_machine.specs.Telling.{IsFaithfullyKept, LogAgrees};
+ghost use Rattle.vd_safety.specs.Safely.{IsSafelyKept, IsSafelyStopped};
+
+use vd_device::{Base, Store};
 
 /// A core that is secured is crash safe, over what its store tells and the history as it is kept.
 pub fn secured_is_crash_safe()
@@ -34,4 +41,16 @@ pub fn secured_image_opens_again()
         (core : CoreState) (log : List Entry) (now : List Sector) → HasSafeMirror (opening_for h entries before held base disk opened) core log
         → IsHeldNow before log now → h.version ≡ this_version → store_need h ≤ length now → length disk ≡ h.size
         → IsOpenAgain h base disk core.history.log.entries now }
+{}
+
+/// Each step is one that the laws of crash safety know, where the devices tell; and where the store has stopped, its log stands.
+pub fn steps_stay_safe<S: Store, B: Base>()
+    ensures safe { (i : ℕ) (c c' : View S B) → IsStep S.Store B.Base i c c' → IsSound S.Store B.Base c
+        → (S.tells c.store → B.tells c.base → IsFaithfullyKept S.Store B.Base c) → (S.tells c.store → LogAgrees S.Store c)
+        → (S.tells c.store → B.tells c.base → IsSafelyKept S.Store B.Base c)
+        → S.tells c'.store → B.tells c'.base → IsSafelyKept S.Store B.Base c' }
+    ensures stopped { (i : ℕ) (c c' : View S B) → IsStep S.Store B.Base i c c' → IsSound S.Store B.Base c
+        → (S.tells c.store → B.tells c.base → IsSafelyKept S.Store B.Base c)
+        → (S.records c.store → B.tells c.base → S.tells c.store ⊎ IsSafelyStopped S.Store B.Base c)
+        → S.records c'.store → B.tells c'.base → S.tells c'.store ⊎ IsSafelyStopped S.Store B.Base c' }
 {}

@@ -13,10 +13,10 @@ use Rattle.vd_passes.specs.declared.shape.Shape.{Shape}
 use Rattle.vd_passes.specs.declared.pass.Pass.{Pass}
 use Rattle.vd_passes.specs.Requests.{RequestState}
 use Rattle.vd_passes.specs.Steps.{HasAskedWrite}
-use Rattle.vd_core.proofs.Serving.{write-stays}
+use Rattle.vd_drive.proofs.Serving.{write-stays}
 use Rattle.vd_core.specs.declared.outcome.Step.{Step}
 use Rattle.vd_machine.specs.Asking.{AskEnds, EndsFull, EndsAsked, Exceeds, Suffices, ask_state}
-use Rattle.vd_core.specs.Moves.{Drives, work}
+use Rattle.vd_drive.specs.Moves.{Drives, work}
 use Rattle.vd_run.specs.Serving.{asked_by, requests_in, AddsAnsweredFlush}
 use Rattle.vd_run.specs.Driving.{IsAskOf, Serves}
 use Rattle.vd_law.specs.Needs.{request_room}
@@ -100,13 +100,13 @@ module _ {request : Asked} {shape shape' : Shape} {events : ℕ} {table table' :
   ask-serves result room (inr (inl (needed, free, is, full))) = full-serves full
   ask-serves result room (inr (inr (none, asked))) = asked-serves asked
 
--- whatever is answered, there is as much storage and the number of opening is the same
+-- whatever is answered, there is as much storage
 pub ask-keeps : {request : Asked} {shape shape' : Shape} {pass events : ℕ} {table table' : TableState} {passes passes' : List Pass} {history history' : HistoryState} {left left' : Room} (result : Option Answer)
     → AskEnds result request events pass (ask_state shape table passes history left) (ask_state shape' table' passes' history' left')
-    → (length table'.chunks ≡ length table.chunks) × (table'.storage ≡ table.storage) × (history'.opened ≡ history.opened)
-ask-keeps result (inl (exceeds, is, same)) = (ap (λ (t : TableState). length t.chunks) same.table_same, ap (λ (t : TableState). t.storage) same.table_same, ap (λ (h : HistoryState). h.opened) same.history_same)
-ask-keeps result (inr (inl (needed, free, is, full))) = (ap (λ (t : TableState). length t.chunks) full.table_same, ap (λ (t : TableState). t.storage) full.table_same, full.extends.opened)
-ask-keeps result (inr (inr (none, asked))) = (asked.claims.chunks, asked.claims.storage, asked.extends.opened)
+    → (length table'.chunks ≡ length table.chunks) × (table'.storage ≡ table.storage)
+ask-keeps result (inl (exceeds, is, same)) = (ap (λ (t : TableState). length t.chunks) same.table_same, ap (λ (t : TableState). t.storage) same.table_same)
+ask-keeps result (inr (inl (needed, free, is, full))) = (ap (λ (t : TableState). length t.chunks) full.table_same, ap (λ (t : TableState). t.storage) full.table_same)
+ask-keeps result (inr (inr (none, asked))) = (asked.claims.chunks, asked.claims.storage)
 
 -- a flush by pass 1 is one request of its
 pub flush-serves : {answer : Answer} {block : ℕ} {entries entries' : List Entry} {left left' : Room} → AddsAnsweredFlush 1 answer entries entries' → (left.events ≤ left'.events + 2) × (left.sectors ≤ left'.sectors)

@@ -18,8 +18,8 @@ use Rattle.vd_passes.proofs.Lists.{some-inj, get-set-same, at-set, length-set'}
 use Rattle.vd_core.specs.declared.outcome.Step.{Step}
 use Rattle.vd_core.specs.declared.outcome.Step.TheVariants.{Again, Late, Busy, Ended}
 use Rattle.vd_machine.specs.Asking.{AskEnds, ask_state}
-use Rattle.vd_core.specs.Moves.{Moves, Drives, work, steps_left}
-use Rattle.vd_core.proofs.Serving.{asks-write}
+use Rattle.vd_drive.specs.Moves.{Moves, Drives, work, steps_left}
+use Rattle.vd_drive.proofs.Serving.{asks-write}
 use Rattle.vd_run.specs.Serving.{ArePassesIdle, IsResting}
 use Rattle.vd_law.specs.Counts.{Rose}
 

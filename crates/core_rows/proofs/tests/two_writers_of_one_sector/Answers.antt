@@ -1,4 +1,4 @@
-use Rattle.std.proofs.Common.{◌≡◌, ◌∙◌}
+use Rattle.std.proofs.Common.{◌∙◌}
 use Rattle.core_rows.proofs.Runs.{carried, same-said}
 use Rattle.core_rows.proofs.tests.two_writers_of_one_sector.Goals as goal
 

@@ -7,7 +7,7 @@ use Rattle.vd_replay.specs.declared.state.State.{State}
 use Rattle.vd_report.specs.Ending.{has_failed, shown_text}
 use Rattle.vd_run.proofs.RunningLaws.{line_within}
 use Rattle.vd_report.proofs.WritingLaws.{writes_nothing, writes_both, writes_as}
-use Rattle.vd_run.proofs.ReopeningLaws.{none_shown, one_more, all_later, shown_earlier, all_shown, failed_more, text_more}
+use Rattle.vd_run.proofs.ReopeningLaws.{none_shown, one_step_more, all_later, shown_earlier, all_shown, failed_more, text_more}
 use Rattle.vd_run.proofs.reopening.put_shows.Goals as goal
 use Rattle.vd_device.proofs.DeviceLaws.{both_read_twice}
 use Rattle.vd_lists.proofs.Places.{some_place}
@@ -46,7 +46,7 @@ loop-at-preserved g c =
       state = put.state;
       reads = both_read_twice inv.reads put.reads;
       shown = inv.shown ++ shows ∷ [];
-      are = one_more c.args.trace.now.shows c.loop-at.at line.0 inv.shown shows line.1 (all_later put.reads inv.are) (shown_earlier shows inv.reads here);
+      are = one_step_more c.args.trace.now.shows c.loop-at.at line.0 inv.shown shows line.1 (all_later put.reads inv.are) (shown_earlier shows inv.reads here);
       failed = ap (λ (b : Bool). b || c.put_shown-fails.result.0) inv.failed ∙ ap (λ (b : Bool). list_any has_failed inv.shown || b) put.shows.2 ∙ sym (failed_more inv.shown shows);
       writes = writes_as (text_more inv.shown shows) (writes_both (flat_map shown_text inv.shown) (shown_text shows) _ _ _ inv.writes put.shows.3);
     }

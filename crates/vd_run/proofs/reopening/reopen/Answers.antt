@@ -1,4 +1,4 @@
-use Rattle.std.proofs.Common.{◌∙◌, refl, ap, sym, arith, ℕ, Bool, ◌++◌, take}
+use Rattle.std.proofs.Common.{◌∙◌, ap, sym, arith, ℕ, Bool, ◌++◌, take}
 use Rattle.std.specs.Prelude.{if◌then◌else◌}
 use Rattle.std.specs.List.{flat_map}
 use Rattle.vd_bits.specs.Marks.{count_true}

@@ -26,10 +26,8 @@ returns-in-Ok-clause-run g c =
     let opened = rw (c.new.ensures, c.new-2.ensures) at c.in-Ok.ensures.opened in
     rw (c.into_inner-store.ensures, c.into_inner-in-Ok.ensures, f.store, f.base, f.history)
     (λ first from. served_run g.S.Store g.B.Base c.args.state _ c.args.store c.args.base c.in-Ok.core c.serve.new.core c.close-closing.new.core c.args.trace.now c.close-closing.result
-    ready.opened.whole.sized ready.opens.version ready.says c.look.ensures.ready.told c.look.ensures.running c.look.ensures.honest opened c.in-Ok.ensures.opening
+    ready.opened.whole.sized ready.opens.version ready.says c.look.ensures.ready.told c.look.ensures.running c.look.ensures.honest opened
     serving.served serving.disk closing.closed closing.disk
-    (keeps-on (patient_store g.S.Store) c.in-Ok.core.store c.serve.new.core.store c.close-closing.new.core.store serving.keeps closing.keeps)
-    (base-keeps-on (patient_base g.B.Base) c.in-Ok.core.base c.serve.new.core.base c.close-closing.new.core.base serving.base_keeps closing.base_keeps)
     f.known f.ended last.recorded (λ t. may_hold _ (last.honest t) (last.order t) (last.size t)) first from)
 
 pub returns-in-Ok-clause-leaves : goal.returns-in-Ok-clause-leaves

@@ -1,4 +1,4 @@
-use Rattle.std.proofs.Common.{sym, ◌*◌, ◌∙◌, ℕ, ap, subst, arith}
+use Rattle.std.proofs.Common.{sym, ◌*◌, ℕ, ap, subst, arith}
 use Rattle.vd_device.proofs.Keeping.{keeps-on, keeps-same, base-keeps-on, base-keeps-same}
 use Rattle.vd_passes.specs.declared.shape.Shape.{Shape}
 use Rattle.vd_trace.specs.Traces.{script}
@@ -16,7 +16,7 @@ pub loop-at-init : goal.loop-at-init
 loop-at-init g c = record {
   serving = none-served c.requires.unused (guest-suffices c.args.core.now.shape.block 1 c.args.trace.now.asks c.args.core.now.spare c.requires.room);
   disk = same-disk;
-  keeps = keeps-same (patient_store g.S.Store) c.args.core.now.store c.history.ensures.known.opening.told;
+  keeps = keeps-same (patient_store g.S.Store) c.args.core.now.store c.history.ensures.known.opening.since.store.telling.state;
   base_keeps = base-keeps-same (patient_base g.B.Base) c.args.core.now.base;
 }
 

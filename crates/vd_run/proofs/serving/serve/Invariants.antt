@@ -1,4 +1,3 @@
-use Rattle.std.proofs.Common.{◌≡◌}
 use Rattle.vd_trace.specs.Traces.{script}
 use Rattle.vd_device.specs.Stores.{KeepsStore}
 use Rattle.vd_device.specs.Bases.{KeepsBase}

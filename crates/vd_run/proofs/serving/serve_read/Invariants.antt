@@ -1,4 +1,4 @@
-use Rattle.std.proofs.Common.{◌≡◌, false, length}
+use Rattle.std.proofs.Common.{false, length}
 use Rattle.vd_law.specs.Entries.{Read}
 use Rattle.vd_device.specs.Stores.{KeepsStore}
 use Rattle.vd_device.specs.Bases.{KeepsBase}

@@ -4,6 +4,7 @@ use Rattle.vd_passes.specs.declared.shape.Shape.{Shape}
 use Rattle.vd_run.proofs.Guest.Passing.{rests-at, answered, asked-write, goes-on, fewer-left, ended}
 use Rattle.vd_run.proofs.Guest.Asks.{ask-serves, serves-on, still-asked}
 use Rattle.vd_device.specs.Patients.{patient_store, patient_base}
+use Rattle.vd_run.proofs.Guest.KeptOut.{writer-out}
 use Rattle.vd_run.proofs.Guest.Leaving.{disk-then, ask-disk, ask-flusher, ask-store, ask-base, step-disk}
 use Rattle.vd_run.proofs.serving.serve_write.Goals as goal
 
@@ -11,31 +12,31 @@ pub ask-requires-clause-phase : goal.ask-requires-clause-phase
 ask-requires-clause-phase g c = rests-at 1 (lit< tt) c.requires.can.resting
 
 pub returns-then-is_some-clause-resting : goal.returns-then-is_some-clause-resting
-returns-then-is_some-clause-resting g c = answered c.ask.result (sym c.is_some.ensures ∙ c.if-is_some.true) c.ask.ensures.ends (ask-flusher c.args.core.now c.ask.new.self c.ask.ensures.others) c.requires.can.resting
+returns-then-is_some-clause-resting g c = answered c.ask.result (sym c.is_some.ensures ∙ c.if-is_some.true) c.ask.ensures.asks.ends (ask-flusher c.ask.ensures.asks) c.requires.can.resting
 
 pub returns-then-is_some-clause-serves : goal.returns-then-is_some-clause-serves
-returns-then-is_some-clause-serves g c = ask-serves c.ask.result c.requires.can.room c.ask.ensures.ends
+returns-then-is_some-clause-serves g c = ask-serves c.ask.result c.requires.can.room c.ask.ensures.asks.ends
 
 pub returns-then-is_some-clause-keeps : goal.returns-then-is_some-clause-keeps
-returns-then-is_some-clause-keeps g c = ask-store c.args.core.now c.ask.new.self c.ask.ensures.others (patient_store g.S.Store) c.ask.ensures.told
+returns-then-is_some-clause-keeps g c = ask-store c.ask.ensures.asks c.ask.ensures.told
 
 pub returns-then-is_some-clause-base_keeps : goal.returns-then-is_some-clause-base_keeps
-returns-then-is_some-clause-base_keeps g c = ask-base c.args.core.now c.ask.new.self c.ask.ensures.others (patient_base g.B.Base)
+returns-then-is_some-clause-base_keeps g c = ask-base c.ask.ensures.asks (patient_base g.B.Base)
 
 pub loop-init : goal.loop-init
 loop-init g c =
-    let ends = c.ask.ensures.ends in let others = c.ask.ensures.others in
-    let busy = asked-write c.ask.result c.args.first c.args.content.now (sym c.is_some.ensures ∙ c.if-is_some.false) ends (ask-flusher c.args.core.now c.ask.new.self others) c.requires.can.resting in record {
+    let asks = c.ask.ensures.asks in
+    let busy = asked-write c.ask.result c.args.first c.args.content.now (sym c.is_some.ensures ∙ c.if-is_some.false) asks.ends (ask-flusher asks) c.requires.can.resting in record {
       busy = busy.0;
       content = busy.1;
-      serves = ask-serves c.ask.result c.requires.can.room ends;
-      disk = ask-disk c.args.core.now c.ask.new.self c.ask.result ends others;
-      keeps = ask-store c.args.core.now c.ask.new.self others (patient_store g.S.Store) c.ask.ensures.told;
-      base_keeps = ask-base c.args.core.now c.ask.new.self others (patient_base g.B.Base);
+      serves = ask-serves c.ask.result c.requires.can.room asks.ends;
+      disk = ask-disk asks;
+      keeps = ask-store asks c.ask.ensures.told;
+      base_keeps = ask-base asks (patient_base g.B.Base);
     }
 
 pub loop-smaller : goal.loop-smaller
-loop-smaller g c = fewer-left c.next.new.core.shape.block (ap (λ (s : Shape). s.block) c.next.ensures.shape) c.in-Again.ensures.drives
+loop-smaller g c = fewer-left c.next.new.core.shape.block (ap (λ (s : Shape). s.block) c.next.ensures.leaves.shape) c.in-Again.ensures.drives
 
 pub loop-preserved : goal.loop-preserved
 loop-preserved g c =
@@ -43,7 +44,7 @@ loop-preserved g c =
       busy = goes-on drives next.flusher now.busy;
       content = still-asked c.args.content.now drives now.content;
       serves = serves-on drives now.serves;
-      disk = disk-then now.disk (step-disk c.loop.core c.next.new.core next.shape next.storage);
+      disk = disk-then now.disk (step-disk next.leaves);
       keeps = keeps-on (patient_store g.S.Store) c.args.core.now.store c.loop.core.store c.next.new.core.store now.keeps next.keeps;
       base_keeps = base-keeps-on (patient_base g.B.Base) c.args.core.now.base c.loop.core.base c.next.new.core.base now.base_keeps next.base_keeps;
     }
@@ -51,9 +52,9 @@ loop-preserved g c =
 pub returns : goal.returns
 returns g c =
     let now = c.loop.invariant in let next = c.next.ensures in record {
-      resting = ended c.next.result c.in_default.not-Again next.drives next.late next.busy next.flusher now.busy;
+      resting = ended c.next.result c.in_default.not-Again next.drives next.late (λ by busy. writer-out (patient_store g.S.Store) (patient_base g.B.Base) 1 c.loop.core c.next.new.core by busy c.args.content.now next.makes) next.flusher now.busy;
       serves = serves-on next.drives now.serves;
-      disk = disk-then now.disk (step-disk c.loop.core c.next.new.core next.shape next.storage);
+      disk = disk-then now.disk (step-disk next.leaves);
       keeps = keeps-on (patient_store g.S.Store) c.args.core.now.store c.loop.core.store c.next.new.core.store now.keeps next.keeps;
       base_keeps = base-keeps-on (patient_base g.B.Base) c.args.core.now.base c.loop.core.base c.next.new.core.base now.base_keeps next.base_keeps;
     }

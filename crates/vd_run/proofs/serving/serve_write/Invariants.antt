@@ -1,4 +1,4 @@
-use Rattle.std.proofs.Common.{◌≡◌, true, length}
+use Rattle.std.proofs.Common.{true, length}
 use Rattle.vd_law.specs.Entries.{Write}
 use Rattle.vd_passes.specs.Steps.{HasAskedWrite}
 use Rattle.vd_device.specs.Stores.{KeepsStore}

@@ -1,34 +1,52 @@
-use Rattle.std.proofs.Common.{sym}
+use Rattle.std.proofs.Common.{sym, ◌∙◌}
 use Rattle.vd_law.specs.Entries.{asked_of}
-use Rattle.vd_core.proofs.Keeping.Accounting.{ask-accounted}
-use Rattle.vd_core.proofs.Keeping.Following.{ask-followed, ask-opened}
-use Rattle.vd_core.proofs.Keeping.Asking.{can-ask, ask-kept, ask-told}
-use Rattle.vd_core.proofs.Keeping.Recording.{ask-recorded}
-use Rattle.vd_core.proofs.Keeping.Telling.{logged-here}
-use Rattle.vd_core.proofs.Securing.Asking.{ask-safely}
-use Rattle.vd_core.proofs.Securing.Stopping.{ask-still, stopped-same}
+use Rattle.vd_machine.specs.Steps.{By_ask}
+use Rattle.vd_machine.specs.AskSteps.{AskStep}
+use Rattle.vd_legal.proofs.Asking.{can-ask}
+use Rattle.vd_core.proofs.Releasing.{counted, ask-regions, ask-table, tabled}
+use Rattle.vd_machine.specs.Views.{View}
+use Rattle.vd_core.specs.declared.state.Core.TheView.{view}
+use Rattle.vd_core.proofs.Kept.{kept-on}
+use Rattle.vd_core.proofs.state.Core.ask.Given.{Over}
 use Rattle.vd_core.proofs.state.Core.ask.Goals as goal
+use Rattle.vd_core.proofs.state.Core.ask.Goals.{After-ask_in_room}
+
+abbrev was : (g : Over) (c : After-ask_in_room g) → View g.row.S.Denot g.row.B.Denot
+was g c = view g.row.S.Denot g.row.B.Denot g.S.Store g.B.Base c.self.inside
+
+-- what it makes of the core, but for the number of steps
+abbrev now : (g : Over) (c : After-ask_in_room g) → View g.row.S.Denot g.row.B.Denot
+now g c = record (was g c) {
+  table = c.ask_in_room.new.table;
+  passes = c.ask_in_room.new.passes.items;
+  history = c.ask_in_room.new.history;
+  spare = c.ask_in_room.new.spare;
+}
 
 pub ask_in_room-requires : goal.ask_in_room-requires
 ask_in_room-requires g c =
     let at = rw (sym c.self.view_is) at c.requires.phase in
     let inside = rw (sym c.self.view_is) at c.requires.inside in
-    record { can = can-ask (asked_of c.args.request) c.args.pass c.self.invariant.0 at c.requires.size inside }
+    record { can = can-ask (asked_of c.args.request) c.args.pass c.self.invariant.0.sound at c.requires.size inside }
+
+step : (g : Over) (c : After-ask_in_room g) → AskStep g.S.Store c.ask_in_room.result (asked_of c.args.request) c.args.pass (was g c)
+    (record (now g c) { steps = c.one_more-self-inside.result })
+step g c = let done = c.ask_in_room.ensures in record {
+  idle = rw (sym c.self.view_is) at c.requires.phase;
+  size = c.requires.size;
+  inside = rw (sym c.self.view_is) at c.requires.inside;
+  ends = done.ends;
+  running = done.running;
+  others = counted (now g c) c.one_more-self-inside.ensures;
+}
 
 pub invariant_of-self : goal.invariant_of-self
 invariant_of-self g c =
-    let at = rw (sym c.self.view_is) at c.requires.phase in
-    let inside = rw (sym c.self.view_is) at c.requires.inside in
-    let kept = c.self.invariant.0 in let done = c.ask_in_room.ensures in (
-      ask-kept (asked_of c.args.request) c.args.pass kept at c.requires.size inside done.ends,
-      λ tells base_tells. ask-told (asked_of c.args.request) c.args.pass kept at c.requires.size inside done.ends (c.self.invariant.1 tells base_tells),
-      ask-accounted kept.coherent (can-ask (asked_of c.args.request) c.args.pass kept at c.requires.size inside) done.ends c.self.invariant.2,
-      λ told. let was = c.self.invariant.3 told in logged-here was (ask-opened done.ends) (ask-followed was.followed at done.ends (done.running told)),
-      ask-recorded c.self.invariant.4 at done.ends,
-      ask-safely c.self.invariant.0 c.self.invariant.4 c.self.invariant.1 c.self.invariant.5 c.args.pass at done.ends done.running,
-      stopped-same c.self.invariant.6 (ask-opened done.ends) (λ late start. ask-still done.ends kept.roomy.later late),
-      c.self.invariant.7,
+    let at = rw (sym c.self.view_is) at c.requires.phase in let ends = c.ask_in_room.ensures.ends in let table = ask-table at ends in (
+      kept-on (By_ask c.ask_in_room.result (asked_of c.args.request) (step g c)) c.self.invariant.0,
+      c.self.invariant.1 ∙ sym (ask-regions at ends),
+      tabled c.self.inside.state c.ask_in_room.new.table c.self.invariant.2 table.0 table.1,
     )
 
-pub returns-clause-ends : goal.returns-clause-ends
-returns-clause-ends g c = rw (sym c.self.view_is) c.ask_in_room.ensures.ends
+pub returns-clause-asks : goal.returns-clause-asks
+returns-clause-asks g c = rw (sym c.self.view_is) (step g c)

@@ -1,30 +1,46 @@
-use Rattle.std.proofs.Common.{sym, refl}
-use Rattle.vd_passes.proofs.TracingSteps.{looks-followed}
-use Rattle.vd_core.proofs.Keeping.Accounting.{look-accounted}
-use Rattle.vd_core.proofs.Keeping.Looking.{can-look, look-kept, look-told}
-use Rattle.vd_core.proofs.Keeping.Recording.{look-recorded}
-use Rattle.vd_core.proofs.Keeping.Telling.{logged-on}
-use Rattle.vd_core.proofs.Securing.Looking.{look-safely}
-use Rattle.vd_core.proofs.Securing.Stopping.{stopped-on}
+use Rattle.std.proofs.Common.{sym, refl, ◌∙◌, true}
+use Rattle.vd_passes.specs.declared.pass.Phase.TheVariants.{Held}
+use Rattle.vd_passes.proofs.Holding.{phase-at, looks-regions}
+use Rattle.vd_machine.specs.Steps.{By_store_look}
+use Rattle.vd_machine.specs.ReadSteps.{StoreLookStep}
+use Rattle.vd_legal.proofs.Looking.{can-look}
+use Rattle.vd_core.proofs.Releasing.{counted}
+use Rattle.vd_machine.specs.Views.{View}
+use Rattle.vd_core.specs.declared.state.Core.TheView.{view}
+use Rattle.vd_core.proofs.Kept.{kept-on}
+use Rattle.vd_core.proofs.state.Core.look_in_store.Given.{Over}
 use Rattle.vd_core.proofs.state.Core.look_in_store.Goals as goal
+use Rattle.vd_core.proofs.state.Core.look_in_store.Goals.{After-look_at_store}
+
+abbrev was : (g : Over) (c : After-look_at_store g) → View g.row.S.Denot g.row.B.Denot
+was g c = view g.row.S.Denot g.row.B.Denot g.S.Store g.B.Base c.self.inside
+
+-- what it makes of the core, but for the number of steps
+abbrev now : (g : Over) (c : After-look_at_store g) → View g.row.S.Denot g.row.B.Denot
+now g c = record (was g c) { store = c.look_at_store.new.store; passes = c.look_at_store.new.passes.items }
 
 pub look_at_store-requires : goal.look_at_store-requires
 look_at_store-requires g c =
     let at = rw (sym c.self.view_is) at c.requires.phase in
-    record { ready = can-look c.self.invariant.0 c.args.pass at }
+    record { ready = can-look c.self.invariant.0.sound c.args.pass at }
+
+step : (g : Over) (c : After-look_at_store g) → StoreLookStep g.S.Store c.args.pass (was g c) (record (now g c) { steps = c.one_more-self-inside.result })
+step g c = let done = c.look_at_store.ensures in record {
+  reader = rw (sym c.self.view_is) at c.requires.phase;
+  looks = done.looks c.self.inside.state.fresh.bits c.self.inside.history.log.entries;
+  number = done.number;
+  keeps = done.keeps;
+  others = counted (now g c) c.one_more-self-inside.ensures;
+}
 
 pub invariant_of-self : goal.invariant_of-self
 invariant_of-self g c =
-    let at = rw (sym c.self.view_is) at c.requires.phase in let done = c.look_at_store.ensures in let step = done.looks c.self.inside.state.fresh.bits c.self.inside.history.log.entries in (
-      look-kept c.self.invariant.0 c.args.pass at step done.keeps,
-      look-told c.self.invariant.0 c.args.pass at step c.self.invariant.3 c.self.invariant.1,
-      look-accounted c.self.invariant.2 c.args.pass step done.number,
-      λ told. let was = c.self.invariant.3 (step.call.takes.keeps.told_before told) in logged-on was (_, step.call.takes.told told) refl (looks-followed was.followed (at.0, at.1, at.2.0.phase) step (step.call.takes.told told)),
-      look-recorded c.self.invariant.4 c.args.pass (at.0, at.1, at.2.0.phase) step,
-      look-safely c.self.invariant.0 c.self.invariant.4 c.self.invariant.1 c.self.invariant.3 c.self.invariant.5 c.args.pass (at.0, at.1, at.2.0.phase) step,
-      stopped-on c.self.invariant.5 c.self.invariant.6 done.keeps.telling.recorded_before done.stopped refl (λ late start before. before),
-      done.keeps.telling.state,
+    let at = rw (sym c.self.view_is) at c.requires.phase in (
+      kept-on (By_store_look (step g c)) c.self.invariant.0,
+      c.self.invariant.1
+          ∙ sym (looks-regions (phase-at true Held _ c.args.pass refl (at.0, at.1, at.2.0.phase)) (step g c).looks),
+      c.self.invariant.2,
     )
 
-pub returns-clause-looks : goal.returns-clause-looks
-returns-clause-looks g c = rw (sym c.self.view_is) (c.look_at_store.ensures.looks c.self.inside.state.fresh.bits c.self.inside.history.log.entries)
+pub returns : goal.returns
+returns g c = rw (sym c.self.view_is) (record { looks = step g c })

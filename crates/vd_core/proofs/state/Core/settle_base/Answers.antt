@@ -1,37 +1,68 @@
 use Rattle.std.proofs.Common.{sym, ap, ◌∙◌}
-use Rattle.vd_passes.proofs.TracingSteps.{base_look_settled-followed}
+use Rattle.vd_passes.proofs.Holding.{base_look_settled-regions}
 use Rattle.vd_machine.specs.declared.outcome.Outcome.{Outcome}
-use Rattle.vd_core.specs.Outcomes.{regions_after_end}
-use Rattle.vd_core.proofs.Keeping.Accounting.{settle_base_look-accounted}
-use Rattle.vd_core.proofs.Keeping.Devices.{region-within}
-use Rattle.vd_core.proofs.Keeping.Seeing.{waiting-for-base-look, settle_base_look-kept, settle_base_look-told}
-use Rattle.vd_core.proofs.Keeping.Recording.{settle_base_look-recorded}
-use Rattle.vd_core.proofs.Keeping.Telling.{logged-here}
-use Rattle.vd_core.proofs.Securing.Looking.{settle_base_look-safely}
-use Rattle.vd_core.proofs.Securing.Stopping.{base_look-still, stopped-same, stopped-here}
+use Rattle.vd_machine.specs.Steps.{By_settle_base_look}
+use Rattle.vd_machine.specs.ReadSteps.{SettleBaseLookStep}
+use Rattle.vd_core.specs.Outcomes.{step_of, regions_after_end}
+use Rattle.vd_legal.proofs.Devices.{region-within}
+use Rattle.vd_legal.proofs.Seeing.{waiting-for-base-look}
+use Rattle.vd_core.proofs.Releasing.{counted, ended-held}
+use Rattle.vd_machine.specs.Views.{View}
+use Rattle.vd_core.specs.declared.state.Core.TheView.{view}
+use Rattle.vd_core.proofs.Kept.{kept-on}
+use Rattle.vd_core.proofs.state.Core.settle_base.Given.{Over}
 use Rattle.vd_core.proofs.state.Core.settle_base.Goals as goal
+use Rattle.vd_core.proofs.state.Core.settle_base.Goals.{After-release}
+
+abbrev was : (g : Over) (c : After-release g) → View g.row.S.Denot g.row.B.Denot
+was g c = view g.row.S.Denot g.row.B.Denot g.S.Store g.B.Base c.self.inside
+
+-- what it makes of the core, but for the number of steps
+abbrev now : (g : Over) (c : After-release g) → View g.row.S.Denot g.row.B.Denot
+now g c = record (was g c) {
+  base = c.settle_base_look-outcome.new.base;
+  passes = c.settle_base_look-outcome.new.passes.items;
+  history = c.settle_base_look-outcome.new.history;
+}
 
 pub settle_base_look-outcome-requires-clause-waiting : goal.settle_base_look-outcome-requires-clause-waiting
 settle_base_look-outcome-requires-clause-waiting g c =
     let at = rw (sym c.self.view_is) at c.requires.phase in
-    waiting-for-base-look c.self.invariant.0 c.args.pass c.args.out.now at
+    waiting-for-base-look c.self.invariant.0.sound c.args.pass c.args.out.now at
 
 pub release-requires : goal.release-requires
 release-requires g c =
     let at = rw (sym c.self.view_is) at c.requires.phase in
-    region-within c.self.inside.regions c.self.inside.passes.items c.args.pass at.0 c.self.invariant.0.held at.1
+    region-within c.self.inside.regions c.self.inside.passes.items c.args.pass at.0 c.self.invariant.1 at.1
+
+step : (g : Over) (c : After-release g) → SettleBaseLookStep g.B.Base g.S.Store c.settle_base_look-outcome.ensures.settled.0 c.args.pass c.args.out.now
+    c.settle_base_look-outcome.new.out (was g c)
+    (record (now g c) { steps = c.one_more-self-inside.result })
+step g c = let done = c.settle_base_look-outcome.ensures in record {
+  looking = rw (sym c.self.view_is) at c.requires.phase;
+  settles = done.settled.2 c.self.inside.state.fresh.bits;
+  extends = done.settled.3;
+  running = done.running;
+  keeps = done.keeps;
+  others = counted (now g c) c.one_more-self-inside.ensures;
+}
 
 pub invariant_of-self : goal.invariant_of-self
 invariant_of-self g c =
-    let at = rw (sym c.self.view_is) at c.requires.phase in let done = c.settle_base_look-outcome.ensures in let step = done.settled.2 c.self.inside.state.fresh.bits in
-    let after = c.release.ensures.regions ∙ ap (λ (o : Outcome). regions_after_end o c.args.pass c.self.inside.regions) done.settled.1 in (
-      settle_base_look-kept c.self.invariant.0 c.args.pass (at.0, at.1, at.2.0) step done.settled.3 after,
-      settle_base_look-told c.self.invariant.0 c.args.pass (at.0, at.1, at.2.0) step done.settled.3.2.opened c.self.invariant.1,
-      settle_base_look-accounted c.self.invariant.0.coherent c.self.invariant.2 c.args.pass step,
-      λ told. let was = c.self.invariant.3 told in
-          logged-here was done.settled.3.2.opened (base_look_settled-followed c.self.invariant.0.coherent (g.S.Store.events c.self.inside.store) was.followed (at.0, at.1, at.2.0) step done.settled.3.2.numbers),
-      settle_base_look-recorded c.self.invariant.4 c.args.pass (at.0, at.1, at.2.0) step,
-      settle_base_look-safely c.self.invariant.0 c.self.invariant.4 c.self.invariant.1 c.self.invariant.3 c.self.invariant.5 c.args.pass (at.0, at.1, at.2.0) step done.settled.3.2 done.running,
-      stopped-here (stopped-same c.self.invariant.6 done.settled.3.2.opened (λ late start. base_look-still step done.settled.3.2 c.self.invariant.0.roomy.later late)) done.keeps,
-      c.self.invariant.7,
+    let settled = c.settle_base_look-outcome.ensures.settled in let after = c.release.ensures.regions
+    ∙ ap (λ (o : Outcome). regions_after_end o c.args.pass c.self.inside.regions) settled.1 in (
+      kept-on (By_settle_base_look settled.0 c.args.out.now c.settle_base_look-outcome.new.out (step g c)) c.self.invariant.0,
+      ended-held settled.0 c.args.pass c.self.inside.passes.items c.settle_base_look-outcome.new.passes.items c.self.invariant.1 after
+          (base_look_settled-regions (step g c).settles),
+      c.self.invariant.2,
     )
+
+pub returns : goal.returns
+returns g c = let settled = c.settle_base_look-outcome.ensures.settled in rw (sym c.self.view_is) (record {
+  settles = (
+    settled.0,
+    c.release.ensures.step
+        ∙ ap step_of settled.1,
+    step g c,
+  );
+})

@@ -1,15 +1,9 @@
-use Rattle.std.proofs.Common.{◌∙◌, sym, ap, refl, inl, inr, arith}
-use Rattle.vd_law.specs.Histories.{HistoryState}
-use Rattle.vd_law.specs.declared.entry.Room.{Room}
+-- Each arm makes the step that the pass's phase calls for; all that it answers for follows from that.
+use Rattle.std.proofs.Common.{◌∙◌, sym, ap, refl, inl, inr}
+use Rattle.vd_passes.specs.declared.pass.Phase.TheVariants.{Asked, Held, Looking, Ready}
 use Rattle.vd_passes.specs.Passes.{writes_in}
-use Rattle.vd_core.proofs.Views.{same-history, same-left}
-use Rattle.vd_passes.specs.Requests.{RequestState}
-use Rattle.vd_core.specs.View.{View}
-use Rattle.vd_core.proofs.Leaving.{kept-out}
-use Rattle.vd_core.proofs.Opened.{store-untouched}
-use Rattle.vd_drive.proofs.Untouched.{base-untouched}
-use Rattle.vd_core.proofs.Moving.{still-drives, drives-as, enters-drives, replies-drives}
-use Rattle.vd_drive.proofs.ReadSteps.{look-drives, settle-drives}
+use Rattle.vd_core.specs.declared.outcome.Step.TheVariants.{Again, Busy, Ended}
+use Rattle.vd_drive.proofs.Answering.{reader-answers}
 use Rattle.vd_drive.proofs.read.Reader.next.Goals as goal
 
 pub unreachable-requires : goal.unreachable-requires
@@ -23,52 +17,32 @@ unreachable-requires g c =
       | inr (inr (inr (inr flushing))) ↦ (let flushes = stands.flush (sym is ∙ flushing) in let not = at.2.2 in cc)
     ]
 
-pub returns-in-Ok-clause-drives : goal.returns-in-Ok-clause-drives
-returns-in-Ok-clause-drives g c =
-    let at = c.requires.busy in let phase = sym (c.phase.ensures.phase at.0 at.1) ∙ c.in-Asked.is in let left = same-left c.enter.ensures.others in
-    drives-as refl refl left (enters-drives c.args.core.now.spare at.0 at.1 phase c.in-Ok.ensures.enters.enters)
+pub returns-in-Ok : goal.returns-in-Ok
+returns-in-Ok g c =
+    let given = c.phase.ensures in
+    assumption (reader-answers g.S.Store g.B.Base c.args.pass c.args.core.now c.enter.new.self given.told c.args.out.now c.args.out.now given.phase given.stands
+    c.requires.busy Asked c.in-Asked.is Again (inl (refl, c.in-Ok.ensures.enters), refl))
 
-pub returns-in-Err-clause-drives : goal.returns-in-Err-clause-drives
-returns-in-Err-clause-drives g c =
-    let at = c.requires.busy in let out = c.in-Err.ensures.busy in let same = same-history c.enter.ensures.others in let left = same-left c.enter.ensures.others in
-    drives-as refl (ap (λ (h : HistoryState). h.log.entries) same) left (still-drives c.in-Err.busy.by c.args.core.now.shape.block c.args.core.now.history.log.entries c.args.core.now.spare at.0 at.1 (ap (λ (r : RequestState). r.passes) out.same))
+pub returns-in-Err : goal.returns-in-Err
+returns-in-Err g c =
+    let given = c.phase.ensures in
+    assumption (reader-answers g.S.Store g.B.Base c.args.pass c.args.core.now c.enter.new.self given.told c.args.out.now c.args.out.now given.phase given.stands
+    c.requires.busy Asked c.in-Asked.is (Busy c.in-Err.busy.by) (inr (c.in-Err.busy.by, refl, c.in-Err.ensures.busy), refl))
 
-pub returns-in-Err-clause-busy : goal.returns-in-Err-clause-busy
-returns-in-Err-clause-busy g c = kept-out c.in-Err.ensures.busy
+pub returns-in-Held : goal.returns-in-Held
+returns-in-Held g c =
+    let given = c.phase.ensures in
+    assumption (reader-answers g.S.Store g.B.Base c.args.pass c.args.core.now c.look.new.self given.told c.args.out.now c.look.new.out given.phase given.stands
+    c.requires.busy Held c.in-Held.is Again (refl, c.look.ensures.looks))
 
-pub returns-in-Held-clause-drives : goal.returns-in-Held-clause-drives
-returns-in-Held-clause-drives g c =
-    let at = c.requires.busy in let phase = sym (c.phase.ensures.phase at.0 at.1) ∙ c.in-Held.is in let stands = c.phase.ensures.stands at.0 at.1 in let left = same-left c.look.ensures.others in
-    drives-as refl refl left (look-drives g.S.Store g.B.Base c.args.core.now c.look.new.self c.args.core.now.spare at.0 at.1 stands phase at.2.1 c.look.ensures.looks)
+pub returns-in-Looking : goal.returns-in-Looking
+returns-in-Looking g c =
+    let given = c.phase.ensures in
+    assumption (reader-answers g.S.Store g.B.Base c.args.pass c.args.core.now c.settle_look.new.self given.told c.args.out.now c.settle_look.new.out
+    given.phase given.stands c.requires.busy Looking c.in-Looking.is c.settle_look.result c.settle_look.ensures.settles)
 
-pub returns-in-Looking-clause-drives : goal.returns-in-Looking-clause-drives
-returns-in-Looking-clause-drives g c =
-    let at = c.requires.busy in let phase = sym (c.phase.ensures.phase at.0 at.1) ∙ c.in-Looking.is in let stands = c.phase.ensures.stands at.0 at.1 in
-    let s = c.settle_look.ensures.settled in let left = same-left c.settle_look.ensures.others in
-    drives-as s.1 refl left (settle-drives g.S.Store g.B.Base c.args.core.now c.settle_look.new.self c.args.core.now.spare at.0 at.1 stands s.0 phase s.2)
-
-pub returns-in-Ready-clause-drives : goal.returns-in-Ready-clause-drives
-returns-in-Ready-clause-drives g c =
-    let at = c.requires.busy in let phase = sym (c.phase.ensures.phase at.0 at.1) ∙ c.in-Ready.is in let freed = c.reply.ensures.left in
-    let more = ap (λ (r : Room). r.events) freed.2 in let more_sectors = ap (λ (r : Room). r.sectors) freed.2 in
-    replies-drives c.args.core.now.spare c.args.core.now.shape.block at.0 at.1 phase c.reply.ensures.replies c.reply.new.self.spare (omega (arith, more)) (omega (arith, more_sectors))
-
--- What a step leaves of devices that it doesn't touch.
-
-pub returns-in-Ok-clause-keeps : goal.returns-in-Ok-clause-keeps
-returns-in-Ok-clause-keeps g c = store-untouched g.S.Store c.args.core.now.store c.enter.new.self.store (ap (λ (v : View _ _). v.store) c.enter.ensures.others) c.phase.ensures.told
-
-pub returns-in-Ok-clause-base_keeps : goal.returns-in-Ok-clause-base_keeps
-returns-in-Ok-clause-base_keeps g c = base-untouched g.B.Base c.args.core.now.base c.enter.new.self.base (ap (λ (v : View _ _). v.base) c.enter.ensures.others)
-
-pub returns-in-Err-clause-keeps : goal.returns-in-Err-clause-keeps
-returns-in-Err-clause-keeps g c = store-untouched g.S.Store c.args.core.now.store c.enter.new.self.store (ap (λ (v : View _ _). v.store) c.enter.ensures.others) c.phase.ensures.told
-
-pub returns-in-Err-clause-base_keeps : goal.returns-in-Err-clause-base_keeps
-returns-in-Err-clause-base_keeps g c = base-untouched g.B.Base c.args.core.now.base c.enter.new.self.base (ap (λ (v : View _ _). v.base) c.enter.ensures.others)
-
-pub returns-in-Ready-clause-keeps : goal.returns-in-Ready-clause-keeps
-returns-in-Ready-clause-keeps g c = store-untouched g.S.Store c.args.core.now.store c.reply.new.self.store (ap (λ (v : View _ _). v.store) c.reply.ensures.others) c.phase.ensures.told
-
-pub returns-in-Ready-clause-base_keeps : goal.returns-in-Ready-clause-base_keeps
-returns-in-Ready-clause-base_keeps g c = base-untouched g.B.Base c.args.core.now.base c.reply.new.self.base (ap (λ (v : View _ _). v.base) c.reply.ensures.others)
+pub returns-in-Ready : goal.returns-in-Ready
+returns-in-Ready g c =
+    let given = c.phase.ensures in
+    assumption (reader-answers g.S.Store g.B.Base c.args.pass c.args.core.now c.reply.new.self given.told c.args.out.now c.args.out.now given.phase given.stands
+    c.requires.busy Ready c.in-Ready.is (Ended c.reply.result) ((c.reply.result, refl, c.reply.ensures.replies), refl))

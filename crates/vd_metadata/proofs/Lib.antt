@@ -1,0 +1,5 @@
+pub mod FlushRecording
+pub mod FlushingReady
+pub mod Laws
+pub mod Marks
+pub mod Recording
